@@ -1,0 +1,31 @@
+-- The part of twelve codes lies within the array. Assumes nothing.
+use native.Mathlib.Nat.{add-sub-cancel-left}
+use borrow.Author.Needs.{needs}
+use Rattle.tables.proofs.row_of_codes.Statement.{statement}
+use Rattle.tables.proofs.row_of_codes.Tie as tie
+
+mul-from : tie.Need-mul-from
+mul-from c = search needs
+
+add-result : tie.Need-add-result
+add-result c = search needs
+
+mul-result : tie.Need-mul-result
+mul-result c = search needs
+
+sub-result : tie.Need-sub-result
+sub-result c = search needs
+
+part-result-start : tie.Need-part-result-start
+part-result-start c = search needs
+
+part-result-end : tie.Need-part-result-end
+part-result-end c = search needs
+
+returns : tie.Need-returns
+returns c = rw add-sub-cancel-left
+
+pub row-of-codes-spec : {M : Type 1} → statement M
+row-of-codes-spec =
+    tie.close
+    (tie.spec mul-from add-result mul-result sub-result part-result-start part-result-end returns)
