@@ -1,0 +1,13 @@
+pub mod Steps
+pub mod Samples
+pub mod Sides
+pub mod Rotations
+pub mod Formulas
+pub mod Refusals
+pub mod Points
+pub mod Mesh
+pub mod Judging
+pub mod Extraction
+pub mod Record
+pub mod Viewer
+pub mod Figures

@@ -1,0 +1,135 @@
+-- Document 01, 'Block record': its bytes, what reading them answers, and what writing them leaves. Definitions only.
+use Prim.Native.Nat.{ℕ, _+_, _-_, _*_, _/_, _%_}
+use mathlib.Core.Bool.{_&&_}
+use mathlib.Core.List.{List, [], _∷_, _++_}
+use lib.Dec.{eqb, leb}
+use lib.Ieee as Ieee
+use lib.Ieee.{Float, binary32}
+use lib.ListN.{length, getD}
+use Rattle.model.specs.declared.Header.{Header}
+use Rattle.model.specs.declared.Refusal.the-variants.{RecordLength, Version, SampleCount}
+use Rattle.model.specs.declared.Verdict.{Verdict}
+use Rattle.model.specs.declared.Verdict.the-variants as Verdict
+use Rattle.model.specs.declared.RecordRead.{RecordRead}
+use Rattle.model.specs.declared.RecordRead.the-variants as RecordRead
+use Rattle.model.specs.declared.RecordWritten.{RecordWritten}
+use Rattle.model.specs.declared.RecordWritten.the-variants as RecordWritten
+use Rattle.model.specs.Steps.{listed, each, laid}
+use Rattle.model.specs.Samples.{sampleLength}
+use Rattle.model.specs.Sides.{neighboursLength}
+use Rattle.model.specs.Formulas.{vector}
+use Rattle.model.specs.Refusals.{unless, orElse}
+use Rattle.model.specs.Judging.{judgeSubdivisions, judgeMask, judgeMeasures, judgeSamples, judgeBuffer}
+use Rattle.model.specs.Points.{star}
+use Rattle.model.specs.Extraction.{judgeStar}
+
+-- the bytes before the samples
+abbrev pub headerLength : ℕ
+headerLength = 27
+
+-- ---- big-endian words
+
+unfoldable pub wordAt : List ℕ → ℕ → ℕ
+wordAt bytes at =
+    16777216 * getD bytes at 0 + 65536 * getD bytes (at + 1) 0 + 256 * getD bytes (at + 2) 0 + getD bytes (at + 3) 0
+
+unfoldable pub wordBytes : ℕ → List ℕ
+wordBytes w = w / 16777216 % 256 ∷ w / 65536 % 256 ∷ w / 256 % 256 ∷ w % 256 ∷ []
+
+abbrev pub floatAt : List ℕ → ℕ → Float
+floatAt bytes at = Ieee.ofBits binary32 (wordAt bytes at)
+
+abbrev pub floatBytes : Float → List ℕ
+floatBytes x = wordBytes (Ieee.toBits binary32 x)
+
+-- ---- reading
+
+-- length 0, version 4, n 5, mask 6, threshold 7, base 11 15 19, size 23, samples from 27
+unfoldable pub headerOf : List ℕ → Header
+headerOf bytes =
+    record {
+      block = record {
+        base = vector (floatAt bytes 11) (floatAt bytes 15) (floatAt bytes 19);
+        size = floatAt bytes 23;
+        subdivisions = getD bytes 5 0;
+      };
+      mask = getD bytes 6 0;
+      threshold = floatAt bytes 7;
+    }
+
+-- centre first
+abbrev pub sampleCount : ℕ → ℕ → ℕ
+sampleCount n mask = sampleLength n + neighboursLength n mask
+
+abbrev pub countOf : List ℕ → ℕ
+countOf bytes = sampleCount (getD bytes 5 0) (getD bytes 6 0)
+
+unfoldable pub samplesOf : List ℕ → List Float
+samplesOf bytes = listed (λ k. floatAt bytes (headerLength + 4 * k)) (countOf bytes)
+
+-- 11
+abbrev pub judgeLength : List ℕ → Verdict
+judgeLength bytes = unless (leb headerLength (length bytes) && eqb (wordAt bytes 0) (length bytes - 4)) RecordLength
+
+-- 12
+abbrev pub judgeVersion : List ℕ → Verdict
+judgeVersion bytes = unless (eqb (getD bytes 4 0) 1) (Version (getD bytes 4 0))
+
+-- 13
+abbrev pub judgeCount : List ℕ → Verdict
+judgeCount bytes = unless (eqb (length bytes - headerLength) (4 * countOf bytes)) (SampleCount (countOf bytes))
+
+-- 11, 12, 1, 2, 3, 13, 7
+unfoldable pub judgeRecord : List ℕ → Verdict
+judgeRecord bytes =
+    orElse (judgeLength bytes)
+    (orElse (judgeVersion bytes)
+    (orElse (judgeSubdivisions (headerOf bytes .block .subdivisions))
+    (orElse (judgeMask (headerOf bytes .mask))
+    (orElse (judgeMeasures (headerOf bytes .block) (headerOf bytes .threshold))
+    (orElse (judgeCount bytes)
+    (judgeSamples (samplesOf bytes)))))))
+
+pub record ReadOutcome : Type 0 where
+  pub answer : RecordRead
+  pub samples : List Float
+
+abbrev pub readAnswer : List ℕ → List Float → Verdict → ReadOutcome
+readAnswer bytes samples Verdict.Passed =
+    record { answer = RecordRead.Block (headerOf bytes); samples = laid (samplesOf bytes) samples }
+readAnswer bytes samples (Verdict.Refused r) = record { answer = RecordRead.Refused r; samples = samples }
+
+-- and 14
+unfoldable pub readRecord : List ℕ → List Float → ReadOutcome
+readRecord bytes samples =
+    readAnswer bytes samples (orElse (judgeRecord bytes) (judgeBuffer (countOf bytes) (length samples)))
+
+-- ---- writing
+
+unfoldable pub recordOf : Header → List Float → List ℕ
+recordOf h samples =
+    wordBytes (headerLength - 4 + 4 * length samples)
+    ++ (1 ∷ h .block .subdivisions ∷ h .mask ∷ [])
+    ++ floatBytes (h .threshold)
+    ++ floatBytes (h .block .base .x) ++ floatBytes (h .block .base .y) ++ floatBytes (h .block .base .z)
+    ++ floatBytes (h .block .size)
+    ++ each floatBytes samples
+
+pub record WriteOutcome : Type 0 where
+  pub answer : RecordWritten
+  pub bytes : List ℕ
+
+abbrev pub writeAnswer : Header → List Float → List ℕ → Verdict → WriteOutcome
+writeAnswer h samples bytes Verdict.Passed =
+    record {
+      answer = RecordWritten.Bytes (headerLength + 4 * length samples);
+      bytes = laid (recordOf h samples) bytes;
+    }
+writeAnswer h samples bytes (Verdict.Refused r) = record { answer = RecordWritten.Refused r; bytes = bytes }
+
+-- 1 to 7, then 14
+unfoldable pub writeRecord : Header → List Float → List Float → List ℕ → WriteOutcome
+writeRecord h centre neighbours bytes =
+    writeAnswer h (centre ++ neighbours) bytes
+    (orElse (judgeStar (star (h .block) (h .mask) (h .threshold) centre neighbours))
+    (judgeBuffer (headerLength + 4 * length (centre ++ neighbours)) (length bytes)))

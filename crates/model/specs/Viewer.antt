@@ -1,0 +1,47 @@
+-- Document 01, 'Block record': the three calls that serve the viewer, from record bytes to a packed number. Definitions only.
+use Prim.Native.Nat.{ℕ, _+_, _*_, _^_}
+use mathlib.Core.Bool.{cond, _||_}
+use mathlib.Core.List.{List}
+use lib.Dec.{eqb}
+use lib.IntN.{ℤ}
+use lib.Ieee as Ieee
+use lib.Ieee.{Float, binary32, nan}
+use lib.ListN.{getD}
+use Rattle.model.specs.declared.Reading.{Reading}
+use Rattle.model.specs.declared.Reading.the-variants.{Value, NeverSampled}
+use Rattle.model.specs.declared.Verdict.{Verdict}
+use Rattle.model.specs.declared.Verdict.the-variants.{Passed, Refused}
+use Rattle.model.specs.declared.Refusal.the-variants.{PointNeverSampled}
+use Rattle.model.specs.Steps.{total}
+use Rattle.model.specs.Samples.{readingAt, oneUp}
+use Rattle.model.specs.Formulas.{insideBit}
+use Rattle.model.specs.Refusals.{numbersOf}
+use Rattle.model.specs.Record.{headerOf, samplesOf, judgeRecord}
+
+-- the answer, or a base plus the refusal's number
+abbrev pub packed : ℕ → Verdict → ℕ → ℕ
+packed base Passed answer = answer
+packed base (Refused r) answer = base + numbersOf r .number
+
+unfoldable pub subdivisionsAnswer : List ℕ → ℕ
+subdivisionsAnswer bytes = packed 100 (judgeRecord bytes) (headerOf bytes .block .subdivisions)
+
+-- all (n+1)^3 in-block centre samples lie on one side of the threshold: none of them is inside, or each is
+abbrev pub blankOf : ℕ → Float → List Float → ℕ
+blankOf points threshold samples =
+    let insides = total (λ k. insideBit threshold (getD samples k nan)) points in
+    cond (eqb insides 0 || eqb insides points) 1 0
+
+unfoldable pub blankAnswer : List ℕ → ℕ
+blankAnswer bytes =
+    let m = headerOf bytes .block .subdivisions + 1 in
+    packed 100 (judgeRecord bytes) (blankOf (m * m * m) (headerOf bytes .threshold) (samplesOf bytes))
+
+abbrev pub sampleBits : Reading → ℕ
+sampleBits (Value v) = Ieee.toBits binary32 v
+sampleBits NeverSampled = 2 ^ 32 + numbersOf PointNeverSampled .number
+
+unfoldable pub sampleAnswer : List ℕ → ℤ → ℤ → ℤ → ℕ
+sampleAnswer bytes x y z =
+    let n = headerOf bytes .block .subdivisions in
+    packed (2 ^ 32) (judgeRecord bytes) (sampleBits (readingAt n (samplesOf bytes) (oneUp n x) (oneUp n y) (oneUp n z)))

@@ -1,0 +1,136 @@
+// What a reader must believe: the plain types here, and in specs/ the definition of everything that the other crates
+// are proved against, in document 01's words.
+
+// Three whole numbers, one for each axis: a grid point, a cell, an origin.
+pub struct Xyz {
+    pub x: usize,
+    pub y: usize,
+    pub z: usize,
+}
+
+// A position or a gradient.
+pub struct Vector {
+    pub x: f32,
+    pub y: f32,
+    pub z: f32,
+}
+
+pub struct Block {
+    pub base: Vector,
+    pub size: f32,
+    pub subdivisions: usize,
+}
+
+pub struct GridPoint {
+    pub position: Vector,
+    pub gradient: Vector,
+    pub sample: f32,
+}
+
+pub struct Vertex {
+    pub position: Vector,
+    pub gradient: Vector,
+}
+
+// Three vertex indices, in the order in which they are sent out.
+pub struct Triangle {
+    pub a: u32,
+    pub b: u32,
+    pub c: u32,
+}
+
+// A cell's vertex indices, the first count of the twelve places.
+pub struct CellVertices {
+    pub index: [u32; 12],
+    pub count: usize,
+}
+
+// A unit vector: what it adds on each axis, and what it takes away.
+pub struct Direction {
+    pub up: Xyz,
+    pub down: Xyz,
+}
+
+pub struct Rotation {
+    pub origin: Xyz,
+    pub u: Direction,
+    pub v: Direction,
+    pub w: Direction,
+}
+
+// A sample's value, or that the point was never sampled.
+pub enum Reading {
+    Value(f32),
+    NeverSampled,
+}
+
+pub struct FacePoint {
+    pub side: usize,
+    pub u: usize,
+    pub v: usize,
+}
+
+pub struct Counts {
+    pub vertices: usize,
+    pub triangles: usize,
+}
+
+// The refusals 1 to 15, in the order of their numbers.
+pub enum Refusal {
+    Subdivisions(usize),
+    Mask(usize),
+    Measure(usize),
+    CentreLength(usize),
+    MissingNeighbour(usize),
+    NeighboursTooLong(usize),
+    BadSample(usize),
+    FaceMismatch(FacePoint),
+    IndexStoreTooShort(usize),
+    NoRoom(Counts),
+    RecordLength,
+    Version(usize),
+    SampleCount(usize),
+    BufferTooShort(usize),
+    PointNeverSampled,
+}
+
+// A refusal as document 01 gives it out.
+pub struct Numbers {
+    pub number: usize,
+    pub first: usize,
+    pub second: usize,
+    pub third: usize,
+}
+
+pub enum Verdict {
+    Passed,
+    Refused(Refusal),
+}
+
+pub enum PointRead {
+    Value(f32),
+    Refused(Refusal),
+}
+
+pub enum Extraction {
+    Mesh(Counts),
+    Refused(Refusal),
+}
+
+// What a block record tells beside its samples.
+pub struct Header {
+    pub block: Block,
+    pub mask: u8,
+    pub threshold: f32,
+}
+
+pub enum RecordRead {
+    Block(Header),
+    Refused(Refusal),
+}
+
+// The length of the record that was written.
+pub enum RecordWritten {
+    Bytes(usize),
+    Refused(Refusal),
+}
