@@ -1,0 +1,6 @@
+pub mod Shape
+pub mod Places
+pub mod SideLaws
+pub mod RotationLaws
+pub mod StorePlaces
+pub mod Reads

@@ -1,0 +1,22 @@
+// The places of the index store: where a cell's stored vertex indices stand (document 01, 'Regular cells' and 'Transition cells').
+ghost use mathlib.Core.Path.{_≡_};
+ghost use Prim.Native.Nat.{_<_};
+ghost use Rattle.model.specs.Mesh.{regularStore, storeLength, regularPlace, transitionPlace};
+ghost use Rattle.grid.specs.StorePlaces.{RegularCell, TransitionCell};
+
+pub fn regular_place(n: usize, x: usize, y: usize, z: usize, r: usize) -> usize
+    requires { ⌜ RegularCell n x y z r ⌝ }
+    ensures { λ p. ⌜ (p ≡ regularPlace n x y z r) × (p < regularStore n) ⌝ }
+{
+    let square = n * n;
+    x + n * y + square * z + square * n * r
+}
+
+// After the regular ones.
+pub fn transition_place(n: usize, side: usize, u: usize, v: usize, r: usize) -> usize
+    requires { ⌜ TransitionCell n side u v r ⌝ }
+    ensures { λ p. ⌜ (p ≡ transitionPlace n side u v r) × (p < storeLength n) ⌝ }
+{
+    let square = n * n;
+    4 * (square * n) + (side + 6 * u + 6 * n * v + 6 * square * r)
+}
