@@ -1,0 +1,3 @@
+pub mod Literals
+pub mod Shrinking
+pub mod Steps

@@ -1,0 +1,160 @@
+-- Document 01, 'The block and its samples': one step along an axis from an in-block point leads to the place one stride from its own, or to
+-- one of the axis's extension faces.
+use Prim.Native.Nat.{ℕ, _+_, _-_, _*_, _≤_, _<_}
+use mathlib.Core.Path.{_≡_, refl, ap, _∙_}
+use mathlib.Core.Bool.{Bool, true, false, cond}
+use native.Mathlib.Nat.{mul-add}
+use native.Mathlib.Omega.{arith}
+use borrow.Author.Tests.{ltb-true, ltb-false, ne-eqb}
+use lib.Dec.{ltb}
+use Rattle.model.specs.declared.Xyz.{Xyz}
+use Rattle.model.specs.Samples.{sampleLength, onFace, placeOf, outside}
+use Rattle.grid.specs.Places.{Within, in-block, place-in, place-in-block, steps-sampled, outside-by, here-not-outside}
+use Rattle.grid.specs.Places.{acrossOf, place-across-x, place-across-y, place-across-z}
+use Rattle.points.specs.Steps.{Reach, upFrom, downFrom}
+
+-- ---- a line of places along an axis
+
+by-less : (a b x p q : ℕ) → (a < b → x ≡ p) → (b ≤ a → x ≡ q) → x ≡ cond (ltb a b) p q
+by-less a b x p q f g = go (ltb a b) (λ e. f (ltb-true a b e)) (λ e. g (ltb-false a b e))
+  where
+    go : (t : Bool) → (t ≡ true → x ≡ p) → (t ≡ false → x ≡ q) → x ≡ cond t p q
+    go true f g = f refl
+    go false f g = g refl
+
+-- f takes a coordinate kept one up; the point i of the line is at this place, and the ends of the line are low and high
+pub record Line (n : ℕ) (f : ℕ → ℕ) (i at stride low high : ℕ) : Type 0 where
+  pub strides : (k : ℕ) → k ≤ n → f (k + 1) + stride * i ≡ at + stride * k
+  pub starts : f 0 ≡ low
+  pub ends : f (n + 2) ≡ high
+
+module _ {n : ℕ} {f : ℕ → ℕ} {i at stride low high : ℕ} (line : Line n f i at stride low high) (h : i ≤ n) where
+  before : 0 < i → at ≡ f i + stride
+  before l =
+      let e : i - 1 + 1 ≡ i = omega arith in
+      omega (arith, line .strides (i - 1) (omega arith), ap f e, mul-add stride (i - 1) 1, ap (λ (k : ℕ). stride * k) e)
+
+  pub up-is : f (i + 2) ≡ upFrom n i at stride high
+  up-is =
+      by-less i n (f (i + 2)) (at + stride) high
+      (λ l.
+      let e : i + 1 + 1 ≡ i + 2 = omega arith in
+      omega (arith, line .strides (i + 1) (omega arith), ap f e, mul-add stride i 1))
+      (λ l. let e : i + 2 ≡ n + 2 = omega arith in ap f e ∙ line .ends)
+
+  pub down-is : f i ≡ downFrom i at stride low
+  down-is =
+      by-less 0 i (f i) (at - stride) low (λ l. omega (arith, before l)) (λ l. let e : i ≡ 0 = omega arith in ap f e ∙ line .starts)
+
+  pub reach : f (i + 2) < sampleLength n → f i < sampleLength n → Reach (sampleLength n) n i at stride low high
+  reach up down =
+      record {
+        up-in = omega (arith, up-is, up);
+        enough = λ l. omega (arith, before l);
+        down-in = omega (arith, down-is, down);
+      }
+
+-- ---- the three lines through an in-block point
+
+module _ (n : ℕ) (p : Xyz) (h : Within n p) where
+  abbrev m : ℕ
+  m = n + 1
+
+  abbrev here : ℕ
+  here = m * m * p .x + (m * p .y + p .z)
+
+  abbrev low-x : ℕ
+  low-x = m * m * m + (m * p .y + p .z)
+
+  abbrev low-y : ℕ
+  low-y = m * m * m + m * m * 2 + (m * p .x + p .z)
+
+  abbrev low-z : ℕ
+  low-z = m * m * m + m * m * 4 + (m * p .x + p .y)
+
+  below : outside n 0 ≡ 1
+  below = outside-by n 0 (λ o. o ≡ 1) (λ e. refl) (λ i. absurd (omega arith)) (λ e. refl) (λ l. absurd (omega arith))
+
+  above : outside n (n + 2) ≡ 1
+  above = outside-by n (n + 2) (λ o. o ≡ 1) (λ e. refl) (λ i. absurd (omega arith)) (λ e. refl) (λ l. absurd (omega arith))
+
+  one-up : (i j : ℕ) → m * (i + 1 - 1) + (j + 1 - 1) ≡ m * i + j
+  one-up i j =
+      let e : i + 1 - 1 ≡ i = omega arith in
+      omega (arith, ap (λ (k : ℕ). m * k) e)
+
+  across-low : (low i j : ℕ) → acrossOf n low 0 (i + 1) (j + 1) ≡ onFace n low i j
+  across-low low i j = omega (arith, one-up i j)
+
+  across-high : (low i j : ℕ) → acrossOf n low (n + 2) (i + 1) (j + 1) ≡ onFace n (low + 1) i j
+  across-high low i j = rw (ne-eqb (n + 2) 0 (λ e. omega arith)) (omega (arith, one-up i j))
+
+  at-x : outside n (p .x + 1) ≡ 0
+  at-x = here-not-outside n (p .x) (h .x-in)
+
+  at-y : outside n (p .y + 1) ≡ 0
+  at-y = here-not-outside n (p .y) (h .y-in)
+
+  pub line-x : Line n (λ k. placeOf n k (p .y + 1) (p .z + 1)) (p .x) here (m * m) low-x (low-x + m * m)
+  line-x =
+      let y = p .y + 1 in
+      let z = p .z + 1 in
+      record {
+        strides = λ k l. omega (arith, place-in-block n k (p .y) (p .z) l (h .y-in) (h .z-in));
+        starts = place-across-x n 0 y z below ∙ omega (arith, across-low 0 (p .y) (p .z));
+        ends = place-across-x n (n + 2) y z above ∙ omega (arith, across-high 0 (p .y) (p .z));
+      }
+
+  pub line-y : Line n (λ k. placeOf n (p .x + 1) k (p .z + 1)) (p .y) here m low-y (low-y + m * m)
+  line-y =
+      let x = p .x + 1 in
+      let z = p .z + 1 in
+      record {
+        strides = λ k l. omega (arith, place-in-block n (p .x) k (p .z) (h .x-in) l (h .z-in));
+        starts = place-across-y n x 0 z at-x below ∙ omega (arith, across-low 2 (p .x) (p .z));
+        ends = place-across-y n x (n + 2) z at-x above ∙ omega (arith, across-high 2 (p .x) (p .z));
+      }
+
+  pub line-z : Line n (λ k. placeOf n (p .x + 1) (p .y + 1) k) (p .z) here 1 low-z (low-z + m * m)
+  line-z =
+      let x = p .x + 1 in
+      let y = p .y + 1 in
+      record {
+        strides = λ k l. omega (arith, place-in-block n (p .x) (p .y) k (h .x-in) (h .y-in) l);
+        starts = place-across-z n x y 0 at-x at-y below ∙ omega (arith, across-low 4 (p .x) (p .y));
+        ends = place-across-z n x y (n + 2) at-x at-y above ∙ omega (arith, across-high 4 (p .x) (p .y));
+      }
+
+  pub reach-x : Reach (sampleLength n) n (p .x) here (m * m) low-x (low-x + m * m)
+  reach-x =
+      let steps = steps-sampled n p h in
+      reach line-x (h .x-in) (place-in n (p .x + 2) (p .y + 1) (p .z + 1) (steps .x-up)) (place-in n (p .x) (p .y + 1) (p .z + 1) (steps .x-down))
+
+  pub reach-y : Reach (sampleLength n) n (p .y) here m low-y (low-y + m * m)
+  reach-y =
+      let steps = steps-sampled n p h in
+      reach line-y (h .y-in) (place-in n (p .x + 1) (p .y + 2) (p .z + 1) (steps .y-up)) (place-in n (p .x + 1) (p .y) (p .z + 1) (steps .y-down))
+
+  pub reach-z : Reach (sampleLength n) n (p .z) here 1 low-z (low-z + m * m)
+  reach-z =
+      let steps = steps-sampled n p h in
+      reach line-z (h .z-in) (place-in n (p .x + 1) (p .y + 1) (p .z + 2) (steps .z-up)) (place-in n (p .x + 1) (p .y + 1) (p .z) (steps .z-down))
+
+  -- nothing on the way to these places is large
+  pub record Sizes : Type 0 where
+    pub here-in : here < m * m * m
+    pub row-in : m * p .y + p .z < m * m * m
+    pub x-and-z : m * p .x + p .z < m * m * m
+    pub x-and-y : m * p .x + p .y < m * m * m
+
+  pub sizes : Sizes
+  sizes =
+      let x = p .x in
+      let y = p .y in
+      let z = p .z in
+      record {
+        here-in = omega (arith, in-block n x y z (h .x-in) (h .y-in) (h .z-in));
+        row-in = omega (arith, in-block n 0 y z (omega arith) (h .y-in) (h .z-in));
+        x-and-z = omega (arith, in-block n 0 x z (omega arith) (h .x-in) (h .z-in));
+        x-and-y = omega (arith, in-block n 0 x y (omega arith) (h .x-in) (h .y-in));
+      }

@@ -1,0 +1,25 @@
+-- `block::original_position` meets its contract, coordinate by coordinate.
+use borrow.Author.Needs.{needs}
+use Rattle.points.proofs.block.original_position.Statement.{statement}
+use Rattle.points.proofs.block.original_position.Tie as tie
+
+regular-coordinate-requires : tie.Need-regular-coordinate-requires
+regular-coordinate-requires c κs = search needs
+
+regular-coordinate-requires-2 : tie.Need-regular-coordinate-requires-2
+regular-coordinate-requires-2 c κs = search needs
+
+regular-coordinate-requires-3 : tie.Need-regular-coordinate-requires-3
+regular-coordinate-requires-3 c κs = search needs
+
+returns : tie.Need-returns
+returns c = cc
+
+pub original-position-spec : {M : Type 1} → statement M
+original-position-spec =
+    tie.close
+    (tie.spec
+    regular-coordinate-requires
+    regular-coordinate-requires-2
+    regular-coordinate-requires-3
+    returns)

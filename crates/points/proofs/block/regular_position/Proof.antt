@@ -1,0 +1,42 @@
+-- `block::regular_position` meets its contract: a held point stays, every other one moves on each axis that touches a face.
+use mathlib.Core.Path.{sym, _∙_}
+use Rattle.points.proofs.Shrinking.{stays, moves}
+use borrow.Author.Needs.{needs}
+use Rattle.points.proofs.block.regular_position.Statement.{statement}
+use Rattle.points.proofs.block.regular_position.Tie as tie
+
+original-position-requires : tie.Need-original-position-requires
+original-position-requires c κs = search needs
+
+held-requires : tie.Need-held-requires
+held-requires c κs = search needs
+
+returns : tie.Need-returns
+returns c = stays _ _ _ _ (c .before .before .original-position .ensures) (sym (c .before .held .ensures) ∙ c .if1 .taken)
+
+moved-requires : tie.Need-moved-requires
+moved-requires c κs = search needs
+
+moved-requires-2 : tie.Need-moved-requires-2
+moved-requires-2 c κs = search needs
+
+moved-requires-3 : tie.Need-moved-requires-3
+moved-requires-3 c κs = search needs
+
+returns-2 : tie.Need-returns-2
+returns-2 c =
+    let start = c .before .before .before in
+    rw (c .before .before .moved .ensures, c .before .moved2 .ensures, c .moved3 .ensures)
+    (moves _ _ _ _ (start .before .before .original-position .ensures) (sym (start .before .held .ensures) ∙ start .if1 .left))
+
+pub regular-position-spec : {M : Type 1} → statement M
+regular-position-spec =
+    tie.close
+    (tie.spec
+    original-position-requires
+    held-requires
+    returns
+    moved-requires
+    moved-requires-2
+    moved-requires-3
+    returns-2)
