@@ -1,0 +1,42 @@
+-- `judge::lengths::judge_too_long` meets its contract: the wanted length is a small number.
+use borrow.Author.Needs.{needs}
+use Prim.Native.Nat.{_*_, _≤_}
+use native.Mathlib.Omega.{arith}
+use lib.Count.{ones, ones-le}
+use Rattle.judge.proofs.Bounds.{neighbours-bound}
+use Rattle.judge.proofs.lengths.judge_too_long.Statement.{statement}
+use Rattle.judge.proofs.lengths.judge_too_long.Tie as tie
+
+count-requires : tie.Need-count-requires
+count-requires c κs = search needs
+
+mul-sample-length : tie.Need-mul-sample-length
+mul-sample-length c = search needs
+
+sample-length-requires : tie.Need-sample-length-requires
+sample-length-requires c κs = search needs
+
+mul-wanted : tie.Need-mul-wanted
+mul-wanted c =
+    let start = c .before .before in
+    let few : ones (start .args .mask) ≤ 8 = ones-le 8 (start .args .mask) (omega arith) in
+    let bound : c .before .count .result * c .sample-length .result ≤ 339768 =
+    rw (c .before .count .ensures, c .sample-length .ensures) (neighbours-bound (start .args .n) (start .pre) few) in
+    omega arith
+
+unless-requires : tie.Need-unless-requires
+unless-requires c κs = search needs
+
+returns : tie.Need-returns
+returns c = cc
+
+pub judge-too-long-spec : {M : Type 1} → statement M
+judge-too-long-spec =
+    tie.close
+    (tie.spec
+    count-requires
+    mul-sample-length
+    sample-length-requires
+    mul-wanted
+    unless-requires
+    returns)

@@ -1,0 +1,30 @@
+// Refusal 7: the first sample that is not finite or beyond the limit, neighbours counted on after the centre.
+ghost use mathlib.Core.Path.{_≡_};
+ghost use mathlib.Core.List.{_++_};
+ghost use Prim.Native.Nat.{_+_, _<_, _^_};
+ghost use lib.ListN.{length};
+ghost use Rattle.model.specs.Judging.{judgeSamples};
+ghost use Rattle.judge.specs.Counted.{judgeFrom};
+use crate::is_usable;
+use crate::or_else;
+use model::Refusal;
+use model::Verdict;
+
+// The first bad one of these samples, their places counted on from another.
+fn first_bad(samples: &[f32], from: usize) -> Verdict
+    requires { ⌜ from + length (now samples) < 2 ^ 64 ⌝ }
+    ensures { λ r. ⌜ r ≡ judgeFrom from (now (samples .entry)) ⌝ }
+{
+    for place in 0..samples.len() {
+        if !is_usable(samples[place]) {
+            return Verdict::Refused(Refusal::BadSample(from + place));
+        }
+    }
+    Verdict::Passed
+}
+
+pub fn judge_samples(centre: &[f32], neighbours: &[f32]) -> Verdict
+    ensures { λ r. ⌜ r ≡ judgeSamples (now (centre .entry) ++ now (neighbours .entry)) ⌝ }
+{
+    or_else(first_bad(centre, 0), first_bad(neighbours, centre.len()))
+}
