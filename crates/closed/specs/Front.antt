@@ -1,0 +1,58 @@
+-- The mesh of a block begins with that of its regular cells: the transition cells only add. So what is proved of the regular cells is said of the
+-- first vertices and triangles that extraction writes.
+use mathlib.Core.Path.{_≡_, refl, sym, ap, _∙_}
+use mathlib.Core.Bool.{Bool, true, false, cond}
+use mathlib.Core.List.{List, [], _++_, append-assoc, append-nil}
+use Prim.Native.Nat.{ℕ, zero, suc}
+use Rattle.model.specs.declared.Triangle.{Triangle}
+use Rattle.model.specs.Sides.{named}
+use Rattle.model.specs.Steps.{iterate}
+use Rattle.model.specs.Points.{Star, subdivisions}
+use Rattle.model.specs.Mesh.{Made, Cell, Mesh, cellStep, transitionCell, transitionRow, transitionSide, meshOf}
+use Rattle.closed.specs.NoHole.{subject}
+
+pub record Begins (first all : Mesh) : Type 0 where
+  pub made : List Made
+  pub triangles : List Triangle
+  pub made-are : all .made ≡ first .made ++ made
+  pub triangles-are : all .triangles ≡ first .triangles ++ triangles
+
+none-added : (m : Mesh) → Begins m m
+none-added m =
+    record { made = []; triangles = []; made-are = sym (append-nil _); triangles-are = sym (append-nil _) }
+
+joined : {A : Type 0} {b c : List A} (a p q : List A) → b ≡ a ++ p → c ≡ b ++ q → c ≡ a ++ (p ++ q)
+joined {A} a p q e f = f ∙ ap (λ (l : List A). l ++ q) e ∙ append-assoc a p q
+
+then-added : {a b c : Mesh} → Begins a b → Begins b c → Begins a c
+then-added {a} p q =
+    record {
+      made = p .made ++ q .made;
+      triangles = p .triangles ++ q .triangles;
+      made-are = joined (a .made) (p .made) (q .made) (p .made-are) (q .made-are);
+      triangles-are = joined (a .triangles) (p .triangles) (q .triangles) (p .triangles-are) (q .triangles-are);
+    }
+
+cell-added : (c : Cell) (m : Mesh) → Begins m (cellStep c m)
+unfolding cellStep
+cell-added c m = record { made = _; triangles = _; made-are = refl; triangles-are = refl }
+
+all-added : (f : ℕ → Mesh → Mesh) → ((k : ℕ) (m : Mesh) → Begins m (f k m)) → (n : ℕ) (m : Mesh) → Begins m (iterate f n m)
+all-added f step zero m = none-added m
+all-added f step (suc n) m = then-added (all-added f step n m) (step n (iterate f n m))
+
+row-added : (s : Star) (side u : ℕ) (m : Mesh) → Begins m (transitionRow s side u m)
+unfolding transitionRow
+row-added s side u m = all-added _ (λ v. cell-added (transitionCell s side u v)) (subdivisions s) m
+
+side-added : (s : Star) (side : ℕ) (m : Mesh) → Begins m (transitionSide s side m)
+unfolding transitionSide
+side-added s side m = go (named (s .mask) side)
+  where
+    go : (b : Bool) → Begins m (cond b (iterate (transitionRow s side) (subdivisions s) m) m)
+    go true = all-added (transitionRow s side) (row-added s side) (subdivisions s) m
+    go false = none-added m
+
+pub regular-first : (s : Star) → Begins (subject s) (meshOf s)
+unfolding subject meshOf
+regular-first s = all-added (transitionSide s) (side-added s) 6 _

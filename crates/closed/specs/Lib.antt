@@ -1,0 +1,13 @@
+pub mod Clauses
+pub mod Sums
+pub mod Places
+pub mod Cells
+pub mod Stored
+pub mod Whole
+pub mod Flux
+pub mod Counted
+pub mod Outer
+pub mod NoHole
+pub mod Front
+pub mod Wrong
+pub mod Refuted
