@@ -1,0 +1,87 @@
+#!/usr/bin/env python3
+"""Makes the example records of examples/, always the same bytes.
+
+    python3 tools/records.py
+
+case-a is document 01's case A.  face is a bumpy rock face in a block of 8
+subdivisions.  face-finer is the same face with finer neighbours on three sides,
+where a knob shows that the coarse samples miss; it has 7 subdivisions, the most
+that leaves a record with three neighbours below the listing program's 65,536
+bytes.
+"""
+
+from pathlib import Path
+
+from reference import ROTATIONS, Block, bits, block_length, record_of, sample_place, sides_named
+
+EXAMPLES = Path(__file__).resolve().parent.parent / "examples"
+
+BASE = (120.0, 40.0, 15.0)
+SIZE = 8.0
+
+# Bumps on the face: x and z of the middle, height, width, all in metres from the base.
+BUMPS = [(2.0, 2.5, 1.5, 1.5), (5.5, 5.0, -1.25, 2.0), (6.5, 1.0, 1.0, 1.0), (1.0, 6.5, 0.75, 2.5)]
+KNOB = (0.0, 4.0, 1.75, 0.25)
+
+
+def depth_in_rock(x, y, z):
+    """How far a point lies behind the face, seen along y; negative before it."""
+    face = 3.5 + z / 8.0
+    for middle_x, middle_z, height, width in BUMPS + [KNOB]:
+        away_x, away_z = (x - middle_x) / width, (z - middle_z) / width
+        away = away_x * away_x + away_z * away_z
+        face += height / (1.0 + away * away)
+    return face - y
+
+
+def grid_points(n):
+    """A block's grid points in the order of their places."""
+    span = range(-1, n + 2)
+    points = [(x, y, z) for x in span for y in span for z in span
+              if sample_place(n, (x, y, z)) is not None]
+    return sorted(points, key=lambda point: sample_place(n, point))
+
+
+def sampled(field, width, corner, step):
+    """A block's samples of a field, on a grid that has `width` steps across the centre.
+
+    The block's (0,0,0) is that grid's point `corner`; its own points lie `step` apart.
+    """
+    return [bits(field(*(SIZE * (start + step * k) / width for start, k in zip(corner, point))))
+            for point in grid_points(width // step)]
+
+
+def sampled_block(field, n, mask):
+    """The block of a field, with a neighbour of twice the subdivisions at each named side."""
+    width = 2 * n
+    neighbours = []
+    for side in sides_named(mask):
+        corner = tuple(-width * step for step in ROTATIONS[side].w)
+        neighbours += sampled(field, width, corner, 1)
+    return Block(n, mask, bits(0.0), tuple(map(bits, BASE)), bits(SIZE),
+                 sampled(field, width, (0, 0, 0), 2), neighbours)
+
+
+def case_a():
+    centre = [bits(0.0)] * block_length(1)
+    centre[sample_place(1, (0, 0, 0))] = bits(1.0)
+    return Block(1, 0, bits(0.5), (bits(0.0),) * 3, bits(1.0), centre, [])
+
+
+def examples():
+    """The records by file name."""
+    return {
+        "case-a.record": record_of(case_a()),
+        "face.record": record_of(sampled_block(depth_in_rock, 8, 0)),
+        "face-finer.record": record_of(sampled_block(depth_in_rock, 7, 0b010011)),
+    }
+
+
+def main():
+    EXAMPLES.mkdir(exist_ok=True)
+    for name, record in examples().items():
+        (EXAMPLES / name).write_bytes(record)
+
+
+if __name__ == "__main__":
+    main()

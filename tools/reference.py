@@ -1,0 +1,726 @@
+#!/usr/bin/env python3
+"""A second reading of document 01, in plain Python.
+
+Written from its text and the numbers in tools/tables alone, so that its
+answers can stand against the proved code and against the Rust mesher.  Nothing
+here is fast; everything is meant to be held beside the text.
+
+Every f32 is carried as its bit pattern (an int) where it is stored and as a
+Python float where it is worked with.  A float is a double: one operation in
+double, rounded once to f32, is the f32 operation, exactly, for + - * /.
+
+As a command, one record on standard input:
+
+    python3 tools/reference.py listing           what the listing program prints
+    python3 tools/reference.py mesh              the same with room for any mesh
+    python3 tools/reference.py store             the index store, a place a line
+    python3 tools/reference.py viewer [X Y Z]    subdivisions, blank, sample
+"""
+
+import math
+import struct
+import sys
+from pathlib import Path
+from typing import NamedTuple
+
+LARGEST_N = 16
+LARGEST_MASK = 63
+LIMIT = 1048576.0
+LEAST_SIZE = 1 / 1024
+HEADER = 27
+VERSION = 1
+
+LISTING_BYTES = 65536
+LISTING_STORE = 15552
+LISTING_SAMPLES = 16377
+LISTING_VERTICES = 2000
+LISTING_TRIANGLES = 4000
+
+
+# Answers
+
+class Refusal(NamedTuple):
+    """A refusal's number and its three numbers, 0 where unused."""
+    number: int
+    first: int = 0
+    second: int = 0
+    third: int = 0
+
+
+class Counts(NamedTuple):
+    """Extraction's answer when nothing is refused."""
+    vertices: int
+    triangles: int
+
+
+class Block(NamedTuple):
+    """What a record says.  All numbers but n and mask are f32 bit patterns."""
+    n: int
+    mask: int
+    threshold: int
+    base: tuple
+    size: int
+    centre: list
+    neighbours: list
+
+
+class Mesh(NamedTuple):
+    """Six f32 bit patterns a vertex, three indices a triangle, the index store."""
+    vertices: list
+    triangles: list
+    store: list
+
+
+# f32
+
+_F32 = struct.Struct("<f")
+_U32 = struct.Struct("<I")
+
+
+def f32(number):
+    """The f32 nearest to a double."""
+    return _F32.unpack(_F32.pack(number))[0]
+
+
+def value(bits):
+    return _F32.unpack(_U32.pack(bits))[0]
+
+
+def values(patterns):
+    return struct.unpack("<%df" % len(patterns), struct.pack("<%dI" % len(patterns), *patterns))
+
+
+def bits(number):
+    return _U32.unpack(_F32.pack(number))[0]
+
+
+def add(a, b):
+    return f32(a + b)
+
+
+def subtract(a, b):
+    return f32(a - b)
+
+
+def multiply(a, b):
+    return f32(a * b)
+
+
+def divide(a, b):
+    return f32(a / b)
+
+
+def within_limit(number):
+    return math.isfinite(number) and abs(number) <= LIMIT
+
+
+def inside(sample, threshold):
+    return sample >= threshold
+
+
+# The tables
+
+def _table_rows(name):
+    text = (Path(__file__).parent / "tables" / name).read_text()
+    return [[int(word, 0) for word in line.split()] for line in text.splitlines()]
+
+
+def _table_numbers(name):
+    return [number for row in _table_rows(name) for number in row]
+
+
+def _table_triangles(name):
+    """For each class its triangles, three corners each."""
+    classes = []
+    for counts, *corners in _table_rows(name):
+        assert len(corners) == 3 * (counts & 0x0F)
+        classes.append([tuple(corners[k:k + 3]) for k in range(0, len(corners), 3)])
+    return classes
+
+
+REGULAR_CLASS = _table_numbers("regular_class.txt")
+REGULAR_TRIANGLES = _table_triangles("regular_cell.txt")
+REGULAR_CODES = _table_rows("regular_vertex.txt")
+TRANSITION_CLASS = _table_numbers("transition_class.txt")
+TRANSITION_TRIANGLES = _table_triangles("transition_cell.txt")
+TRANSITION_CODES = _table_rows("transition_vertex.txt")
+
+
+# The block and its samples
+
+def block_length(n):
+    m = n + 1
+    return m * m * m + 6 * m * m
+
+
+def sides_named(mask):
+    return [side for side in range(6) if mask >> side & 1]
+
+
+def neighbours_length(n, mask):
+    return len(sides_named(mask)) * block_length(2 * n)
+
+
+def samples_length(n, mask):
+    return block_length(n) + neighbours_length(n, mask)
+
+
+def sample_place(n, point):
+    """A grid point's place in a block's samples, or None if it was never sampled."""
+    m = n + 1
+    x, y, z = point
+    outside = [axis for axis in range(3) if not 0 <= point[axis] <= n]
+    if not outside:
+        return m * m * x + m * y + z
+    if len(outside) > 1:
+        return None
+    axis = outside[0]
+    if point[axis] not in (-1, n + 1):
+        return None
+    face = 2 * axis + (1 if point[axis] == n + 1 else 0)
+    i, j = (point[other] for other in range(3) if other != axis)
+    return m * m * m + m * m * face + m * i + j
+
+
+def store_length(n):
+    return 4 * n ** 3 + 60 * n ** 2
+
+
+def regular_store_place(n, cell, index):
+    x, y, z = cell
+    return x + n * y + n ** 2 * z + n ** 3 * index
+
+
+def transition_store_place(n, side, u, v, index):
+    return 4 * n ** 3 + side + 6 * u + 6 * n * v + 6 * n ** 2 * index
+
+
+# Sides and rotations
+
+class Rotation(NamedTuple):
+    origin: tuple
+    u: tuple
+    v: tuple
+    w: tuple
+
+
+ROTATIONS = [
+    Rotation((0, 0, 1), (0, 0, -1), (0, 1, 0), (1, 0, 0)),
+    Rotation((1, 0, 0), (0, 0, 1), (0, 1, 0), (-1, 0, 0)),
+    Rotation((0, 0, 1), (1, 0, 0), (0, 0, -1), (0, 1, 0)),
+    Rotation((0, 1, 0), (1, 0, 0), (0, 0, 1), (0, -1, 0)),
+    Rotation((0, 0, 0), (1, 0, 0), (0, 1, 0), (0, 0, 1)),
+    Rotation((1, 0, 1), (-1, 0, 0), (0, 1, 0), (0, 0, -1)),
+]
+
+
+def face_point(n, side, u, v):
+    """The centre's grid point u, v steps along a side's face."""
+    r = ROTATIONS[side]
+    return tuple(n * r.origin[k] + u * r.u[k] + v * r.v[k] for k in range(3))
+
+
+def neighbour_point(n, side, u2, v2, w=0):
+    """The neighbour's grid point u2, v2 fine steps along the face and w off it."""
+    r = ROTATIONS[side]
+    return tuple(2 * n * (r.origin[k] + r.w[k]) + w * r.w[k] + u2 * r.u[k] + v2 * r.v[k]
+                 for k in range(3))
+
+
+def fine_steps(n, side, u2, v2, w=0):
+    """The fine point's half steps from the centre's base: k of the fine position."""
+    r = ROTATIONS[side]
+    return tuple(2 * n * r.origin[k] + u2 * r.u[k] + v2 * r.v[k] + w * r.w[k] for k in range(3))
+
+
+# Refusals, by number
+
+def refuse_subdivisions(n):
+    return None if 1 <= n <= LARGEST_N else Refusal(1, n)
+
+
+def refuse_mask(mask):
+    return None if mask <= LARGEST_MASK else Refusal(2, mask)
+
+
+def refuse_numbers(base, size, threshold):
+    for place, pattern in enumerate(base):
+        if not within_limit(value(pattern)):
+            return Refusal(3, place)
+    if not LEAST_SIZE <= value(size) <= LIMIT:
+        return Refusal(3, 3)
+    if not within_limit(value(threshold)):
+        return Refusal(3, 4)
+    return None
+
+
+def refuse_centre_length(n, length):
+    wanted = block_length(n)
+    return None if length == wanted else Refusal(4, wanted)
+
+
+def refuse_neighbours_length(n, mask, length):
+    one = block_length(2 * n)
+    for k, side in enumerate(sides_named(mask)):
+        if length < (k + 1) * one:
+            return Refusal(5, side)
+    wanted = neighbours_length(n, mask)
+    return None if length == wanted else Refusal(6, wanted)
+
+
+def refuse_samples(samples):
+    for place, number in enumerate(values(samples)):
+        if not within_limit(number):
+            return Refusal(7, place)
+    return None
+
+
+def refuse_face_mismatch(block):
+    field = Field(block)
+    for side in sides_named(block.mask):
+        for u in range(block.n + 1):
+            for v in range(block.n + 1):
+                coarse = field.centre(face_point(block.n, side, u, v))
+                fine = field.neighbour(side, neighbour_point(block.n, side, 2 * u, 2 * v))
+                if inside(coarse, field.threshold) != inside(fine, field.threshold):
+                    return Refusal(8, side, u, v)
+    return None
+
+
+def refuse_store(n, length):
+    wanted = store_length(n)
+    return Refusal(9, wanted) if length < wanted else None
+
+
+def refuse_room(mesh, vertices_length, triangles_length):
+    vertices, triangles = len(mesh.vertices), len(mesh.triangles)
+    if vertices > vertices_length // 6 or triangles > triangles_length // 3:
+        return Refusal(10, vertices, triangles)
+    return None
+
+
+def refuse_buffer(length, wanted):
+    return Refusal(14, wanted) if length < wanted else None
+
+
+def refuse_block(block):
+    """1 to 7, as extraction and the writer judge them."""
+    return (refuse_subdivisions(block.n)
+            or refuse_mask(block.mask)
+            or refuse_numbers(block.base, block.size, block.threshold)
+            or refuse_centre_length(block.n, len(block.centre))
+            or refuse_neighbours_length(block.n, block.mask, len(block.neighbours))
+            or refuse_samples(block.centre + block.neighbours))
+
+
+# Point read
+
+def read_point(n, samples, x, y, z):
+    """A sample's bit pattern, or a refusal: 1, 4, 15."""
+    refusal = refuse_subdivisions(n) or refuse_centre_length(n, len(samples))
+    if refusal:
+        return refusal
+    place = sample_place(n, (x, y, z))
+    return Refusal(15) if place is None else samples[place]
+
+
+# Grid points
+
+class GridPoint(NamedTuple):
+    """A point that an edge ends in: position and gradient (three f32 each), sample."""
+    position: tuple
+    gradient: tuple
+    sample: float
+
+
+def steps_around(point):
+    """For each axis the point a step up and the point a step down."""
+    for axis in range(3):
+        step = tuple(1 if k == axis else 0 for k in range(3))
+        yield (tuple(p + s for p, s in zip(point, step)),
+               tuple(p - s for p, s in zip(point, step)))
+
+
+class Field:
+    """A block's numbers as floats, and its samples by grid point."""
+
+    def __init__(self, block):
+        self.n = block.n
+        self.mask = block.mask
+        self.base = tuple(value(pattern) for pattern in block.base)
+        self.size = value(block.size)
+        self.threshold = value(block.threshold)
+        self._centre = values(block.centre)
+        self._neighbours = {}
+        one = block_length(2 * block.n)
+        for k, side in enumerate(sides_named(block.mask)):
+            self._neighbours[side] = values(block.neighbours[k * one:(k + 1) * one])
+
+    def centre(self, point):
+        return self._centre[sample_place(self.n, point)]
+
+    def neighbour(self, side, point):
+        return self._neighbours[side][sample_place(2 * self.n, point)]
+
+    def regular_gradient(self, point):
+        return tuple(subtract(self.centre(up), self.centre(down))
+                     for up, down in steps_around(point))
+
+    def shrink_amount(self):
+        return multiply(f32(0.15), multiply(self.size, divide(1.0, self.n)))
+
+    def regular_position(self, point):
+        """base + size * (index/n) for each axis, moved off the named faces it touches."""
+        position = [add(self.base[k], multiply(self.size, divide(point[k], self.n)))
+                    for k in range(3)]
+        touched = [2 * axis + high for axis in range(3) for high in (0, 1)
+                   if point[axis] == high * self.n]
+        if all(self.mask >> side & 1 for side in touched):
+            for side in touched:
+                move = subtract if side & 1 else add
+                position[side // 2] = move(position[side // 2], self.shrink_amount())
+        return tuple(position)
+
+    def regular_point(self, point):
+        return GridPoint(self.regular_position(point), self.regular_gradient(point),
+                         self.centre(point))
+
+    def fine_position(self, steps):
+        """((0.5 * k) * (1/n)) times size plus base, for each axis."""
+        unit = divide(1.0, self.n)
+        return tuple(add(multiply(multiply(multiply(0.5, steps[k]), unit), self.size),
+                         self.base[k])
+                     for k in range(3))
+
+    def fine_gradient(self, side, cell_u, cell_v, u, v):
+        if u % 2 == 0 and v % 2 == 0:
+            return self.regular_gradient(face_point(self.n, side, cell_u + u // 2, cell_v + v // 2))
+        point = neighbour_point(self.n, side, 2 * cell_u + u, 2 * cell_v + v)
+        return tuple(subtract(self.neighbour(side, up), self.neighbour(side, down))
+                     for up, down in steps_around(point))
+
+    def fine_sample(self, side, cell_u, cell_v, u, v):
+        return self.neighbour(
+            side, neighbour_point(self.n, side, 2 * cell_u + u, 2 * cell_v + v))
+
+    def transition_point(self, side, cell_u, cell_v, index):
+        """One of a transition cell's thirteen points: 0..8 fine, 9..12 coarse."""
+        if index < 9:
+            u, v = index % 3, index // 3
+            steps = fine_steps(self.n, side, 2 * cell_u + u, 2 * cell_v + v)
+            return GridPoint(self.fine_position(steps),
+                             self.fine_gradient(side, cell_u, cell_v, u, v),
+                             self.fine_sample(side, cell_u, cell_v, u, v))
+        u, v = (index - 9) % 2, (index - 9) // 2
+        return self.regular_point(face_point(self.n, side, cell_u + u, cell_v + v))
+
+
+def weight(a, b, threshold):
+    """The weight toward b."""
+    return divide(subtract(threshold, a), subtract(b, a))
+
+
+def between(a, b, toward_b):
+    return add(a, multiply(toward_b, subtract(b, a)))
+
+
+def vertex_between(a, b, threshold):
+    """The six bit patterns of the vertex on the edge from a to b."""
+    toward_b = weight(a.sample, b.sample, threshold)
+    return tuple(bits(between(p, q, toward_b))
+                 for p, q in zip(a.position + a.gradient, b.position + b.gradient))
+
+
+# Cells
+
+TRANSITION_CONTRIBUTIONS = [0x01, 0x02, 0x04, 0x80, 0x100, 0x08, 0x40, 0x20, 0x10]
+
+
+def corner_point(cell, corner):
+    return tuple(cell[k] + (corner >> k & 1) for k in range(3))
+
+
+def regular_case(field, cell):
+    return sum(1 << corner for corner in range(8)
+               if inside(field.centre(corner_point(cell, corner)), field.threshold))
+
+
+def transition_case(field, side, u, v):
+    return sum(contribution for index, contribution in enumerate(TRANSITION_CONTRIBUTIONS)
+               if inside(field.fine_sample(side, u, v, index % 3, index // 3), field.threshold))
+
+
+def edge_of(code):
+    """The two points that a vertex code names."""
+    return code >> 4 & 0x0F, code & 0x0F
+
+
+class Mesher:
+    """The mesh as it grows, cell by cell."""
+
+    def __init__(self, block):
+        self.field = Field(block)
+        self.vertices = []
+        self.triangles = []
+        self.store = [0] * store_length(block.n)
+
+    def new_vertex(self, a, b):
+        self.vertices.append(vertex_between(a, b, self.field.threshold))
+        return len(self.vertices) - 1
+
+    def regular_vertex(self, cell, code):
+        n = self.field.n
+        high = code >> 8
+        index = high & 0x0F
+        a, b = edge_of(code)
+
+        def make():
+            return self.new_vertex(self.field.regular_point(corner_point(cell, a)),
+                                   self.field.regular_point(corner_point(cell, b)))
+
+        if high & 0x80:
+            vertex = make()
+            self.store[regular_store_place(n, cell, index)] = vertex
+            return vertex
+        back = tuple(cell[k] - (high >> (4 + k) & 1) for k in range(3))
+        if min(back) >= 0:
+            return self.store[regular_store_place(n, back, index)]
+        return make()
+
+    def transition_vertex(self, side, u, v, code):
+        n = self.field.n
+        high = code >> 8
+        index = high & 0x0F
+        a, b = edge_of(code)
+
+        def make():
+            return self.new_vertex(self.field.transition_point(side, u, v, a),
+                                   self.field.transition_point(side, u, v, b))
+
+        if high & 0x80:
+            vertex = make()
+            self.store[transition_store_place(n, side, u, v, index)] = vertex
+            return vertex
+        if high & 0x30:
+            back_u, back_v = u - (high >> 4 & 1), v - (high >> 5 & 1)
+            if min(back_u, back_v) >= 0:
+                return self.store[transition_store_place(n, side, back_u, back_v, index)]
+        return make()
+
+    def regular_cell(self, cell):
+        case = regular_case(self.field, cell)
+        indices = [self.regular_vertex(cell, code) for code in REGULAR_CODES[case]]
+        for first, second, third in REGULAR_TRIANGLES[REGULAR_CLASS[case]]:
+            self.triangles.append((indices[first], indices[second], indices[third]))
+
+    def transition_cell(self, side, u, v):
+        case = transition_case(self.field, side, u, v)
+        indices = [self.transition_vertex(side, u, v, code) for code in TRANSITION_CODES[case]]
+        kind = TRANSITION_CLASS[case]
+        for corners in TRANSITION_TRIANGLES[kind & 0x7F]:
+            triangle = tuple(indices[corner] for corner in corners)
+            self.triangles.append(triangle[::-1] if kind & 0x80 else triangle)
+
+
+def mesh_of(block):
+    """The mesh of a block that passes 1 to 8."""
+    mesher = Mesher(block)
+    steps = range(block.n)
+    for x in steps:
+        for y in steps:
+            for z in steps:
+                mesher.regular_cell((x, y, z))
+    for side in sides_named(block.mask):
+        for u in steps:
+            for v in steps:
+                mesher.transition_cell(side, u, v)
+    return Mesh(mesher.vertices, mesher.triangles, mesher.store)
+
+
+# Extraction
+
+def extract(block, vertices, triangles, store):
+    """Counts or a refusal, 1 to 10; fills the three lent lists when nothing is refused."""
+    refusal = (refuse_block(block)
+               or refuse_face_mismatch(block)
+               or refuse_store(block.n, len(store)))
+    if refusal:
+        return refusal
+    mesh = mesh_of(block)
+    refusal = refuse_room(mesh, len(vertices), len(triangles))
+    if refusal:
+        return refusal
+    lay(vertices, [number for vertex in mesh.vertices for number in vertex])
+    lay(triangles, [index for triangle in mesh.triangles for index in triangle])
+    lay(store, mesh.store)
+    return Counts(len(mesh.vertices), len(mesh.triangles))
+
+
+def lay(lent, numbers):
+    """Fills the first places of a lent list; all beyond stays."""
+    lent[:len(numbers)] = numbers
+
+
+# Block record
+
+def parse(record):
+    """A block, or a refusal: 11, 12, 1, 2, 3, 13, 7."""
+    if len(record) < HEADER or int.from_bytes(record[:4], "big") != len(record) - 4:
+        return Refusal(11)
+    version, n, mask, threshold, *base, size = struct.unpack(">3B5I", record[4:HEADER])
+    if version != VERSION:
+        return Refusal(12, version)
+    refusal = refuse_subdivisions(n) or refuse_mask(mask) or refuse_numbers(base, size, threshold)
+    if refusal:
+        return refusal
+    wanted = samples_length(n, mask)
+    if len(record) - HEADER != 4 * wanted:
+        return Refusal(13, wanted)
+    samples = list(struct.unpack(">%dI" % wanted, record[HEADER:]))
+    refusal = refuse_samples(samples)
+    if refusal:
+        return refusal
+    centre = block_length(n)
+    return Block(n, mask, threshold, tuple(base), size, samples[:centre], samples[centre:])
+
+
+def read(record, samples):
+    """The reader: a block or a refusal, 14 last; fills the first places of the lent list."""
+    block = parse(record)
+    if isinstance(block, Refusal):
+        return block
+    numbers = block.centre + block.neighbours
+    refusal = refuse_buffer(len(samples), len(numbers))
+    if refusal:
+        return refusal
+    lay(samples, numbers)
+    return block
+
+
+def record_of(block):
+    """The record of a block that passes 1 to 7."""
+    samples = block.centre + block.neighbours
+    body = struct.pack(">3B5I%dI" % len(samples), VERSION, block.n, block.mask,
+                       block.threshold, *block.base, block.size, *samples)
+    return len(body).to_bytes(4, "big") + body
+
+
+def write(block, buffer):
+    """The writer: the bytes written or a refusal, 1 to 7, 14; fills a lent bytearray."""
+    refusal = (refuse_block(block)
+               or refuse_buffer(len(buffer),
+                                HEADER + 4 * samples_length(block.n, block.mask)))
+    if refusal:
+        return refusal
+    record = record_of(block)
+    lay(buffer, record)
+    return len(record)
+
+
+# The viewer's three calls
+
+def viewer_subdivisions(record):
+    block = parse(record)
+    return 100 + block.number if isinstance(block, Refusal) else block.n
+
+
+def viewer_blank(record):
+    block = parse(record)
+    if isinstance(block, Refusal):
+        return 100 + block.number
+    threshold = value(block.threshold)
+    in_block = values(block.centre[:(block.n + 1) ** 3])
+    return int(len({inside(sample, threshold) for sample in in_block}) == 1)
+
+
+def viewer_sample(record, x, y, z):
+    block = parse(record)
+    answer = block if isinstance(block, Refusal) else read_point(block.n, block.centre, x, y, z)
+    return (1 << 32) + answer.number if isinstance(answer, Refusal) else answer
+
+
+# The listing program
+
+def listing_text(answer, vertices, triangles):
+    """The lines for an extraction's answer and its flat lists."""
+    if isinstance(answer, Refusal):
+        return "refused %d %d %d %d\n" % answer
+    lines = ["mesh %d %d" % answer]
+    for k in range(answer.vertices):
+        lines.append("v " + " ".join("%08x" % number for number in vertices[6 * k:6 * k + 6]))
+    for k in range(answer.triangles):
+        lines.append("t %d %d %d" % tuple(triangles[3 * k:3 * k + 3]))
+    return "\n".join(lines) + "\n"
+
+
+def listing(record):
+    """What the listing program prints for its standard input."""
+    if len(record) > LISTING_BYTES:
+        return listing_text(Refusal(11), [], [])
+    vertices = [0] * (6 * LISTING_VERTICES)
+    triangles = [0] * (3 * LISTING_TRIANGLES)
+    answer = read(record, [0] * LISTING_SAMPLES)
+    if not isinstance(answer, Refusal):
+        answer = extract(answer, vertices, triangles, [0] * LISTING_STORE)
+    return listing_text(answer, vertices, triangles)
+
+
+def accepted_mesh(record):
+    """The mesh of a record whatever its size, or a refusal: the reader's, then 8."""
+    block = parse(record)
+    if isinstance(block, Refusal):
+        return block
+    return refuse_face_mismatch(block) or mesh_of(block)
+
+
+def mesh_lines(mesh):
+    if isinstance(mesh, Refusal):
+        return listing_text(mesh, [], [])
+    return listing_text(Counts(len(mesh.vertices), len(mesh.triangles)),
+                        [number for vertex in mesh.vertices for number in vertex],
+                        [index for triangle in mesh.triangles for index in triangle])
+
+
+def store_lines(mesh):
+    if isinstance(mesh, Refusal):
+        return listing_text(mesh, [], [])
+    return "".join("%d\n" % index for index in mesh.store)
+
+
+def mesh_text(record):
+    """The listing without the listing program's limits."""
+    return mesh_lines(accepted_mesh(record))
+
+
+def store_text(record):
+    """The index store after extraction, a place a line."""
+    return store_lines(accepted_mesh(record))
+
+
+def both_texts(record):
+    """Mesh and store in one text, as the oracle's `run` prints them."""
+    mesh = accepted_mesh(record)
+    return mesh_lines(mesh) + "store\n" + store_lines(mesh) + "end\n"
+
+
+def viewer_text(record, point):
+    lines = ["subdivisions %d" % viewer_subdivisions(record), "blank %d" % viewer_blank(record)]
+    if point:
+        lines.append("sample %d" % viewer_sample(record, *point))
+    return "\n".join(lines) + "\n"
+
+
+def main(arguments):
+    texts = {"listing": listing, "mesh": mesh_text, "store": store_text}
+    command, *point = arguments or [""]
+    if command in texts and not point:
+        text = texts[command](sys.stdin.buffer.read())
+    elif command == "viewer" and len(point) in (0, 3):
+        text = viewer_text(sys.stdin.buffer.read(), [int(word) for word in point])
+    else:
+        sys.exit(__doc__)
+    sys.stdout.write(text)
+
+
+if __name__ == "__main__":
+    main(sys.argv[1:])

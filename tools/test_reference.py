@@ -1,0 +1,281 @@
+#!/usr/bin/env python3
+"""Document 01's figures, case A and refusals, asked of tools/reference.py; the example records.
+
+    python3 tools/test_reference.py
+"""
+
+import struct
+import unittest
+
+import records
+import reference
+from records import case_a
+from reference import Block, Counts, Refusal, bits
+
+NAN = 0x7FC00000
+INFINITY = 0x7F800000
+LIMIT = bits(1048576.0)
+BEYOND = LIMIT + 1
+ZERO, ONE, HALF = bits(0.0), bits(1.0), bits(0.5)
+NEGATIVE_ZERO = 0x80000000
+
+CASE_A = """\
+mesh 3 1
+v 3f000000 00000000 00000000 bf000000 00000000 00000000
+v 00000000 3f000000 00000000 00000000 bf000000 00000000
+v 00000000 00000000 3f000000 00000000 00000000 bf000000
+t 0 1 2
+"""
+
+
+def flat_block(n=1, mask=0, sample=ZERO):
+    return Block(n, mask, HALF, (ZERO, ZERO, ZERO), ONE,
+                 [sample] * reference.block_length(n),
+                 [sample] * reference.neighbours_length(n, mask))
+
+
+def lent(block, vertices=600, triangles=600):
+    return [7] * vertices, [7] * triangles, [7] * (reference.store_length(block.n) + 5)
+
+
+def with_byte(record, place, byte):
+    return record[:place] + bytes([byte]) + record[place + 1:]
+
+
+def with_number(record, place, pattern):
+    return record[:place] + struct.pack(">I", pattern) + record[place + 4:]
+
+
+class Figures(unittest.TestCase):
+    def test_sample_places(self):
+        self.assertEqual(reference.block_length(2), 81)
+        for point, place in (((1, 2, 0), 15), ((-1, 1, 2), 32), ((1, 2, 3), 77)):
+            self.assertEqual(reference.sample_place(2, point), place)
+        for point in ((-1, -1, 0), (-2, 0, 0), (0, 4, 0), (3, 0, -1)):
+            self.assertIsNone(reference.sample_place(2, point))
+
+    def test_every_place_once(self):
+        for n in (1, 2, 5):
+            span = range(-2, n + 3)
+            places = [reference.sample_place(n, (x, y, z))
+                      for x in span for y in span for z in span]
+            self.assertEqual(sorted(place for place in places if place is not None),
+                             list(range(reference.block_length(n))))
+
+    def test_neighbour_points(self):
+        self.assertEqual(reference.neighbour_point(4, 0, 2 * 1 + 1, 2 * 2), (8, 4, 5))
+        self.assertEqual(reference.neighbour_point(4, 0, 2 * 1, 2 * 2), (8, 4, 6))
+
+    def test_rotations_are_right_handed(self):
+        for rotation in reference.ROTATIONS:
+            (a, b, c), (d, e, f) = rotation.u, rotation.v
+            self.assertEqual((b * f - c * e, c * d - a * f, a * e - b * d), rotation.w)
+
+    def test_shrinking(self):
+        moves = lambda n, mask, point: (
+            reference.Field(flat_block(n, mask)).regular_position(point)
+            != reference.Field(flat_block(n, 0)).regular_position(point))
+        self.assertTrue(moves(2, 1, (0, 1, 1)))
+        self.assertFalse(moves(2, 1, (0, 0, 1)))
+        self.assertFalse(any(moves(1, 1, (x, y, z)) for x in (0, 1) for y in (0, 1)
+                             for z in (0, 1)))
+        self.assertTrue(moves(2, 0b101, (0, 0, 1)))
+
+    def test_used_codes(self):
+        codes = {code for row in reference.REGULAR_CODES for code in row}
+        self.assertEqual(codes, {0x6201, 0x5102, 0x3304, 0x2315, 0x4113, 0x4223,
+                                 0x1326, 0x2245, 0x1146, 0x8337, 0x8157, 0x8267})
+        self.assertEqual(reference.edge_of(0x6201), (0, 1))
+
+    def test_case_a(self):
+        self.assertEqual(reference.listing(reference.record_of(case_a())), CASE_A)
+
+    def test_all_samples_equal(self):
+        for mask in (0, 63):
+            for sample in (ZERO, HALF, ONE):
+                block = flat_block(2, mask, sample)
+                self.assertEqual(reference.extract(block, *lent(block)), Counts(0, 0))
+
+    def test_negative_zero_is_inside(self):
+        block = flat_block()._replace(threshold=ZERO)
+        block.centre[:8] = [NEGATIVE_ZERO, bits(-1.0)] * 4
+        field = reference.Field(block)
+        self.assertEqual(reference.regular_case(field, (0, 0, 0)), 0x0F)
+
+
+class Extraction(unittest.TestCase):
+    def refused(self, block, refusal, vertices=600, triangles=600, store=None):
+        lists = [7] * vertices, [7] * triangles, [7] * (1000 if store is None else store)
+        before = [list(numbers) for numbers in lists]
+        self.assertEqual(reference.extract(block, *lists), refusal)
+        self.assertEqual([list(numbers) for numbers in lists], before)
+
+    def test_fills_the_first_places(self):
+        vertices, triangles, store = lent(case_a())
+        self.assertEqual(reference.extract(case_a(), vertices, triangles, store), Counts(3, 1))
+        self.assertEqual(triangles, [0, 1, 2] + [7] * 597)
+        self.assertEqual(vertices[18:], [7] * 582)
+        self.assertEqual(store, [0] * 64 + [7] * 5)
+
+    def test_1_2(self):
+        self.refused(case_a()._replace(n=0, mask=64), Refusal(1, 0))
+        self.refused(case_a()._replace(n=17), Refusal(1, 17))
+        self.refused(case_a()._replace(mask=64, size=ZERO), Refusal(2, 64))
+
+    def test_3(self):
+        bad = [NAN, INFINITY, INFINITY | NEGATIVE_ZERO, BEYOND, BEYOND | NEGATIVE_ZERO]
+        for pattern in bad:
+            for place in range(3):
+                base = tuple(pattern if k >= place else ZERO for k in range(3))
+                self.refused(case_a()._replace(base=base, size=pattern), Refusal(3, place))
+            self.refused(case_a()._replace(size=pattern, threshold=pattern), Refusal(3, 3))
+            self.refused(case_a()._replace(threshold=pattern, centre=[]), Refusal(3, 4))
+        for pattern in (ZERO, bits(1 / 1024) - 1, bits(-1.0)):
+            self.refused(case_a()._replace(size=pattern), Refusal(3, 3))
+        for pattern in (bits(1 / 1024), LIMIT):
+            block = case_a()._replace(size=pattern, base=(LIMIT, LIMIT | NEGATIVE_ZERO, ZERO))
+            self.assertEqual(reference.extract(block, *lent(block)), Counts(3, 1))
+
+    def test_4_5_6(self):
+        self.refused(case_a()._replace(centre=[NAN] * 31), Refusal(4, 32))
+        self.refused(case_a()._replace(centre=[NAN] * 33), Refusal(4, 32))
+        self.refused(case_a()._replace(neighbours=[NAN]), Refusal(6, 0))
+        two = flat_block(1, 0b100010)
+        for length, side in ((0, 1), (80, 1), (81, 5), (161, 5)):
+            self.refused(two._replace(neighbours=[NAN] * length), Refusal(5, side))
+        self.refused(two._replace(neighbours=[NAN] * 163), Refusal(6, 162))
+
+    def test_7(self):
+        block = flat_block(1, 1)
+        block.neighbours[80] = BEYOND
+        self.refused(block, Refusal(7, 32 + 80))
+        block.centre[31] = NAN
+        self.refused(block, Refusal(7, 31))
+
+    def test_8(self):
+        block = flat_block(2, 0b11)
+        one = reference.block_length(4)
+        place = reference.sample_place(4, reference.neighbour_point(2, 1, 4, 2))
+        block.neighbours[one + place] = ONE
+        self.refused(block, Refusal(8, 1, 2, 1), store=0)
+        block.centre[reference.sample_place(2, reference.face_point(2, 0, 0, 2))] = ONE
+        self.refused(block, Refusal(8, 0, 0, 2))
+
+    def test_9_10(self):
+        self.refused(case_a(), Refusal(9, 64), store=63, vertices=0)
+        self.refused(case_a(), Refusal(10, 3, 1), vertices=17)
+        self.refused(case_a(), Refusal(10, 3, 1), triangles=2)
+        self.assertEqual(reference.extract(case_a(), [0] * 18, [0] * 3, [0] * 64), Counts(3, 1))
+
+
+class Records(unittest.TestCase):
+    def test_round_trip(self):
+        block = case_a()._replace(base=(NEGATIVE_ZERO, LIMIT, ONE))
+        buffer = bytearray(b"\7" * 200)
+        self.assertEqual(reference.write(block, buffer), 155)
+        self.assertEqual(buffer[155:], b"\7" * 45)
+        samples = [7] * 40
+        self.assertEqual(reference.read(bytes(buffer[:155]), samples), block)
+        self.assertEqual(samples, block.centre + [7] * 8)
+
+    def test_reader_order(self):
+        record = reference.record_of(case_a())
+        worse = with_number(record, 27, NAN)
+        expected = [(worse, Refusal(7, 0))]
+        worse = worse + bytes(4)
+        worse = (len(worse) - 4).to_bytes(4, "big") + worse[4:]
+        expected.append((worse, Refusal(13, 32)))
+        for place, refusal in ((7, Refusal(3, 4)), (23, Refusal(3, 3)), (19, Refusal(3, 2)),
+                               (11, Refusal(3, 0))):
+            worse = with_number(worse, place, INFINITY)
+            expected.append((worse, refusal))
+        for place, byte, refusal in ((6, 64, Refusal(2, 64)), (5, 17, Refusal(1, 17)),
+                                     (4, 2, Refusal(12, 2)), (3, 0, Refusal(11))):
+            worse = with_byte(worse, place, byte)
+            expected.append((worse, refusal))
+        for damaged, refusal in expected:
+            samples = [7] * 40
+            self.assertEqual(reference.read(damaged, samples), refusal)
+            self.assertEqual(samples, [7] * 40)
+        self.assertEqual(reference.read(record, [0] * 31), Refusal(14, 32))
+        self.assertEqual(reference.parse(b""), Refusal(11))
+        self.assertEqual(reference.parse((22).to_bytes(4, "big") + bytes(22)), Refusal(11))
+
+    def test_sample_bytes_not_whole(self):
+        record = reference.record_of(case_a())[:-1]
+        self.assertEqual(reference.parse((len(record) - 4).to_bytes(4, "big") + record[4:]),
+                         Refusal(13, 32))
+
+    def test_writer(self):
+        self.assertEqual(reference.write(case_a(), bytearray(154)), Refusal(14, 155))
+        self.assertEqual(reference.write(case_a()._replace(n=17), bytearray()), Refusal(1, 17))
+        block = flat_block(1, 1)
+        block.neighbours[0] = NAN
+        self.assertEqual(reference.write(block, bytearray()), Refusal(7, 32))
+
+    def test_neither_judges_8(self):
+        block = flat_block(1, 1)
+        block.neighbours[reference.sample_place(2, reference.neighbour_point(1, 0, 0, 0))] = ONE
+        self.assertEqual(reference.parse(reference.record_of(block)), block)
+        self.assertEqual(reference.listing(reference.record_of(block)), "refused 8 0 0 0\n")
+
+
+class Viewer(unittest.TestCase):
+    def test_answers(self):
+        record = reference.record_of(case_a())
+        self.assertEqual(reference.viewer_subdivisions(record), 1)
+        self.assertEqual(reference.viewer_blank(record), 0)
+        self.assertEqual(reference.viewer_sample(record, 0, 0, 0), ONE)
+        self.assertEqual(reference.viewer_sample(record, -1, 0, 0), ZERO)
+        self.assertEqual(reference.viewer_sample(record, -1, -1, 0), (1 << 32) + 15)
+        self.assertEqual(reference.viewer_sample(record, -1 << 31, 0, 0), (1 << 32) + 15)
+
+    def test_blank(self):
+        block = flat_block()
+        block.centre[8:] = [ONE] * 24
+        self.assertEqual(reference.viewer_blank(reference.record_of(block)), 1)
+        self.assertEqual(reference.viewer_blank(reference.record_of(flat_block(sample=ONE))), 1)
+
+    def test_refusals(self):
+        damaged = with_byte(reference.record_of(case_a()), 4, 3)
+        self.assertEqual(reference.viewer_subdivisions(damaged), 112)
+        self.assertEqual(reference.viewer_blank(damaged), 112)
+        self.assertEqual(reference.viewer_sample(damaged, 9, 9, 9), (1 << 32) + 12)
+
+
+class Points(unittest.TestCase):
+    def test_point_read(self):
+        samples = list(range(81))
+        self.assertEqual(reference.read_point(2, samples, 1, 2, 3), 77)
+        self.assertEqual(reference.read_point(2, samples, 3, 3, 0), Refusal(15))
+        self.assertEqual(reference.read_point(2, samples[1:], 9, 9, 9), Refusal(4, 81))
+        self.assertEqual(reference.read_point(0, samples, 9, 9, 9), Refusal(1, 0))
+
+
+class Listing(unittest.TestCase):
+    def test_longest_input(self):
+        self.assertEqual(reference.listing(bytes(65537)), "refused 11 0 0 0\n")
+
+    def test_store(self):
+        for n, text in ((12, "mesh 0 0\n"), (13, "refused 9 18928 0 0\n")):
+            self.assertEqual(reference.listing(reference.record_of(flat_block(n))), text)
+
+
+class Examples(unittest.TestCase):
+    def test_stored_as_made(self):
+        for name, record in records.examples().items():
+            self.assertEqual((records.EXAMPLES / name).read_bytes(), record)
+
+    def test_all_are_meshed(self):
+        for record in records.examples().values():
+            self.assertTrue(reference.listing(record).startswith("mesh "))
+
+    def test_finer_face_has_all_three_sides(self):
+        mesh = {mask: reference.mesh_of(records.sampled_block(records.depth_in_rock, 7, mask))
+                for mask in (0, 0b1, 0b10, 0b10000)}
+        for mask in (0b1, 0b10, 0b10000):
+            self.assertGreater(len(mesh[mask].triangles), len(mesh[0].triangles))
+
+
+if __name__ == "__main__":
+    unittest.main()
