@@ -1,0 +1,35 @@
+//! What a run of seeds brings, and that the oracle takes all of it.
+
+use oracle::record::{block_length, neighbours_length, Block};
+use oracle::Star;
+use std::collections::BTreeSet;
+
+#[test]
+fn every_n_and_every_mask() {
+    let met: Vec<Block> = (0..2048).map(blocks::block).collect();
+    let sizes: BTreeSet<usize> = met.iter().map(|block| block.n).collect();
+    let masks: BTreeSet<u8> = met.iter().map(|block| block.mask).collect();
+    assert_eq!(sizes, (1..=16).collect());
+    assert_eq!(masks, (0..64).collect());
+}
+
+#[test]
+fn lengths_and_limits() {
+    for block in (0..256).map(blocks::block) {
+        assert_eq!(block.centre.len(), block_length(block.n));
+        assert_eq!(block.neighbours.len(), neighbours_length(block.n, block.mask));
+        let samples = block.centre.iter().chain(&block.neighbours);
+        assert!(samples.into_iter().all(|sample| sample.abs() <= 1_048_576.0));
+        assert_eq!(Block::from_record(&block.to_record()), Ok(block));
+    }
+}
+
+/// The added way to end an extraction gives the mesh of the mesher's own.
+#[test]
+fn same_mesh_both_ways() {
+    for block in (0..256).map(blocks::block) {
+        let star = Star::new(&block);
+        let (own, added) = (star.extract(), star.answer().mesh);
+        assert_eq!((own.vertices, own.triangles), (added.vertices, added.triangles));
+    }
+}
