@@ -1,0 +1,152 @@
+-- A cell by its case: the rows of the tables describe it, they can be followed, and a cell that is all inside or all outside has
+-- nothing.
+use Prim.Native.Nat.{ℕ, _+_, _*_, _≤_, _<_}
+use mathlib.Core.Path.{_≡_, refl, sym, _∙_}
+use mathlib.Core.Bool.{Bool, false}
+use mathlib.Core.List.{List}
+use native.Mathlib.Omega.{arith}
+use lib.Ieee.{Float}
+use lib.ListN.{length, getD}
+use Rattle.tables.specs.RegularRows as regular
+use Rattle.tables.specs.TransitionRows as transition
+use Rattle.tables.specs.Arrays.{regular-codes-long, regular-cell-long, transition-codes-long, transition-cell-long}
+use Rattle.tables.specs.Cases.{verticesOf, trianglesOf, cornerOf}
+use Rattle.tables.specs.Cases.{regularClass, regularCodes, regularCode, regularVertices, regularTriangles, regularCorner}
+use Rattle.tables.specs.Cases.{regularCell as regularRow, transitionCell as transitionRow}
+use Rattle.tables.specs.Cases.{transitionClass, transitionCodes, transitionCode, transitionVertices, transitionTriangles, transitionCorner, transitionTurned}
+use Rattle.tables.specs.RulesCorners.{CellRight, regular-cell-right, regular-class-small, transition-cell-right, transition-class-small}
+use Rattle.tables.specs.RulesSlots.{regular-code-right}
+use Rattle.tables.specs.RulesBorder.{transition-code-right}
+use Rattle.model.specs.Rotations.{xyz}
+use Rattle.model.specs.declared.FacePoint.{FacePoint}
+use Rattle.model.specs.Points.{Star, regularCase, transitionCase}
+use Rattle.model.specs.Mesh.{Cell, fillTo, regularCell, transitionCell}
+use Rattle.cells.specs.declared.CellIndex.{CellIndex}
+use Rattle.cells.specs.declared.CellIndex.the-variants.{Regular, Transition}
+use Rattle.cells.specs.Posts.{Room, CellPut, Adds}
+use Rattle.cells.specs.Rows.{Followed}
+use Rattle.cells.specs.Kinds.{Usable, cellOf, Coded}
+
+-- ---- the same cell under two names
+
+module _ {c d : Cell} (same : c ≡ d) where
+  pub vertex-room : (nv : ℕ) (vertices : List Float) (store : List ℕ) → Room 6 (nv + length (fillTo d nv store (d .vertices) .made)) vertices
+      → Room 6 (nv + length (fillTo c nv store (c .vertices) .made)) vertices
+  vertex-room nv vertices store room = rw same room
+
+  pub triangle-room : (nt : ℕ) (triangles : List ℕ) → Room 3 (nt + d .triangles) triangles → Room 3 (nt + c .triangles) triangles
+  triangle-room nt triangles room = rw same room
+
+  pub put-as : (nv nt : ℕ) (vertices : List Float) (triangles store : List ℕ) (nv′ nt′ : ℕ) (vertices′ : List Float) (triangles′ store′ : List ℕ)
+      → CellPut c nv nt vertices triangles store nv′ nt′ vertices′ triangles′ store′
+      → CellPut d nv nt vertices triangles store nv′ nt′ vertices′ triangles′ store′
+  put-as nv nt vertices triangles store nv′ nt′ vertices′ triangles′ store′ put = rw same at put
+
+  pub adds-as : {dv dt : ℕ} → Adds c dv dt → Adds d dv dt
+  adds-as adds = rw same at adds
+
+-- ---- rows of either table
+
+abbrev Right : ℕ → List ℕ → Type 0
+Right most row = CellRight most (verticesOf row) (trianglesOf row) (cornerOf row)
+
+followed : (most : ℕ) (row : List ℕ) → most ≤ 12 → 3 * most < length row → Right most row → Followed row
+followed most row few long right =
+    record {
+      there = omega arith;
+      few-vertices = right .vertices-most;
+      few-triangles = omega arith;
+      corner-in = λ j h. omega (arith, right .corner-below j h);
+    }
+
+coded : (at : CellIndex) (codes : List ℕ) (count : ℕ) → length codes ≡ 12 → count ≤ 12
+    → ((i : ℕ) → i < count → Usable at (getD codes i 0)) → Coded at codes count
+coded at codes count long few usable = record { there = omega arith; usable = usable }
+
+-- ---- regular cells
+
+module _ (case : ℕ) (small : case < 256) (codes row : List ℕ) (codes-are : codes ≡ regularCodes case) (row-is : row ≡ regularRow case) where
+  regular-right : Right 5 (regularRow case)
+  unfolding regularVertices regularTriangles regularCorner
+  regular-right = regular-cell-right case small
+
+  pub regular-followed : Followed row
+  regular-followed =
+      let long = regular-cell-long case (regular-class-small case small) in
+      rw row-is (followed 5 (regularRow case) (omega arith) (omega arith) regular-right)
+
+  pub regular-coded : (x y z : ℕ) → Coded (Regular (xyz x y z)) codes (verticesOf row)
+  unfolding regularCode regularVertices
+  regular-coded x y z =
+      rw (codes-are, row-is)
+      (coded (Regular (xyz x y z)) (regularCodes case) (verticesOf (regularRow case)) (regular-codes-long case small) (regular-right .vertices-most)
+      (λ i h.
+      let r = regular-code-right case i small h in
+      record { a-in = r .a-small; b-in = r .b-small; index-in = r .index-small }))
+
+  pub regular-is : (s : Star) (x y z : ℕ) → case ≡ regularCase s x y z → cellOf s (Regular (xyz x y z)) codes row false ≡ regularCell s x y z
+  unfolding regularCell regularCode regularVertices regularTriangles regularCorner
+  regular-is s x y z e = rw (codes-are, row-is, e)
+
+abbrev RegularNothing : ℕ → Type 0
+RegularNothing case = (regularVertices case ≡ 0) × (regularTriangles case ≡ 0)
+
+pub all-outside : RegularNothing 0
+unfolding regular.classes regular.cellRows regularClass regularRow regularVertices regularTriangles
+all-outside = (refl, refl)
+
+pub all-inside : RegularNothing 255
+unfolding regular.classes regular.cellRows regularClass regularRow regularVertices regularTriangles
+all-inside = (refl, refl)
+
+pub regular-nothing : (s : Star) (x y z case blank : ℕ) → RegularNothing blank → case ≡ regularCase s x y z → case ≡ blank
+    → (regularCell s x y z .vertices ≡ 0) × (regularCell s x y z .triangles ≡ 0)
+unfolding regularCell
+regular-nothing s x y z case blank none e b =
+    let is : regularCase s x y z ≡ blank = sym e ∙ b in
+    rw is none
+
+-- ---- transition cells
+
+module _ (case : ℕ) (small : case < 512) (codes row : List ℕ) (codes-are : codes ≡ transitionCodes case) (row-is : row ≡ transitionRow case) where
+  transition-right : Right 12 (transitionRow case)
+  unfolding transitionVertices transitionTriangles transitionCorner
+  transition-right = transition-cell-right case small
+
+  pub transition-followed : Followed row
+  transition-followed =
+      let long = transition-cell-long case (transition-class-small case small) in
+      rw row-is (followed 12 (transitionRow case) (omega arith) (omega arith) transition-right)
+
+  pub transition-coded : (at : FacePoint) → Coded (Transition at) codes (verticesOf row)
+  unfolding transitionCode transitionVertices
+  transition-coded at =
+      rw (codes-are, row-is)
+      (coded (Transition at) (transitionCodes case) (verticesOf (transitionRow case)) (transition-codes-long case small)
+      (transition-right .vertices-most)
+      (λ i h.
+      let r = transition-code-right case i small h in
+      record { a-in = r .a-small; b-in = r .b-small; index-in = r .index-small }))
+
+  pub transition-is : (s : Star) (side u v : ℕ) (turned : Bool) → case ≡ transitionCase s side u v → turned ≡ transitionTurned case
+      → cellOf s (Transition (record { side = side; u = u; v = v })) codes row turned ≡ transitionCell s side u v
+  unfolding transitionCell transitionCode transitionVertices transitionTriangles transitionCorner
+  transition-is s side u v turned e t = rw (codes-are, row-is, t, e)
+
+abbrev TransitionNothing : ℕ → Type 0
+TransitionNothing case = (transitionVertices case ≡ 0) × (transitionTriangles case ≡ 0)
+
+pub fine-outside : TransitionNothing 0
+unfolding transition.classes transition.cellRows transitionClass transitionRow transitionVertices transitionTriangles
+fine-outside = (refl, refl)
+
+pub fine-inside : TransitionNothing 511
+unfolding transition.classes transition.cellRows transitionClass transitionRow transitionVertices transitionTriangles
+fine-inside = (refl, refl)
+
+pub transition-nothing : (s : Star) (side u v case blank : ℕ) → TransitionNothing blank → case ≡ transitionCase s side u v → case ≡ blank
+    → (transitionCell s side u v .vertices ≡ 0) × (transitionCell s side u v .triangles ≡ 0)
+unfolding transitionCell
+transition-nothing s side u v case blank none e b =
+    let is : transitionCase s side u v ≡ blank = sym e ∙ b in
+    rw is none

@@ -1,0 +1,6 @@
+mod Windings
+mod Staying
+mod Turns
+mod Making
+mod Bits
+mod ByCase

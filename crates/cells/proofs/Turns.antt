@@ -1,0 +1,125 @@
+-- What a code comes to, put together from what the functions over it ensure.
+use Prim.Native.Nat.{ℕ, _+_, _≤_, _<_}
+use mathlib.Core.Path.{_≡_, refl, sym, ap, _∙_}
+use mathlib.Core.Bool.{Bool, true, false, cond}
+use mathlib.Core.List.{List, [], _∷_}
+use native.Mathlib.Nat.{add-zero}
+use native.Mathlib.Omega.{arith}
+use lib.Dec.{eqb}
+use lib.Ieee.{Float}
+use lib.ListN.{length, getD, set}
+use Rattle.tables.specs.Codes.{isNew, reuseIndex}
+use Rattle.model.specs.declared.Xyz.{Xyz}
+use Rattle.model.specs.declared.FacePoint.{FacePoint}
+use Rattle.model.specs.declared.Vertex.{Vertex}
+use Rattle.model.specs.Points.{Star, subdivisions}
+use Rattle.model.specs.Mesh.{Turn, madeBy, regularTurn, transitionTurn}
+use Rattle.model.specs.Extraction.{vertexFloats}
+use Rattle.cells.specs.declared.CellIndex.{CellIndex}
+use Rattle.cells.specs.declared.CellIndex.the-variants.{Regular, Transition}
+use Rattle.cells.specs.Buffers.{layVertices}
+use Rattle.cells.specs.Laying.{lay-none}
+use Rattle.cells.specs.Kinds.{turnAt, makesAt, backFrom, placeAt, InBlock, OnSide, Placed, slots}
+use Rattle.cells.specs.Posts.{TurnPut}
+use Rattle.cells.proofs.Staying.{neither}
+
+-- ---- any turn
+
+module _ (t : Turn) (next : ℕ) (vertices : List Float) (store : List ℕ) where
+  turn-made : t .makes ≡ true → (vertices′ : List Float) (store′ : List ℕ)
+      → vertices′ ≡ layVertices vertices next (t .made ∷ []) → store′ ≡ cond (t .stores) (set store (t .place) next) store
+      → TurnPut t next vertices store next (next + 1) vertices′ store′
+  turn-made m vertices′ store′ v e =
+      let one : madeBy t ≡ t .made ∷ [] = rw m in
+      record { index-is = rw m; next-is = rw one; vertices-are = rw one v; store-is = e }
+
+  turn-taken : t .makes ≡ false → t .stores ≡ false → TurnPut t next vertices store (getD store (t .place) 0) next vertices store
+  turn-taken m k =
+      let none : madeBy t ≡ [] = rw m in
+      record {
+        index-is = rw m;
+        next-is = rw (none, add-zero);
+        vertices-are = rw none (sym (lay-none 6 vertexFloats vertices next));
+        store-is = rw k;
+      }
+
+-- ---- the turn of a code
+
+pub turn-makes : (s : Star) (at : CellIndex) (code : ℕ) → turnAt s at code .makes ≡ makesAt at code
+unfolding regularTurn transitionTurn
+turn-makes s (Regular at) code = refl
+turn-makes s (Transition at) code = refl
+
+turn-stores : (s : Star) (at : CellIndex) (code : ℕ) → turnAt s at code .stores ≡ eqb (isNew code) 1
+unfolding regularTurn transitionTurn
+turn-stores s (Regular at) code = refl
+turn-stores s (Transition at) code = refl
+
+turn-place : (s : Star) (at : CellIndex) (code : ℕ) → turnAt s at code .place
+    ≡ cond (eqb (isNew code) 1) (placeAt (subdivisions s) at (reuseIndex code)) (placeAt (subdivisions s) (backFrom at code) (reuseIndex code))
+unfolding regularTurn transitionTurn
+turn-place s (Regular at) code = refl
+turn-place s (Transition at) code = refl
+
+pub kept-old : (at : CellIndex) (code : ℕ) → makesAt at code ≡ false → eqb (isNew code) 1 ≡ false
+kept-old (Regular at) code e = neither _ _ e .0
+kept-old (Transition at) code e = neither (eqb (isNew code) 1) _ e .0
+
+-- what is known of a cell, once its kind is
+pub regular-in : {n : ℕ} {at : CellIndex} {cell : Xyz} → at ≡ Regular cell → Placed n at → InBlock n (cell .x) (cell .y) (cell .z)
+regular-in e p = rw e at p
+
+pub transition-in : {n : ℕ} {at : CellIndex} {cell : FacePoint} → at ≡ Transition cell → Placed n at → OnSide n (cell .side) (cell .u) (cell .v)
+transition-in e p = rw e at p
+
+-- the cell that a code steps back to lies where the cell does
+pub back-placed : (n : ℕ) (at : CellIndex) (code : ℕ) → Placed n at → Placed n (backFrom at code)
+back-placed n (Regular at) code p = record { x-in = omega arith; y-in = omega arith; z-in = omega arith }
+back-placed n (Transition at) code p = record { side-in = p .side-in; u-in = omega arith; v-in = omega arith }
+
+pub back-slots : (at : CellIndex) (code : ℕ) → slots (backFrom at code) ≡ slots at
+back-slots (Regular at) code = refl
+back-slots (Transition at) code = refl
+
+made-by-test : (t : Turn) (makes : Bool) → t .makes ≡ makes → length (madeBy t) ≡ cond makes 1 0
+made-by-test t true e = rw e
+made-by-test t false e = rw e
+
+pub turn-count : (s : Star) (at : CellIndex) (code : ℕ) → length (madeBy (turnAt s at code)) ≡ cond (makesAt at code) 1 0
+turn-count s at code = made-by-test (turnAt s at code) (makesAt at code) (turn-makes s at code)
+
+pub one-made : (s : Star) (at : CellIndex) (code : ℕ) (makes : Bool) → makes ≡ makesAt at code → makes ≡ true
+    → length (madeBy (turnAt s at code)) ≡ 1
+one-made s at code makes makes-is m = made-by-test (turnAt s at code) true (turn-makes s at code ∙ sym makes-is ∙ m)
+
+module _ (s : Star) (at : CellIndex) (code next r : ℕ) (vertices : List Float) (store : List ℕ)
+    (makes : Bool) (makes-is : makes ≡ makesAt at code) (r-is : r ≡ reuseIndex code) where
+  module _ (vertices′ : List Float) (v : Vertex) (new : Bool) (v-is : v ≡ turnAt s at code .made .vertex)
+      (put : (edge : ℕ) → vertices′ ≡ layVertices vertices next (record { vertex = v; edge = edge } ∷ []))
+      (new-is : new ≡ eqb (isNew code) 1) (m : makes ≡ true) where
+    pub code-stored : (p : ℕ) → p ≡ placeAt (subdivisions s) at r → new ≡ true
+        → TurnPut (turnAt s at code) next vertices store next (next + 1) vertices′ (set store p next)
+    code-stored p p-is e =
+        let t = turnAt s at code in
+        let stores : t .stores ≡ true = turn-stores s at code ∙ sym new-is ∙ e in
+        let fresh : eqb (isNew code) 1 ≡ true = sym new-is ∙ e in
+        let place : t .place ≡ placeAt (subdivisions s) at (reuseIndex code) = rw fresh at (turn-place s at code) in
+        turn-made t next vertices store (turn-makes s at code ∙ sym makes-is ∙ m) vertices′ (set store p next)
+        (rw v-is at (put (t .made .edge))) (rw stores (cc))
+
+    pub code-loose : new ≡ false → TurnPut (turnAt s at code) next vertices store next (next + 1) vertices′ store
+    code-loose e =
+        let t = turnAt s at code in
+        let stores : t .stores ≡ false = turn-stores s at code ∙ sym new-is ∙ e in
+        turn-made t next vertices store (turn-makes s at code ∙ sym makes-is ∙ m) vertices′ store
+        (rw v-is at (put (t .made .edge))) (rw stores)
+
+  pub code-taken : (p : ℕ) (from : CellIndex) → from ≡ backFrom at code → p ≡ placeAt (subdivisions s) from r → makes ≡ false
+      → TurnPut (turnAt s at code) next vertices store (getD store p 0) next vertices store
+  code-taken p from from-is p-is m =
+      let t = turnAt s at code in
+      let kept : makesAt at code ≡ false = sym makes-is ∙ m in
+      let old = kept-old at code kept in
+      let place : t .place ≡ placeAt (subdivisions s) (backFrom at code) (reuseIndex code) = rw old at (turn-place s at code) in
+      let e : p ≡ t .place = cc in
+      rw e (turn-taken t next vertices store (turn-makes s at code ∙ kept) (turn-stores s at code ∙ old))

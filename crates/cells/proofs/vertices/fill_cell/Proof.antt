@@ -1,0 +1,139 @@
+use Rattle.cells.specs.Fills.{fill-none, fill-ready, fill-more, length-fill-store}
+use Rattle.cells.specs.Laying.{length-lay}
+use Rattle.cells.specs.Posts.{FillPut}
+use Rattle.cells.specs.Kinds.{turnAt, cellOf}
+use Rattle.model.specs.Extraction.{vertexFloats}
+use Rattle.model.specs.Mesh.{fillTo}
+use Rattle.model.specs.Points.{star}
+use Rattle.tables.specs.Cases.{verticesOf}
+use lib.ListN.{length, getD}
+use mathlib.Core.Bool.{false}
+use mathlib.Core.Path.{_≡_, refl, ap, _∙_}
+use Prim.Native.Nat.{_-_, _≤_}
+use native.Mathlib.Omega.{arith}
+use borrow.Author.Needs.{needs}
+use Rattle.cells.proofs.vertices.fill_cell.Statement.{statement}
+use Rattle.cells.proofs.vertices.fill_cell.Tie as tie
+use Rattle.cells.proofs.vertices.fill_cell.Reads as reads
+use Rattle.cells.proofs.vertices.fill_cell.Lts as lts
+use Rattle.cells.proofs.triangles.vertex_count.Reads as vertex-count-reads
+use Rattle.cells.proofs.vertices.put_code.Reads as put-code-reads
+
+abbrev Inv-loop : tie.InvT-loop
+Inv-loop block mask threshold centre neighbours at codes row store₀ vertices₀ base count cell₀ next₀ k₀ store vertices cell next k =
+    (k ≤ count) × FillPut (fillTo (cellOf (star block mask threshold centre neighbours) at codes row false) base store₀ k) base vertices₀
+    (cell .index) (cell .count) next vertices store
+
+abbrev μ-loop : tie.MeasureT-loop
+μ-loop block mask threshold centre neighbours at codes row store₀ vertices₀ base count cell₀ next₀ k₀ store vertices cell next k = count - k
+
+-- src/vertices.rt:195:9
+vertex-count-requires : tie.Need-vertex-count-requires Inv-loop μ-loop
+vertex-count-requires c κs = search needs
+
+-- src/vertices.rt:202:5
+loop-holds : tie.Need-loop-holds Inv-loop μ-loop
+loop-holds c =
+    let a = c .before .before .before .before .before .before .before .args in
+    (search needs, fill-none (cellOf (star (a .block) (a .mask) (a .threshold) (a .centre .now) (a .neighbours .now)) (a .at) (a .codes .now) (a .row .now) false) (a .base) (a .store .now) (a .vertices .now))
+
+-- src/vertices.rt:210:13
+mul-put-code : tie.Need-mul-put-code Inv-loop μ-loop
+mul-put-code c =
+    let b = c .before .before .before .before .before .before .before .before .before in
+    omega (arith, b .pre .1 .0)
+
+-- src/vertices.rt:210:13
+shared-slice-read-put-code : tie.Need-shared-slice-read-put-code Inv-loop μ-loop
+shared-slice-read-put-code c =
+    let b = c .before .before .before .before .before .before .before .before .before .before in
+    omega (arith, b .pre .1 .0)
+
+-- src/vertices.rt:203:13
+put-code-requires : tie.Need-put-code-requires Inv-loop μ-loop
+put-code-requires c κs =
+    let b = c .before .before .before .before .before .before .before .before .before .before .before .before in
+    let a = b .args in
+    let l = c .before .before .before .before .loop in
+    let cell = cellOf (star (a .block) (a .mask) (a .threshold) (a .centre .now) (a .neighbours .now)) (a .at) (a .codes .now) (a .row .now) false in (
+      b .pre .0,
+      (
+        b .pre .1 .0 .1 .1 .usable (l .k) (omega arith),
+        (
+          ap length (l .inv .1 .store-is) ∙ length-fill-store cell (a .base) (a .store .now) (l .k) ∙ b .pre .1 .1 .0,
+          fill-ready cell (a .base) (a .store .now) (l .k) (cell .turn (l .k)) refl (a .vertices .now) _ _ _ _ _ (l .inv .1)
+              (verticesOf (a .row .now)) (omega arith) (b .pre .1 .1 .1),
+        ),
+      ),
+    )
+
+-- src/vertices.rt:215:9
+mul-cell : tie.Need-mul-cell Inv-loop μ-loop
+mul-cell c =
+    let b = c .before .before .before .before .before .before .before .before .before .before .before .before .before .before .before .before .before in
+    omega (arith, b .pre .1 .0, c .before .before .before .before .before .before .before .before .before .before .vertex-count .ensures, c .before .before .before .before .before .before .before .before .loop-test .taken)
+
+-- src/vertices.rt:215:9
+element-write-cell : tie.Need-element-write-cell Inv-loop μ-loop
+element-write-cell c =
+    let b = c .before .before .before .before .before .before .before .before .before .before .before .before .before .before .before .before .before in
+    omega (arith, b .pre .1 .0, c .before .before .before .before .before .before .before .before .before .before .vertex-count .ensures, c .before .before .before .before .before .before .before .before .loop-test .taken)
+
+-- src/vertices.rt:216:9
+add-k : tie.Need-add-k Inv-loop μ-loop
+add-k c =
+    let b = c .before .before .before .before .before .before .before .before .before .before .before .before .before .before .before .before .before in
+    omega (arith, b .pre .1 .0, c .before .before .before .before .before .before .before .before .before .before .vertex-count .ensures, c .before .before .before .before .before .before .before .before .loop-test .taken)
+
+-- src/vertices.rt:202:5
+loop-less : tie.Need-loop-less Inv-loop μ-loop
+loop-less c = omega (arith, c .before .before .before .before .before .before .before .before .loop-test .taken)
+
+-- src/vertices.rt:202:5
+loop-again : tie.Need-loop-again Inv-loop μ-loop
+loop-again c =
+    let b = c .before .before .before .before .before .before .before .before .before .before .before .before .before .before .before .before .before in
+    let a = b .args in
+    let l = c .before .before .before .before .before .before .before .before .before .loop in
+    let cell = cellOf (star (a .block) (a .mask) (a .threshold) (a .centre .now) (a .neighbours .now)) (a .at) (a .codes .now) (a .row .now) false in (
+      omega (arith, c .before .before .before .before .before .before .before .before .loop-test .taken),
+      fill-more cell (a .base) (a .store .now) (l .k) (cell .turn (l .k)) refl (a .vertices .now) _ _ _ _ _ (l .inv .1)
+          _ _ _ _ (omega (arith, b .pre .1 .0, c .before .before .before .before .before .before .before .before .before .before .vertex-count .ensures, c .before .before .before .before .before .before .before .before .loop-test .taken)) (c .before .before .before .before .put-code .ensures),
+    )
+
+-- src/vertices.rt:176:1
+same-length : tie.Need-same-length Inv-loop μ-loop
+same-length c =
+    let a = c .before .before .before .before .before .before .before .before .before .args in
+    ap length (c .before .loop .inv .1 .store-is) ∙ length-fill-store (cellOf (star (a .block) (a .mask) (a .threshold) (a .centre .now) (a .neighbours .now)) (a .at) (a .codes .now) (a .row .now) false) (a .base) (a .store .now) (c .before .loop .k)
+
+-- src/vertices.rt:176:1
+same-length-2 : tie.Need-same-length-2 Inv-loop μ-loop
+same-length-2 c = ap length (c .before .loop .inv .1 .vertices-are) ∙ length-lay 6 vertexFloats _ _ _
+
+-- src/vertices.rt:176:1
+returns : tie.Need-returns Inv-loop μ-loop
+returns c =
+    let a = c .before .before .before .before .before .before .before .before .before .args in
+    let e : c .before .loop .k ≡ verticesOf (a .row .now) = omega arith in
+    rw e at (c .before .loop .inv .1)
+
+pub fill-cell-spec : {M : Type 1} → statement M
+fill-cell-spec =
+    tie.close
+    (tie.spec
+    Inv-loop
+    μ-loop
+    vertex-count-requires
+    loop-holds
+    mul-put-code
+    shared-slice-read-put-code
+    put-code-requires
+    mul-cell
+    element-write-cell
+    add-k
+    loop-less
+    loop-again
+    same-length
+    same-length-2
+    returns)

@@ -1,0 +1,175 @@
+-- Laws of a cell's vertices and triangles, whatever cell it is: how many there are, what the buffers hold after one more, and what
+-- a whole cell leaves.
+use Prim.Native.Nat.{ℕ, zero, suc, _+_, _-_, _*_, _≤_, _<_}
+use mathlib.Core.Path.{_≡_, refl, sym, ap, _∙_}
+use mathlib.Core.Bool.{Bool, true, false, cond}
+use mathlib.Core.List.{List, [], _∷_, _++_, append-assoc}
+use native.Mathlib.Nat.{add-zero, add-assoc}
+use native.Mathlib.Numerals.{add-one}
+use native.Mathlib.Omega.{arith}
+use lib.Ieee.{Float}
+use lib.ListN.{length, getD, set, replicate, length-append, length-set}
+use lib.Seq.{set-at}
+use Rattle.model.specs.declared.Triangle.{Triangle}
+use Rattle.model.specs.Steps.{iterate, listed, total}
+use Rattle.model.specs.Mesh.{Turn, Cell, Fill, Made, madeBy, fillStep, fillTo, triangleOf}
+use Rattle.model.specs.Extraction.{vertexFloats, triangleIndices}
+use Rattle.cells.specs.Buffers.{layVertices, layTriangles, pad}
+use Rattle.cells.specs.Steps.{iterate-upto, iterate-keeps, length-listed, listed-same}
+use Rattle.cells.specs.Laying.{lay-none, lay-append, length-lay}
+use Rattle.cells.specs.Posts.{Room, TurnPut, FillPut, CellPut, Adds}
+
+-- ---- twelve places
+
+getD-zeros : (k p : ℕ) → _≡_ {A = ℕ} (getD (replicate k 0) p 0) 0
+getD-zeros zero p = refl
+getD-zeros (suc k) zero = refl
+getD-zeros (suc k) (suc p) = getD-zeros k p
+
+getD-more : (indices : List ℕ) (k p : ℕ) → getD (indices ++ replicate k 0) p 0 ≡ getD indices p 0
+getD-more [] k p = getD-zeros k p
+getD-more (i ∷ indices) k zero = refl
+getD-more (i ∷ indices) k (suc p) = getD-more indices k p
+
+getD-pad : (indices : List ℕ) (p : ℕ) → getD (pad indices) p 0 ≡ getD indices p 0
+unfolding pad
+getD-pad indices p = getD-more indices (12 - length indices) p
+
+set-pad : (indices : List ℕ) (v : ℕ) → length indices < 12 → set (pad indices) (length indices) v ≡ pad (indices ++ (v ∷ []))
+unfolding pad
+set-pad indices v h =
+    let left : List ℕ = replicate (12 - length (indices ++ (v ∷ []))) 0 in
+    let e : 12 - length indices ≡ suc (12 - length (indices ++ (v ∷ []))) = omega (arith, length-append indices (v ∷ [])) in
+    rw e (set-at indices 0 left v (length indices) refl ∙ sym (append-assoc indices (v ∷ []) left))
+
+-- ---- a cell's vertices
+
+length-kept : (stores : Bool) (store : List ℕ) (place next : ℕ) → length (cond stores (set store place next) store) ≡ length store
+length-kept true store place next = length-set store place next
+length-kept false store place next = refl
+
+module _ (c : Cell) (base : ℕ) (store : List ℕ) where
+  pub fill-made : (k : ℕ) → length (fillTo c base store (suc k) .made)
+      ≡ length (fillTo c base store k .made) + length (madeBy (c .turn k))
+  unfolding fillTo fillStep
+  fill-made k = rw length-append
+
+  fill-grows : (k : ℕ) (f : Fill) → length (f .made) ≤ length (fillStep (c .turn k) (base + length (f .made)) f .made)
+  unfolding fillStep
+  fill-grows k f = omega (arith, length-append (f .made) (madeBy (c .turn k)))
+
+  -- what vertex k makes is within what all of them make
+  pub fill-room : (k m : ℕ) → k < m → length (fillTo c base store k .made) + length (madeBy (c .turn k))
+      ≤ length (fillTo c base store m .made)
+  unfolding fillTo
+  fill-room k m h =
+      rw (← fill-made k)
+      (iterate-upto (λ (f : Fill). length (f .made)) (λ i f. fillStep (c .turn i) (base + length (f .made)) f) fill-grows
+      (record { made = []; index = []; store = store }) (suc k) m h)
+
+  pub length-index : (k : ℕ) → length (fillTo c base store k .index) ≡ k
+  unfolding fillTo fillStep
+  length-index zero = refl
+  length-index (suc k) = rw (length-append, add-one) (ap suc (length-index k))
+
+  pub length-fill-store : (k : ℕ) → length (fillTo c base store k .store) ≡ length store
+  unfolding fillTo fillStep
+  length-fill-store =
+      iterate-keeps (λ (f : Fill). length (f .store)) (λ i f. fillStep (c .turn i) (base + length (f .made)) f)
+      (λ k f. length-kept (c .turn k .stores) (f .store) (c .turn k .place) (base + length (f .made)))
+      (record { made = []; index = []; store = store })
+
+  pub fill-none : (vertices : List Float) → FillPut (fillTo c base store 0) base vertices (replicate 12 0) 0 base vertices store
+  unfolding fillTo pad
+  fill-none vertices =
+      record {
+        index-is = refl;
+        count-is = refl;
+        next-is = sym (add-zero base);
+        vertices-are = sym (lay-none 6 vertexFloats vertices base);
+        store-is = refl;
+      }
+
+  module _ (k : ℕ) (t : Turn) (turn-is : t ≡ c .turn k) (vertices₀ : List Float) (index : List ℕ) (count next : ℕ)
+      (vertices : List Float) (store₁ : List ℕ)
+      (f : FillPut (fillTo c base store k) base vertices₀ index count next vertices store₁) where
+    -- the room that the next vertex wants is there
+    pub fill-ready : (m : ℕ) → k < m → Room 6 (base + length (fillTo c base store m .made)) vertices₀
+        → Room 6 (next + length (madeBy t)) vertices
+    fill-ready m h w =
+        let l : length vertices ≡ length vertices₀ = ap length (f .vertices-are) ∙ length-lay 6 vertexFloats vertices₀ base _ in
+        rw turn-is (record { room = omega (arith, fill-room k m h); short = omega (arith, fill-room k m h) })
+
+    pub fill-more : (made next′ : ℕ) (vertices′ : List Float) (store′ : List ℕ) → k < 12
+        → TurnPut t next vertices store₁ made next′ vertices′ store′
+        → FillPut (fillTo c base store (k + 1)) base vertices₀ (set index k made) (k + 1) next′ vertices′ store′
+    unfolding fillTo fillStep
+    fill-more made next′ vertices′ store′ h p =
+        let i = fillTo c base store k .index in
+        let before = fillTo c base store k .made in
+        let added = madeBy (c .turn k) in
+        let e : length i ≡ k = length-index k in
+        let g : set (pad i) (length i) made ≡ pad (i ++ (made ∷ [])) = set-pad i made (omega arith) in
+        rw add-one
+        (record {
+          index-is = cc;
+          count-is = sym (length-index (suc k));
+          next-is = cc (length-append before added, add-assoc base (length before) (length added));
+          vertices-are = cc (lay-append 6 vertexFloats (λ m. refl) vertices₀ base before added);
+          store-is = cc;
+        })
+
+-- how many vertices a cell makes, from how many each of its turns makes
+pub made-total : (c : Cell) (made : ℕ → ℕ) → ((i : ℕ) → length (madeBy (c .turn i)) ≡ made i) → (base : ℕ) (store : List ℕ) (k : ℕ)
+    → length (fillTo c base store k .made) ≡ total made k
+unfolding fillTo
+made-total c made each-made base store zero = refl
+made-total c made each-made base store (suc k) =
+    fill-made c base store k ∙ rw (made-total c made each-made base store k, each-made k)
+
+-- ---- a cell's triangles
+
+pub triangles-more : (f : ℕ → Triangle) (base k : ℕ) (triangle : Triangle) (triangles₀ triangles triangles′ : List ℕ)
+    → triangle ≡ f k → triangles ≡ layTriangles triangles₀ base (listed f k) → triangles′ ≡ layTriangles triangles (base + k) (triangle ∷ [])
+    → triangles′ ≡ layTriangles triangles₀ base (listed f (k + 1))
+triangles-more f base k triangle triangles₀ triangles triangles′ et es e =
+    rw add-one
+    (cc (lay-append 3 triangleIndices (λ t. refl) triangles₀ base (listed f k) (f k ∷ []), length-listed f k))
+
+-- the places beyond the cell's indices are not read
+triangle-pad : (c : Cell) (index : List ℕ) (t : ℕ) → triangleOf c (pad index) t ≡ triangleOf c index t
+unfolding triangleOf
+triangle-pad c index t = simp getD-pad
+
+-- ---- a whole cell
+
+module _ (c : Cell) (nv nt : ℕ) (vertices : List Float) (triangles store : List ℕ) where
+  pub cell-put : (index : List ℕ) (count nv′ nt′ : ℕ) (vertices′ : List Float) (triangles′ store′ : List ℕ)
+      → FillPut (fillTo c nv store (c .vertices)) nv vertices index count nv′ vertices′ store′
+      → nt′ ≡ nt + c .triangles → triangles′ ≡ layTriangles triangles nt (listed (triangleOf c index) (c .triangles))
+      → CellPut c nv nt vertices triangles store nv′ nt′ vertices′ triangles′ store′
+  cell-put index count nv′ nt′ vertices′ triangles′ store′ f e l =
+      let i = fillTo c nv store (c .vertices) .index in
+      record {
+        nv-is = f .next-is;
+        nt-is = e;
+        vertices-are = f .vertices-are;
+        triangles-are = cc (listed-same (triangleOf c (pad i)) (triangleOf c i) (triangle-pad c i) (c .triangles));
+        store-is = f .store-is;
+      }
+
+  -- a cell with no vertex and no triangle leaves all as it was
+  pub cell-blank : c .vertices ≡ 0 → c .triangles ≡ 0 → CellPut c nv nt vertices triangles store nv nt vertices triangles store
+  unfolding fillTo
+  cell-blank v t =
+      record {
+        nv-is = rw (v, add-zero);
+        nt-is = rw (t, add-zero);
+        vertices-are = rw v (sym (lay-none 6 vertexFloats vertices nv));
+        triangles-are = rw t (sym (lay-none 3 triangleIndices triangles nt));
+        store-is = rw v;
+      }
+
+pub blank-adds : (c : Cell) → c .vertices ≡ 0 → c .triangles ≡ 0 → Adds c 0 0
+unfolding fillTo
+blank-adds c v t = record { few = omega arith; vertices = λ base store. rw v; triangles = t }

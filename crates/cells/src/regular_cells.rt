@@ -1,0 +1,106 @@
+// Regular cells, written or counted. A cell wholly inside or outside leaves early.
+ghost use mathlib.Core.Path.{_≡_};
+ghost use mathlib.Core.List.{List};
+ghost use Prim.Native.Nat.{ℕ, _+_, _≤_, _<_};
+ghost use lib.Ieee.{Float};
+ghost use lib.ListN.{length};
+ghost use Rattle.model.specs.Samples.{sampleLength};
+ghost use Rattle.model.specs.Points.{star};
+ghost use Rattle.model.specs.Mesh.{storeLength, fillTo, regularCell};
+ghost use Rattle.grid.specs.Shape.{Shaped};
+ghost use Rattle.cells.specs.Posts.{Room, CellPut, Adds};
+ghost use Rattle.cells.specs.Rows.{RegularTables};
+use crate::CellIndex;
+use crate::cases::regular_case;
+use crate::whole_cells::count_cell;
+use crate::whole_cells::write_cell;
+use model::Block;
+use model::Counts;
+use model::Xyz;
+use tables::regular_case_cell;
+use tables::regular_case_codes;
+
+pub fn write_regular_cell(
+    block: Block,
+    mask: u8,
+    threshold: f32,
+    centre: &[f32],
+    neighbours: &[f32],
+    classes: &[u8; 256],
+    cells: &[u8; 256],
+    codes: &[u16; 3072],
+    x: usize,
+    y: usize,
+    z: usize,
+    counts: Counts,
+    store: &mut [u32],
+    vertices: &mut [f32],
+    triangles: &mut [u32],
+) -> Counts
+    requires { ⌜ RegularTables (now classes) (now cells) (now codes) ⌝ }
+    requires { ⌜ Shaped (star block mask threshold (now centre) (now neighbours)) ⌝ }
+    requires { ⌜ (x < block .subdivisions) × ((y < block .subdivisions) × (z < block .subdivisions)) ⌝ }
+    requires { ⌜ length (now store) ≡ storeLength (block .subdivisions) ⌝ }
+    requires { ⌜ Room 6 (counts .vertices + length (fillTo (regularCell (star block mask threshold (now centre) (now neighbours)) x y z) (counts .vertices) (now store) (regularCell (star block mask threshold (now centre) (now neighbours)) x y z .vertices) .made)) (now vertices) ⌝ }
+    requires { ⌜ Room 3 (counts .triangles + regularCell (star block mask threshold (now centre) (now neighbours)) x y z .triangles) (now triangles) ⌝ }
+    ensures { λ r. ⌜ CellPut (regularCell (star block mask threshold (now (centre .entry)) (now (neighbours .entry))) x y z) (counts .vertices) (counts .triangles) (now (vertices .entry)) (now (triangles .entry)) (now (store .entry)) (r .vertices) (r .triangles) (now (vertices .exit)) (now (triangles .exit)) (now (store .exit)) ⌝ }
+{
+    let case = regular_case(block, threshold, centre, x, y, z);
+    if case == 0 {
+        return counts;
+    }
+    if case == 255 {
+        return counts;
+    }
+    write_cell(
+        block,
+        mask,
+        threshold,
+        centre,
+        neighbours,
+        CellIndex::Regular(Xyz { x, y, z }),
+        regular_case_codes(codes, case),
+        regular_case_cell(classes, cells, case),
+        false,
+        counts,
+        store,
+        vertices,
+        triangles,
+    )
+}
+
+pub fn count_regular_cell(
+    block: Block,
+    threshold: f32,
+    centre: &[f32],
+    classes: &[u8; 256],
+    cells: &[u8; 256],
+    codes: &[u16; 3072],
+    x: usize,
+    y: usize,
+    z: usize,
+) -> Counts
+    requires { ⌜ RegularTables (now classes) (now cells) (now codes) ⌝ }
+    requires { ⌜ (block .subdivisions ≤ 16) × (length (now centre) ≡ sampleLength (block .subdivisions)) ⌝ }
+    requires { ⌜ (x < block .subdivisions) × ((y < block .subdivisions) × (z < block .subdivisions)) ⌝ }
+    ensures { λ r. ⌜ ((mask : ℕ) (ns : List Float) → Adds (regularCell (star block mask threshold (now (centre .entry)) ns) x y z) (r .vertices) (r .triangles)) ⌝ }
+{
+    let case = regular_case(block, threshold, centre, x, y, z);
+    if case == 0 {
+        return Counts {
+            vertices: 0,
+            triangles: 0,
+        };
+    }
+    if case == 255 {
+        return Counts {
+            vertices: 0,
+            triangles: 0,
+        };
+    }
+    count_cell(
+        CellIndex::Regular(Xyz { x, y, z }),
+        regular_case_codes(codes, case),
+        regular_case_cell(classes, cells, case),
+    )
+}

@@ -1,0 +1,77 @@
+// A cell's triangles, from its class's row of cell data and the indices of its vertices. Both kinds of cell have such a row.
+ghost use mathlib.Core.Path.{_≡_};
+ghost use Prim.Native.Nat.{ℕ, _+_, _*_, _≤_, _<_};
+ghost use lib.ListN.{length, getD};
+ghost use Rattle.tables.specs.Cases.{verticesOf, trianglesOf, cornerOf};
+ghost use Rattle.model.specs.Steps.{listed};
+ghost use Rattle.cells.specs.Buffers.{layTriangles};
+ghost use Rattle.cells.specs.Posts.{Room};
+ghost use Rattle.cells.specs.Rows.{Followed, rowTriangle};
+use crate::buffers::put_triangle;
+use model::CellVertices;
+use model::Triangle;
+
+fn wide(byte: u8) -> usize
+    ensures { λ r. ⌜ r ≡ byte ⌝ }
+{
+    byte as usize
+}
+
+pub fn vertex_count(row: &[u8]) -> usize
+    requires { ⌜ 0 < length (now row) ⌝ }
+    ensures { λ r. ⌜ r ≡ verticesOf (now (row .entry)) ⌝ }
+{
+    wide(row[0]) / 16
+}
+
+pub fn triangle_count(row: &[u8]) -> usize
+    requires { ⌜ 0 < length (now row) ⌝ }
+    ensures { λ r. ⌜ r ≡ trianglesOf (now (row .entry)) ⌝ }
+{
+    wide(row[0]) % 16
+}
+
+// The index of the vertex that stands at corner j.
+fn corner_index(row: &[u8], cell: CellVertices, j: usize) -> u32
+    requires { ⌜ Followed (now row) ⌝ }
+    requires { ⌜ j < 3 * trianglesOf (now row) ⌝ }
+    ensures { λ r. ⌜ r ≡ getD (cell .index) (cornerOf (now (row .entry)) j) 0 ⌝ }
+{
+    let at = wide(row[j + 1]);
+    cell.index[at]
+}
+
+fn triangle(row: &[u8], turned: bool, cell: CellVertices, t: usize) -> Triangle
+    requires { ⌜ Followed (now row) ⌝ }
+    requires { ⌜ t < trianglesOf (now row) ⌝ }
+    ensures { λ r. ⌜ r ≡ rowTriangle (now (row .entry)) turned (cell .index) t ⌝ }
+{
+    let a = corner_index(row, cell, 3 * t);
+    let b = corner_index(row, cell, 3 * t + 1);
+    let c = corner_index(row, cell, 3 * t + 2);
+    if turned {
+        return Triangle { a: c, b: b, c: a };
+    }
+    Triangle { a: a, b: b, c: c }
+}
+
+pub fn put_triangles(
+    row: &[u8],
+    turned: bool,
+    cell: CellVertices,
+    triangles: &mut [u32],
+    base: usize,
+) -> usize
+    requires { ⌜ Followed (now row) ⌝ }
+    requires { ⌜ Room 3 (base + trianglesOf (now row)) (now triangles) ⌝ }
+    ensures { λ r. ⌜ r ≡ base + trianglesOf (now (row .entry)) ⌝ }
+    ensures { λ _. ⌜ now (triangles .exit) ≡ layTriangles (now (triangles .entry)) base (listed (rowTriangle (now (row .entry)) turned (cell .index)) (trianglesOf (now (row .entry)))) ⌝ }
+{
+    let count = triangle_count(row);
+    let mut t = 0;
+    while t < count {
+        put_triangle(triangles, base + t, triangle(row, turned, cell, t));
+        t += 1;
+    }
+    base + count
+}

@@ -1,0 +1,234 @@
+// A cell's vertices: each is made and put into the buffer, or taken from the index store.
+ghost use mathlib.Core.Path.{_≡_};
+ghost use mathlib.Core.Bool.{false};
+ghost use mathlib.Core.List.{List};
+ghost use Prim.Native.Nat.{ℕ, _+_, _*_, _≤_, _<_};
+ghost use lib.Ieee.{Float};
+ghost use lib.ListN.{length};
+ghost use Rattle.tables.specs.Cases.{verticesOf};
+ghost use Rattle.model.specs.Samples.{sampleLength};
+ghost use Rattle.model.specs.Points.{star, cornerPoint};
+ghost use Rattle.model.specs.Mesh.{storeLength, madeBy, fillTo, regularVertex, transitionVertex};
+ghost use Rattle.grid.specs.Places.{Within};
+ghost use Rattle.cells.specs.Kinds.{turnAt, placeAt, InBlock, Placed, slots, Ready, Usable, cellOf, Coded};
+ghost use Rattle.cells.specs.Posts.{Room, TurnPut, FillPut};
+use crate::CellIndex;
+use crate::buffers::put_vertex;
+use crate::codes::back;
+use crate::codes::makes;
+use crate::triangles::vertex_count;
+use grid::shared_vertex_indices::regular_place;
+use grid::shared_vertex_indices::transition_place;
+use model::Block;
+use model::CellVertices;
+use model::FacePoint;
+use model::Vertex;
+use model::Xyz;
+use points::formulas::vertex_between;
+use points::grid_point::regular_point;
+use points::grid_point::transition_point;
+use tables::aux_tables::cell_point;
+use tables::tables_wrapper::new_vertex;
+use tables::tables_wrapper::reuse_index;
+use tables::tables_wrapper::voxel_a_index;
+use tables::tables_wrapper::voxel_b_index;
+
+// A cell's vertex, and the index of the next one that is made.
+struct Indexed {
+    index: u32,
+    next: usize,
+}
+
+pub struct Filled {
+    pub cell: CellVertices,
+    pub next: usize,
+}
+
+// The place of the index store for a reuse index.
+fn place(n: usize, at: CellIndex, r: usize) -> usize
+    requires { ⌜ (n ≤ 16) × (Placed n at × (r < slots at)) ⌝ }
+    ensures { λ p. ⌜ (p ≡ placeAt n at r) × (p < storeLength n) ⌝ }
+{
+    match at {
+        CellIndex::Regular(cell) => regular_place(n, cell.x, cell.y, cell.z, r),
+        CellIndex::Transition(cell) => transition_place(n, cell.side, cell.u, cell.v, r),
+    }
+}
+
+fn corner_point(at: Xyz, k: usize) -> Xyz
+    requires { ⌜ InBlock 16 (at .x) (at .y) (at .z) ⌝ }
+    ensures { λ r. ⌜ r ≡ cornerPoint (at .x) (at .y) (at .z) k ⌝ }
+{
+    Xyz {
+        x: at.x + k % 2,
+        y: at.y + k / 2 % 2,
+        z: at.z + k / 4 % 2,
+    }
+}
+
+fn regular_vertex(
+    block: Block,
+    mask: u8,
+    threshold: f32,
+    centre: &[f32],
+    at: Xyz,
+    code: u16,
+) -> Vertex
+    requires { ⌜ (block .subdivisions ≤ 16) × (length (now centre) ≡ sampleLength (block .subdivisions)) ⌝ }
+    requires { ⌜ InBlock (block .subdivisions) (at .x) (at .y) (at .z) ⌝ }
+    ensures { λ r. ⌜ ((ns : List Float) → r ≡ regularVertex (star block mask threshold (now (centre .entry)) ns) (at .x) (at .y) (at .z) code) ⌝ }
+{
+    let a = corner_point(at, voxel_a_index(code));
+    let b = corner_point(at, voxel_b_index(code));
+    vertex_between(
+        threshold,
+        regular_point(block, mask, centre, a),
+        regular_point(block, mask, centre, b),
+    )
+}
+
+fn transition_vertex(
+    block: Block,
+    mask: u8,
+    threshold: f32,
+    centre: &[f32],
+    neighbours: &[f32],
+    at: FacePoint,
+    code: u16,
+) -> Vertex
+    requires { ⌜ Ready (star block mask threshold (now centre) (now neighbours)) (CellIndex.Transition at) ⌝ }
+    requires { ⌜ Usable (CellIndex.Transition at) code ⌝ }
+    ensures { λ r. ⌜ r ≡ transitionVertex (star block mask threshold (now (centre .entry)) (now (neighbours .entry))) (at .side) (at .u) (at .v) code ⌝ }
+{
+    let side = at.side;
+    let u = at.u;
+    let v = at.v;
+    let a = cell_point(voxel_a_index(code));
+    let b = cell_point(voxel_b_index(code));
+    vertex_between(
+        threshold,
+        transition_point(block, mask, centre, neighbours, side, u, v, a),
+        transition_point(block, mask, centre, neighbours, side, u, v, b),
+    )
+}
+
+fn vertex(
+    block: Block,
+    mask: u8,
+    threshold: f32,
+    centre: &[f32],
+    neighbours: &[f32],
+    at: CellIndex,
+    code: u16,
+) -> Vertex
+    requires { ⌜ Ready (star block mask threshold (now centre) (now neighbours)) at ⌝ }
+    requires { ⌜ Usable at code ⌝ }
+    ensures { λ r. ⌜ r ≡ turnAt (star block mask threshold (now (centre .entry)) (now (neighbours .entry))) at code .made .vertex ⌝ }
+{
+    match at {
+        CellIndex::Regular(cell) => regular_vertex(block, mask, threshold, centre, cell, code),
+        CellIndex::Transition(cell) => {
+            transition_vertex(block, mask, threshold, centre, neighbours, cell, code)
+        }
+    }
+}
+
+// New: make and store. Otherwise, if the steps asked for stay inside, take the stored index of that cell; if one does not, make a new
+// vertex that is not stored.
+fn put_code(
+    block: Block,
+    mask: u8,
+    threshold: f32,
+    centre: &[f32],
+    neighbours: &[f32],
+    at: CellIndex,
+    code: u16,
+    store: &mut [u32],
+    vertices: &mut [f32],
+    next: usize,
+) -> Indexed
+    requires { ⌜ Ready (star block mask threshold (now centre) (now neighbours)) at ⌝ }
+    requires { ⌜ Usable at code ⌝ }
+    requires { ⌜ length (now store) ≡ storeLength (block .subdivisions) ⌝ }
+    requires { ⌜ Room 6 (next + length (madeBy (turnAt (star block mask threshold (now centre) (now neighbours)) at code))) (now vertices) ⌝ }
+    ensures { λ r. ⌜ TurnPut (turnAt (star block mask threshold (now (centre .entry)) (now (neighbours .entry))) at code) next (now (vertices .entry)) (now (store .entry)) (r .index) (r .next) (now (vertices .exit)) (now (store .exit)) ⌝ }
+{
+    let n = block.subdivisions;
+    let r = reuse_index(code);
+    if makes(at, code) {
+        put_vertex(
+            vertices,
+            next,
+            vertex(block, mask, threshold, centre, neighbours, at, code),
+        );
+        let index = next as u32;
+        if new_vertex(code) {
+            let own = place(n, at, r);
+            store[own] = index;
+            return Indexed {
+                index: index,
+                next: next + 1,
+            };
+        }
+        return Indexed {
+            index: index,
+            next: next + 1,
+        };
+    }
+    let shared = place(n, back(at, code), r);
+    Indexed {
+        index: store[shared],
+        next: next,
+    }
+}
+
+// The vertices of a cell, after base others.
+pub fn fill_cell(
+    block: Block,
+    mask: u8,
+    threshold: f32,
+    centre: &[f32],
+    neighbours: &[f32],
+    at: CellIndex,
+    codes: &[u16],
+    row: &[u8],
+    store: &mut [u32],
+    vertices: &mut [f32],
+    base: usize,
+) -> Filled
+    requires { ⌜ Ready (star block mask threshold (now centre) (now neighbours)) at ⌝ }
+    requires { ⌜ (0 < length (now row)) × ((verticesOf (now row) ≤ 12) × Coded at (now codes) (verticesOf (now row))) ⌝ }
+    requires { ⌜ length (now store) ≡ storeLength (block .subdivisions) ⌝ }
+    requires { ⌜ Room 6 (base + length (fillTo (cellOf (star block mask threshold (now centre) (now neighbours)) at (now codes) (now row) false) base (now store) (verticesOf (now row)) .made)) (now vertices) ⌝ }
+    ensures { λ r. ⌜ FillPut (fillTo (cellOf (star block mask threshold (now (centre .entry)) (now (neighbours .entry))) at (now (codes .entry)) (now (row .entry)) false) base (now (store .entry)) (verticesOf (now (row .entry)))) base (now (vertices .entry)) (r .cell .index) (r .cell .count) (r .next) (now (vertices .exit)) (now (store .exit)) ⌝ }
+{
+    let count = vertex_count(row);
+    let mut cell = CellVertices {
+        index: [0; 12],
+        count: 0,
+    };
+    let mut next = base;
+    let mut k = 0;
+    while k < count {
+        let put = put_code(
+            block,
+            mask,
+            threshold,
+            centre,
+            neighbours,
+            at,
+            codes[k],
+            store,
+            vertices,
+            next,
+        );
+        cell.index[k] = put.index;
+        k += 1;
+        cell.count = k;
+        next = put.next;
+    }
+    Filled {
+        cell: cell,
+        next: next,
+    }
+}
