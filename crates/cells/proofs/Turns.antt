@@ -19,7 +19,7 @@ use Rattle.cells.specs.declared.CellIndex.{CellIndex}
 use Rattle.cells.specs.declared.CellIndex.the-variants.{Regular, Transition}
 use Rattle.cells.specs.Buffers.{layVertices}
 use Rattle.cells.specs.Laying.{lay-none}
-use Rattle.cells.specs.Kinds.{turnAt, makesAt, backFrom, placeAt, InBlock, OnSide, Placed, slots}
+use Rattle.cells.specs.Kinds.{turnAt, makesAt, backFrom, placeAt, InBlock, OnSide, Placed, slots, Usable}
 use Rattle.cells.specs.Posts.{TurnPut}
 use Rattle.cells.proofs.Staying.{neither}
 
@@ -72,14 +72,25 @@ regular-in e p = rw e at p
 pub transition-in : {n : ℕ} {at : CellIndex} {cell : FacePoint} → at ≡ Transition cell → Placed n at → OnSide n (cell .side) (cell .u) (cell .v)
 transition-in e p = rw e at p
 
--- the cell that a code steps back to lies where the cell does
-pub back-placed : (n : ℕ) (at : CellIndex) (code : ℕ) → Placed n at → Placed n (backFrom at code)
-back-placed n (Regular at) code p = record { x-in = omega arith; y-in = omega arith; z-in = omega arith }
-back-placed n (Transition at) code p = record { side-in = p .side-in; u-in = omega arith; v-in = omega arith }
+-- the reuse index that was read of a usable code is one of the cell's
+pub index-within : (at : CellIndex) (code r : ℕ) → Usable at code → r ≡ reuseIndex code → r < slots at
+index-within at code r usable e = rw e (usable .index-in)
 
-pub back-slots : (at : CellIndex) (code : ℕ) → slots (backFrom at code) ≡ slots at
-back-slots (Regular at) code = refl
-back-slots (Transition at) code = refl
+-- the cell that a code steps back to lies where the cell does, and can store as many indices
+module _ (code : ℕ) where
+  pub back-placed : (n : ℕ) (at from : CellIndex) → from ≡ backFrom at code → Placed n at → Placed n from
+  back-placed n at from e p = rw e (go at p)
+    where
+      go : (at : CellIndex) → Placed n at → Placed n (backFrom at code)
+      go (Regular at) p = record { x-in = omega arith; y-in = omega arith; z-in = omega arith }
+      go (Transition at) p = record { side-in = p .side-in; u-in = omega arith; v-in = omega arith }
+
+  pub back-within : (r : ℕ) (at from : CellIndex) → from ≡ backFrom at code → r < slots at → r < slots from
+  back-within r at from e h = rw e (go at h)
+    where
+      go : (at : CellIndex) → r < slots at → r < slots (backFrom at code)
+      go (Regular at) h = h
+      go (Transition at) h = h
 
 made-by-test : (t : Turn) (makes : Bool) → t .makes ≡ makes → length (madeBy t) ≡ cond makes 1 0
 made-by-test t true e = rw e

@@ -155,14 +155,16 @@ fn put_code(
 {
     let n = block.subdivisions;
     let r = reuse_index(code);
-    if makes(at, code) {
+    let new = new_vertex(code);
+    let made = makes(at, code);
+    if made {
         put_vertex(
             vertices,
             next,
             vertex(block, mask, threshold, centre, neighbours, at, code),
         );
         let index = next as u32;
-        if new_vertex(code) {
+        if new {
             let own = place(n, at, r);
             store[own] = index;
             return Indexed {

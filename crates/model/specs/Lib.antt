@@ -11,3 +11,4 @@ pub mod Extraction
 pub mod Record
 pub mod Viewer
 pub mod Figures
+pub mod Pinned

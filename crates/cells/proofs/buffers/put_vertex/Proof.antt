@@ -1,90 +1,69 @@
-use native.Mathlib.Omega.{arith}
-use lib.ListN.{length-set}
+-- `buffers::put_vertex` meets its contract: six stores are the items laid, whatever the edge. Assumes nothing.
 use native.Mathlib.Numerals.{towards-suc}
-use Rattle.cells.specs.Buffers.{lay}
+use native.Mathlib.Omega.{arith}
 use borrow.Author.Needs.{needs}
+use lib.ListN.{length-set}
+use Rattle.cells.specs.Buffers.{lay}
 use Rattle.cells.proofs.buffers.put_vertex.Statement.{statement}
 use Rattle.cells.proofs.buffers.put_vertex.Tie as tie
-use Rattle.cells.proofs.buffers.put_vertex.Reads as reads
-use Rattle.cells.proofs.buffers.put_vertex.Lts as lts
 
--- src/buffers.rt:16:13
 mul-i : tie.Need-mul-i
 mul-i c = search needs
 
--- src/buffers.rt:17:5
 mul-vertices : tie.Need-mul-vertices
 mul-vertices c = search needs
 
--- src/buffers.rt:17:5
 slice-write-vertices : tie.Need-slice-write-vertices
 slice-write-vertices c = search needs
 
--- src/buffers.rt:18:14
 add-vertices : tie.Need-add-vertices
 add-vertices c = search needs
 
--- src/buffers.rt:18:5
 mul-vertices-2 : tie.Need-mul-vertices-2
 mul-vertices-2 c = search needs
 
--- src/buffers.rt:18:5
 slice-write-vertices-2 : tie.Need-slice-write-vertices-2
 slice-write-vertices-2 c = simp length-set (omega arith)
 
--- src/buffers.rt:19:14
 add-vertices-2 : tie.Need-add-vertices-2
 add-vertices-2 c = search needs
 
--- src/buffers.rt:19:5
 mul-vertices-3 : tie.Need-mul-vertices-3
 mul-vertices-3 c = search needs
 
--- src/buffers.rt:19:5
 slice-write-vertices-3 : tie.Need-slice-write-vertices-3
 slice-write-vertices-3 c = simp length-set (omega arith)
 
--- src/buffers.rt:20:14
 add-vertices-3 : tie.Need-add-vertices-3
 add-vertices-3 c = search needs
 
--- src/buffers.rt:20:5
 mul-vertices-4 : tie.Need-mul-vertices-4
 mul-vertices-4 c = search needs
 
--- src/buffers.rt:20:5
 slice-write-vertices-4 : tie.Need-slice-write-vertices-4
 slice-write-vertices-4 c = simp length-set (omega arith)
 
--- src/buffers.rt:21:14
 add-vertices-4 : tie.Need-add-vertices-4
 add-vertices-4 c = search needs
 
--- src/buffers.rt:21:5
 mul-vertices-5 : tie.Need-mul-vertices-5
 mul-vertices-5 c = search needs
 
--- src/buffers.rt:21:5
 slice-write-vertices-5 : tie.Need-slice-write-vertices-5
 slice-write-vertices-5 c = simp length-set (omega arith)
 
--- src/buffers.rt:22:14
 add-vertices-5 : tie.Need-add-vertices-5
 add-vertices-5 c = search needs
 
--- src/buffers.rt:22:5
 mul-vertices-6 : tie.Need-mul-vertices-6
 mul-vertices-6 c = search needs
 
--- src/buffers.rt:22:5
 slice-write-vertices-6 : tie.Need-slice-write-vertices-6
 slice-write-vertices-6 c = simp length-set (omega arith)
 
--- src/buffers.rt:12:1
 same-length : tie.Need-same-length
 same-length c = search needs
 
--- src/buffers.rt:12:1
 returns : tie.Need-returns
 unfolding lay
 returns c = λ edge. simp towards-suc

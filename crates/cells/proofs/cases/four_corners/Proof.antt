@@ -1,69 +1,52 @@
-use Rattle.cells.proofs.Bits.{four}
+-- `cases::four_corners` meets its contract: the four bits are the first four of the case number. Assumes nothing.
 use native.Mathlib.Omega.{arith}
 use borrow.Author.Needs.{needs}
+use Rattle.cells.proofs.Bits.{four}
 use Rattle.cells.proofs.cases.four_corners.Statement.{statement}
 use Rattle.cells.proofs.cases.four_corners.Tie as tie
-use Rattle.cells.proofs.cases.four_corners.Reads as reads
-use Rattle.cells.proofs.cases.four_corners.Lts as lts
-use Rattle.cells.proofs.cases.corner_bit.Reads as corner-bit-reads
 
--- src/cases.rt:43:9
 corner-bit-requires : tie.Need-corner-bit-requires
 corner-bit-requires c κs = search needs
 
--- src/cases.rt:44:46
 add-corner-bit : tie.Need-add-corner-bit
 add-corner-bit c = search needs
 
--- src/cases.rt:44:9
 corner-bit-requires-2 : tie.Need-corner-bit-requires-2
 corner-bit-requires-2 c κs = search needs
 
--- src/cases.rt:45:49
 add-corner-bit-2 : tie.Need-add-corner-bit-2
 add-corner-bit-2 c = search needs
 
--- src/cases.rt:45:9
 corner-bit-requires-3 : tie.Need-corner-bit-requires-3
 corner-bit-requires-3 c κs = search needs
 
--- src/cases.rt:46:46
 add-corner-bit-3 : tie.Need-add-corner-bit-3
 add-corner-bit-3 c = search needs
 
--- src/cases.rt:46:53
 add-corner-bit-4 : tie.Need-add-corner-bit-4
 add-corner-bit-4 c = search needs
 
--- src/cases.rt:46:9
 corner-bit-requires-4 : tie.Need-corner-bit-requires-4
 corner-bit-requires-4 c κs = search needs
 
--- src/cases.rt:47:9
 mul-result : tie.Need-mul-result
 mul-result c = search needs
 
--- src/cases.rt:47:5
 add-result : tie.Need-add-result
 add-result c = search needs
 
--- src/cases.rt:47:17
 mul-result-2 : tie.Need-mul-result-2
 mul-result-2 c = search needs
 
--- src/cases.rt:47:5
 add-result-2 : tie.Need-add-result-2
 add-result-2 c = search needs
 
--- src/cases.rt:47:25
 mul-result-3 : tie.Need-mul-result-3
 mul-result-3 c = search needs
 
--- src/cases.rt:47:5
 add-result-3 : tie.Need-add-result-3
 add-result-3 c = search needs
 
--- src/cases.rt:38:1
 returns : tie.Need-returns
 returns c =
     let a = c .before .before .before .before .before .args in (

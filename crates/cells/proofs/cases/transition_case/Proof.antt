@@ -1,21 +1,19 @@
-use Rattle.cells.proofs.Bits.{contribution-small, all-contributions, at-most}
-use Rattle.model.specs.Points.{star, fineSample, transitionCase}
-use Rattle.model.specs.Formulas.{insideBit}
-use Rattle.model.specs.Steps.{total}
-use Rattle.tables.specs.Points.{contributionOf}
-use lib.Ieee.{Float}
-use mathlib.Core.List.{List}
-use mathlib.Core.Path.{_≡_, refl, _∙_}
+-- `cases::transition_case` meets its contract. The loop's invariant: the case number so far is the sum over the points passed, and at most
+-- the sum of their contributions. Assumes nothing.
 use Prim.Native.Nat.{_+_, _-_, _*_, _/_, _%_, _≤_}
+use mathlib.Core.List.{List}
+use mathlib.Core.Path.{_≡_, refl}
 use native.Mathlib.Numerals.{add-one}
 use native.Mathlib.Omega.{arith}
 use borrow.Author.Needs.{needs}
+use lib.Ieee.{Float}
+use Rattle.tables.specs.Points.{contributionOf}
+use Rattle.model.specs.Formulas.{insideBit}
+use Rattle.model.specs.Points.{star, fineSample, transitionCase}
+use Rattle.model.specs.Steps.{total}
+use Rattle.cells.proofs.Bits.{contribution-small, all-contributions, at-most}
 use Rattle.cells.proofs.cases.transition_case.Statement.{statement}
 use Rattle.cells.proofs.cases.transition_case.Tie as tie
-use Rattle.cells.proofs.cases.transition_case.Reads as reads
-use Rattle.cells.proofs.cases.transition_case.Lts as lts
-use Rattle.cells.proofs.cases.fine_bit.Reads as fine-bit-reads
-use Rattle.tables.proofs.aux_tables.contribution.Reads as contribution-reads
 
 abbrev Inv-loop : tie.InvT-loop
 Inv-loop block mask threshold neighbours side u v case₀ k₀ case k =
@@ -26,53 +24,41 @@ Inv-loop block mask threshold neighbours side u v case₀ k₀ case k =
 abbrev μ-loop : tie.MeasureT-loop
 μ-loop block mask threshold neighbours side u v case₀ k₀ case k = 9 - k
 
--- src/cases.rt:95:5
 loop-holds : tie.Need-loop-holds Inv-loop μ-loop
 loop-holds c = (omega arith, (omega arith, (omega arith, λ centre. refl)))
 
--- src/cases.rt:96:18
 mul-u2 : tie.Need-mul-u2 Inv-loop μ-loop
 mul-u2 c = search needs
 
--- src/cases.rt:96:18
 add-u2 : tie.Need-add-u2 Inv-loop μ-loop
 add-u2 c = search needs
 
--- src/cases.rt:97:18
 mul-v2 : tie.Need-mul-v2 Inv-loop μ-loop
 mul-v2 c = search needs
 
--- src/cases.rt:97:18
 add-v2 : tie.Need-add-v2 Inv-loop μ-loop
 add-v2 c = search needs
 
--- src/cases.rt:98:17
 contribution-requires : tie.Need-contribution-requires Inv-loop μ-loop
 contribution-requires c κs = search needs
 
--- src/cases.rt:98:35
 fine-bit-requires : tie.Need-fine-bit-requires Inv-loop μ-loop
 fine-bit-requires c κs = search needs
 
--- src/cases.rt:98:17
 mul-case : tie.Need-mul-case Inv-loop μ-loop
 mul-case c =
     omega (arith, contribution-small (c .before .before .before .loop .k) (c .before .before .loop-test .taken), at-most {a = c .before .contribution .result} (c .fine-bit .ensures .1))
 
--- src/cases.rt:98:9
 add-case : tie.Need-add-case Inv-loop μ-loop
 add-case c =
     omega (arith, contribution-small (c .before .before .before .loop .k) (c .before .before .loop-test .taken), at-most {a = c .before .contribution .result} (c .fine-bit .ensures .1))
 
--- src/cases.rt:99:9
 add-k : tie.Need-add-k Inv-loop μ-loop
 add-k c = search needs
 
--- src/cases.rt:95:5
 loop-less : tie.Need-loop-less Inv-loop μ-loop
 loop-less c = search needs
 
--- src/cases.rt:95:5
 loop-again : tie.Need-loop-again Inv-loop μ-loop
 loop-again c =
     let l = c .before .before .before .loop in
@@ -85,7 +71,6 @@ loop-again c =
       ),
     )
 
--- src/cases.rt:79:1
 returns : tie.Need-returns Inv-loop μ-loop
 unfolding transitionCase
 returns c =

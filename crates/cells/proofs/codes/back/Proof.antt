@@ -1,35 +1,26 @@
-use Rattle.cells.proofs.Staying.{regular-kept, transition-kept}
-use Rattle.cells.specs.declared.CellIndex.the-variants.{Regular, Transition}
+-- `codes::back` meets its contract, for each kind of cell: a code that makes no vertex stays inside. Assumes nothing.
 use mathlib.Core.Path.{ap}
 use borrow.Author.Needs.{needs}
+use Rattle.cells.specs.declared.CellIndex.the-variants.{Regular, Transition}
+use Rattle.cells.proofs.Staying.{regular-kept, transition-kept}
 use Rattle.cells.proofs.codes.back.Statement.{statement}
 use Rattle.cells.proofs.codes.back.Tie as tie
-use Rattle.cells.proofs.codes.back.Reads as reads
-use Rattle.cells.proofs.codes.back.Lts as lts
-use Rattle.cells.proofs.codes.regular_back.Reads as regular-back-reads
-use Rattle.cells.proofs.codes.transition_back.Reads as transition-back-reads
 
--- src/codes.rt:71:28
 enum-known-at : tie.Need-enum-known-at
 enum-known-at c = search needs
 
--- src/codes.rt:71:56
 regular-back-requires : tie.Need-regular-back-requires
 regular-back-requires c κs = let b = c .before .before .before in regular-kept (b .args .at) (b .args .code) (b .pre) _ (c .before .at .given .1)
 
--- src/codes.rt:72:31
 enum-known-at-2 : tie.Need-enum-known-at-2
 enum-known-at-2 c = search needs
 
--- src/codes.rt:72:62
 transition-back-requires : tie.Need-transition-back-requires
 transition-back-requires c κs = let b = c .before .before .before in transition-kept (b .args .at) (b .args .code) (b .pre) _ (c .before .at2 .given .1)
 
--- src/codes.rt:66:1
 returns : tie.Need-returns
 returns c = rw (c .before .before .at .given .1) (ap Regular (c .regular-back .ensures))
 
--- src/codes.rt:66:1
 returns-2 : tie.Need-returns-2
 returns-2 c = rw (c .before .before .at2 .given .1) (ap Transition (c .transition-back .ensures))
 

@@ -1,17 +1,15 @@
-use Rattle.cells.specs.Kinds.{makesAt}
-use Rattle.model.specs.Steps.{total}
-use lib.ListN.{getD}
+-- `codes::count_made` meets its contract. The loop's invariant: the count is the sum over the codes passed. Assumes nothing.
+use Prim.Native.Nat.{_-_, _≤_}
 use mathlib.Core.Bool.{cond}
 use mathlib.Core.Path.{_≡_}
-use Prim.Native.Nat.{ℕ, _-_, _≤_}
 use native.Mathlib.Numerals.{add-one}
 use native.Mathlib.Omega.{arith}
 use borrow.Author.Needs.{needs}
+use lib.ListN.{getD}
+use Rattle.model.specs.Steps.{total}
+use Rattle.cells.specs.Kinds.{makesAt}
 use Rattle.cells.proofs.codes.count_made.Statement.{statement}
 use Rattle.cells.proofs.codes.count_made.Tie as tie
-use Rattle.cells.proofs.codes.count_made.Reads as reads
-use Rattle.cells.proofs.codes.count_made.Lts as lts
-use Rattle.cells.proofs.codes.made_by.Reads as made-by-reads
 
 abbrev Inv-loop : tie.InvT-loop
 Inv-loop at codes count made₀ k₀ made k =
@@ -20,39 +18,30 @@ Inv-loop at codes count made₀ k₀ made k =
 abbrev μ-loop : tie.MeasureT-loop
 μ-loop at codes count made₀ k₀ made k = count - k
 
--- src/codes.rt:75:5
 loop-holds : tie.Need-loop-holds Inv-loop μ-loop
 loop-holds c = search needs
 
--- src/codes.rt:76:29
 mul-made-by : tie.Need-mul-made-by Inv-loop μ-loop
 mul-made-by c = search needs
 
--- src/codes.rt:76:29
 shared-slice-read-made-by : tie.Need-shared-slice-read-made-by Inv-loop μ-loop
 shared-slice-read-made-by c = search needs
 
--- src/codes.rt:76:17
 made-by-requires : tie.Need-made-by-requires Inv-loop μ-loop
 made-by-requires c κs = search needs
 
--- src/codes.rt:76:9
 add-made : tie.Need-add-made Inv-loop μ-loop
 add-made c = search needs
 
--- src/codes.rt:77:9
 add-k : tie.Need-add-k Inv-loop μ-loop
 add-k c = search needs
 
--- src/codes.rt:75:5
 loop-less : tie.Need-loop-less Inv-loop μ-loop
 loop-less c = search needs
 
--- src/codes.rt:75:5
 loop-again : tie.Need-loop-again Inv-loop μ-loop
 loop-again c = (search needs, (search needs, rw add-one (cc)))
 
--- src/codes.rt:69:1
 returns : tie.Need-returns Inv-loop μ-loop
 returns c =
     let l = c .before .loop in

@@ -1,45 +1,34 @@
-use Rattle.cells.proofs.Staying.{regular-stays}
+-- `codes::regular_back` meets its contract: no step leaves the block, so no difference wraps. Assumes nothing.
 use native.Mathlib.Omega.{arith}
 use borrow.Author.Needs.{needs}
+use Rattle.cells.proofs.Staying.{regular-stays}
 use Rattle.cells.proofs.codes.regular_back.Statement.{statement}
 use Rattle.cells.proofs.codes.regular_back.Tie as tie
-use Rattle.cells.proofs.codes.regular_back.Reads as reads
-use Rattle.cells.proofs.codes.regular_back.Lts as lts
-use Rattle.tables.proofs.tables_wrapper.reuse_dx.Reads as reuse-dx-reads
-use Rattle.tables.proofs.tables_wrapper.reuse_dy.Reads as reuse-dy-reads
-use Rattle.tables.proofs.tables_wrapper.reuse_dz.Reads as reuse-dz-reads
 
--- src/codes.rt:48:19
 reuse-dx-requires : tie.Need-reuse-dx-requires
 reuse-dx-requires c κs = search needs
 
--- src/codes.rt:48:12
 sub-t4 : tie.Need-sub-t4
 sub-t4 c =
     let b = c .before .before in
     omega (arith, regular-stays (b .args .at .x) (b .args .at .y) (b .args .at .z) (b .args .code) (b .pre) .0)
 
--- src/codes.rt:49:19
 reuse-dy-requires : tie.Need-reuse-dy-requires
 reuse-dy-requires c κs = search needs
 
--- src/codes.rt:49:12
 sub-t6 : tie.Need-sub-t6
 sub-t6 c =
     let b = c .before .before .before .before in
     omega (arith, regular-stays (b .args .at .x) (b .args .at .y) (b .args .at .z) (b .args .code) (b .pre) .1)
 
--- src/codes.rt:50:19
 reuse-dz-requires : tie.Need-reuse-dz-requires
 reuse-dz-requires c κs = search needs
 
--- src/codes.rt:50:12
 sub-t8 : tie.Need-sub-t8
 sub-t8 c =
     let b = c .before .before .before .before .before .before in
     omega (arith, regular-stays (b .args .at .x) (b .args .at .y) (b .args .at .z) (b .args .code) (b .pre) .2)
 
--- src/codes.rt:43:1
 returns : tie.Need-returns
 returns c = cc
 

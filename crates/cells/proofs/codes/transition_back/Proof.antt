@@ -1,34 +1,26 @@
-use Rattle.cells.proofs.Staying.{transition-stays}
+-- `codes::transition_back` meets its contract: no step leaves the face, so no difference wraps. Assumes nothing.
 use native.Mathlib.Omega.{arith}
 use borrow.Author.Needs.{needs}
+use Rattle.cells.proofs.Staying.{transition-stays}
 use Rattle.cells.proofs.codes.transition_back.Statement.{statement}
 use Rattle.cells.proofs.codes.transition_back.Tie as tie
-use Rattle.cells.proofs.codes.transition_back.Reads as reads
-use Rattle.cells.proofs.codes.transition_back.Lts as lts
-use Rattle.tables.proofs.tables_wrapper.reuse_dx.Reads as reuse-dx-reads
-use Rattle.tables.proofs.tables_wrapper.reuse_dy.Reads as reuse-dy-reads
 
--- src/codes.rt:60:19
 reuse-dx-requires : tie.Need-reuse-dx-requires
 reuse-dx-requires c κs = search needs
 
--- src/codes.rt:60:12
 sub-t4 : tie.Need-sub-t4
 sub-t4 c =
     let b = c .before .before in
     omega (arith, transition-stays (b .args .at .u) (b .args .at .v) (b .args .code) (b .pre) .0)
 
--- src/codes.rt:61:19
 reuse-dy-requires : tie.Need-reuse-dy-requires
 reuse-dy-requires c κs = search needs
 
--- src/codes.rt:61:12
 sub-t6 : tie.Need-sub-t6
 sub-t6 c =
     let b = c .before .before .before .before in
     omega (arith, transition-stays (b .args .at .u) (b .args .at .v) (b .args .code) (b .pre) .1)
 
--- src/codes.rt:54:1
 returns : tie.Need-returns
 returns c = cc
 

@@ -1,23 +1,16 @@
-use Rattle.cells.proofs.ByCase.{adds-as, all-outside, all-inside, regular-nothing, regular-coded, regular-followed, regular-is}
-use Rattle.cells.specs.Fills.{blank-adds}
+-- `regular_cells::count_regular_cell` meets its contract: the rows of its case describe the cell. Assumes nothing.
 use mathlib.Core.Bool.{false}
+use borrow.Author.Needs.{needs}
 use Rattle.model.specs.Mesh.{regularCell}
 use Rattle.model.specs.Points.{star}
-use borrow.Author.Needs.{needs}
+use Rattle.cells.specs.Fills.{blank-adds}
+use Rattle.cells.proofs.ByCase.{adds-as, all-outside, all-inside, regular-nothing, regular-coded, regular-followed, regular-is}
 use Rattle.cells.proofs.regular_cells.count_regular_cell.Statement.{statement}
 use Rattle.cells.proofs.regular_cells.count_regular_cell.Tie as tie
-use Rattle.cells.proofs.regular_cells.count_regular_cell.Reads as reads
-use Rattle.cells.proofs.regular_cells.count_regular_cell.Lts as lts
-use Rattle.cells.proofs.cases.regular_case.Reads as regular-case-reads
-use Rattle.cells.proofs.whole_cells.count_cell.Reads as count-cell-reads
-use Rattle.tables.proofs.regular_case_cell.Reads as regular-case-cell-reads
-use Rattle.tables.proofs.regular_case_codes.Reads as regular-case-codes-reads
 
--- src/regular_cells.rt:89:9
 regular-case-requires : tie.Need-regular-case-requires
 regular-case-requires c κs = search needs
 
--- src/regular_cells.rt:91:9
 returns : tie.Need-returns
 returns c =
     let a = c .before .before .before .args in
@@ -27,7 +20,6 @@ returns c =
     let none = regular-nothing s (a .x) (a .y) (a .z) (case .result) 0 all-outside (case .ensures .0 mask ns) (c .if1 .taken) in
     blank-adds (regularCell s (a .x) (a .y) (a .z)) (none .0) (none .1)
 
--- src/regular_cells.rt:97:9
 returns-2 : tie.Need-returns-2
 returns-2 c =
     let a = c .before .before .before .before .args in
@@ -37,15 +29,12 @@ returns-2 c =
     let none = regular-nothing s (a .x) (a .y) (a .z) (case .result) 255 all-inside (case .ensures .0 mask ns) (c .if2 .taken) in
     blank-adds (regularCell s (a .x) (a .y) (a .z)) (none .0) (none .1)
 
--- src/regular_cells.rt:104:9
 regular-case-codes-requires : tie.Need-regular-case-codes-requires
 regular-case-codes-requires c κs = search needs
 
--- src/regular_cells.rt:105:9
 regular-case-cell-requires : tie.Need-regular-case-cell-requires
 regular-case-cell-requires c κs = search needs
 
--- src/regular_cells.rt:102:5
 count-cell-requires : tie.Need-count-cell-requires
 count-cell-requires c κs =
     let a = c .before .before .before .before .before .before .args in
@@ -56,7 +45,6 @@ count-cell-requires c κs =
       regular-followed (case .result) (case .ensures .1) _ _ codes-are row-is,
     )
 
--- src/regular_cells.rt:73:1
 returns-3 : tie.Need-returns-3
 returns-3 c =
     let a = c .before .before .before .before .before .before .before .args in

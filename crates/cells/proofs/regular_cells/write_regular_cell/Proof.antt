@@ -1,22 +1,15 @@
-use Rattle.cells.proofs.ByCase.{vertex-room, triangle-room, put-as, all-outside, all-inside, regular-nothing, regular-coded, regular-followed, regular-is}
-use Rattle.cells.specs.Fills.{cell-blank}
+-- `regular_cells::write_regular_cell` meets its contract: the rows of its case describe the cell. Assumes nothing.
+use borrow.Author.Needs.{needs}
 use Rattle.model.specs.Mesh.{regularCell}
 use Rattle.model.specs.Points.{star}
-use borrow.Author.Needs.{needs}
+use Rattle.cells.specs.Fills.{cell-blank}
+use Rattle.cells.proofs.ByCase.{vertex-room, triangle-room, put-as, all-outside, all-inside, regular-nothing, regular-coded, regular-followed, regular-is}
 use Rattle.cells.proofs.regular_cells.write_regular_cell.Statement.{statement}
 use Rattle.cells.proofs.regular_cells.write_regular_cell.Tie as tie
-use Rattle.cells.proofs.regular_cells.write_regular_cell.Reads as reads
-use Rattle.cells.proofs.regular_cells.write_regular_cell.Lts as lts
-use Rattle.cells.proofs.cases.regular_case.Reads as regular-case-reads
-use Rattle.cells.proofs.whole_cells.write_cell.Reads as write-cell-reads
-use Rattle.tables.proofs.regular_case_cell.Reads as regular-case-cell-reads
-use Rattle.tables.proofs.regular_case_codes.Reads as regular-case-codes-reads
 
--- src/regular_cells.rt:49:9
 regular-case-requires : tie.Need-regular-case-requires
 regular-case-requires c κs = search needs
 
--- src/regular_cells.rt:51:9
 returns : tie.Need-returns
 returns c =
     let a = c .before .before .before .before .before .before .before .args in
@@ -26,7 +19,6 @@ returns c =
     cell-blank (regularCell s (a .x) (a .y) (a .z)) (a .counts .vertices) (a .counts .triangles) (a .vertices .now) (a .triangles .now) (a .store .now) (none .0)
     (none .1)
 
--- src/regular_cells.rt:54:9
 returns-2 : tie.Need-returns-2
 returns-2 c =
     let a = c .before .before .before .before .before .before .before .before .args in
@@ -36,15 +28,12 @@ returns-2 c =
     cell-blank (regularCell s (a .x) (a .y) (a .z)) (a .counts .vertices) (a .counts .triangles) (a .vertices .now) (a .triangles .now) (a .store .now) (none .0)
     (none .1)
 
--- src/regular_cells.rt:63:9
 regular-case-codes-requires : tie.Need-regular-case-codes-requires
 regular-case-codes-requires c κs = search needs
 
--- src/regular_cells.rt:64:9
 regular-case-cell-requires : tie.Need-regular-case-cell-requires
 regular-case-cell-requires c κs = search needs
 
--- src/regular_cells.rt:56:5
 write-cell-requires : tie.Need-write-cell-requires
 write-cell-requires c κs =
     let b = c .before .before .before .before .before .before .before .before .before .before .before .before .before in
@@ -76,19 +65,15 @@ write-cell-requires c κs =
       ),
     )
 
--- src/regular_cells.rt:24:1
 same-length : tie.Need-same-length
 same-length c = search needs
 
--- src/regular_cells.rt:24:1
 same-length-2 : tie.Need-same-length-2
 same-length-2 c = search needs
 
--- src/regular_cells.rt:24:1
 same-length-3 : tie.Need-same-length-3
 same-length-3 c = search needs
 
--- src/regular_cells.rt:24:1
 returns-3 : tie.Need-returns-3
 returns-3 c =
     let a = c .before .before .before .before .before .before .before .before .before .before .before .before .before .before .before .before .before .before .before .before .args in

@@ -1,21 +1,14 @@
-use Rattle.tables.specs.Cases.{transitionTurned}
+-- `transition_cells::count_transition_cell` meets its contract: the rows of its case describe the cell. Assumes nothing.
 use mathlib.Core.Path.{refl}
-use Rattle.cells.proofs.ByCase.{adds-as, fine-outside, fine-inside, transition-nothing, transition-coded, transition-followed, transition-is}
-use Rattle.cells.specs.Fills.{blank-adds}
-use mathlib.Core.Bool.{false}
+use borrow.Author.Needs.{needs}
+use Rattle.tables.specs.Cases.{transitionTurned}
 use Rattle.model.specs.Mesh.{transitionCell}
 use Rattle.model.specs.Points.{star}
-use borrow.Author.Needs.{needs}
+use Rattle.cells.specs.Fills.{blank-adds}
+use Rattle.cells.proofs.ByCase.{adds-as, fine-outside, fine-inside, transition-nothing, transition-coded, transition-followed, transition-is}
 use Rattle.cells.proofs.transition_cells.count_transition_cell.Statement.{statement}
 use Rattle.cells.proofs.transition_cells.count_transition_cell.Tie as tie
-use Rattle.cells.proofs.transition_cells.count_transition_cell.Reads as reads
-use Rattle.cells.proofs.transition_cells.count_transition_cell.Lts as lts
-use Rattle.cells.proofs.cases.transition_case.Reads as transition-case-reads
-use Rattle.cells.proofs.whole_cells.count_cell.Reads as count-cell-reads
-use Rattle.tables.proofs.transition_case_cell.Reads as transition-case-cell-reads
-use Rattle.tables.proofs.transition_case_codes.Reads as transition-case-codes-reads
 
--- src/transition_cells.rt:92:9
 transition-case-requires : tie.Need-transition-case-requires
 transition-case-requires c κs =
     let p = c .before .pre .1 in (
@@ -23,7 +16,6 @@ transition-case-requires c κs =
       p .1 .1 .1,
     )
 
--- src/transition_cells.rt:94:9
 returns : tie.Need-returns
 returns c =
     let a = c .before .before .before .args in
@@ -33,7 +25,6 @@ returns c =
     let none = transition-nothing s (a .side) (a .u) (a .v) (case .result) 0 fine-outside (case .ensures .0 centre) (c .if1 .taken) in
     blank-adds (transitionCell s (a .side) (a .u) (a .v)) (none .0) (none .1)
 
--- src/transition_cells.rt:100:9
 returns-2 : tie.Need-returns-2
 returns-2 c =
     let a = c .before .before .before .before .args in
@@ -43,15 +34,12 @@ returns-2 c =
     let none = transition-nothing s (a .side) (a .u) (a .v) (case .result) 511 fine-inside (case .ensures .0 centre) (c .if2 .taken) in
     blank-adds (transitionCell s (a .side) (a .u) (a .v)) (none .0) (none .1)
 
--- src/transition_cells.rt:107:9
 transition-case-codes-requires : tie.Need-transition-case-codes-requires
 transition-case-codes-requires c κs = search needs
 
--- src/transition_cells.rt:108:9
 transition-case-cell-requires : tie.Need-transition-case-cell-requires
 transition-case-cell-requires c κs = search needs
 
--- src/transition_cells.rt:105:5
 count-cell-requires : tie.Need-count-cell-requires
 count-cell-requires c κs =
     let a = c .before .before .before .before .before .before .args in
@@ -62,7 +50,6 @@ count-cell-requires c κs =
       transition-followed (case .result) (case .ensures .1) _ _ codes-are row-is,
     )
 
--- src/transition_cells.rt:75:1
 returns-3 : tie.Need-returns-3
 returns-3 c =
     let a = c .before .before .before .before .before .before .before .args in

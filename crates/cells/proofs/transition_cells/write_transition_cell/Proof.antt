@@ -1,19 +1,12 @@
-use Rattle.cells.proofs.ByCase.{vertex-room, triangle-room, put-as, fine-outside, fine-inside, transition-nothing, transition-coded, transition-followed, transition-is}
-use Rattle.cells.specs.Fills.{cell-blank}
+-- `transition_cells::write_transition_cell` meets its contract: the rows of its case describe the cell. Assumes nothing.
+use borrow.Author.Needs.{needs}
 use Rattle.model.specs.Mesh.{transitionCell}
 use Rattle.model.specs.Points.{star}
-use borrow.Author.Needs.{needs}
+use Rattle.cells.specs.Fills.{cell-blank}
+use Rattle.cells.proofs.ByCase.{vertex-room, triangle-room, put-as, fine-outside, fine-inside, transition-nothing, transition-coded, transition-followed, transition-is}
 use Rattle.cells.proofs.transition_cells.write_transition_cell.Statement.{statement}
 use Rattle.cells.proofs.transition_cells.write_transition_cell.Tie as tie
-use Rattle.cells.proofs.transition_cells.write_transition_cell.Reads as reads
-use Rattle.cells.proofs.transition_cells.write_transition_cell.Lts as lts
-use Rattle.cells.proofs.cases.transition_case.Reads as transition-case-reads
-use Rattle.cells.proofs.whole_cells.write_cell.Reads as write-cell-reads
-use Rattle.tables.proofs.transition_case_cell.Reads as transition-case-cell-reads
-use Rattle.tables.proofs.transition_case_codes.Reads as transition-case-codes-reads
-use Rattle.tables.proofs.transition_turned.Reads as transition-turned-reads
 
--- src/transition_cells.rt:51:9
 transition-case-requires : tie.Need-transition-case-requires
 transition-case-requires c κs =
     let p = c .before .before .before .before .before .pre .1 in (
@@ -21,7 +14,6 @@ transition-case-requires c κs =
       p .1 .0 .1 .1,
     )
 
--- src/transition_cells.rt:53:9
 returns : tie.Need-returns
 returns c =
     let a = c .before .before .before .before .before .before .before .args in
@@ -31,7 +23,6 @@ returns c =
     cell-blank (transitionCell s (a .side) (a .u) (a .v)) (a .counts .vertices) (a .counts .triangles) (a .vertices .now) (a .triangles .now) (a .store .now) (none .0)
     (none .1)
 
--- src/transition_cells.rt:56:9
 returns-2 : tie.Need-returns-2
 returns-2 c =
     let a = c .before .before .before .before .before .before .before .before .args in
@@ -41,19 +32,15 @@ returns-2 c =
     cell-blank (transitionCell s (a .side) (a .u) (a .v)) (a .counts .vertices) (a .counts .triangles) (a .vertices .now) (a .triangles .now) (a .store .now) (none .0)
     (none .1)
 
--- src/transition_cells.rt:65:9
 transition-case-codes-requires : tie.Need-transition-case-codes-requires
 transition-case-codes-requires c κs = search needs
 
--- src/transition_cells.rt:66:9
 transition-case-cell-requires : tie.Need-transition-case-cell-requires
 transition-case-cell-requires c κs = search needs
 
--- src/transition_cells.rt:67:9
 transition-turned-requires : tie.Need-transition-turned-requires
 transition-turned-requires c κs = search needs
 
--- src/transition_cells.rt:58:5
 write-cell-requires : tie.Need-write-cell-requires
 write-cell-requires c κs =
     let b = c .before .before .before .before .before .before .before .before .before .before .before .before .before .before in
@@ -85,19 +72,15 @@ write-cell-requires c κs =
       ),
     )
 
--- src/transition_cells.rt:26:1
 same-length : tie.Need-same-length
 same-length c = search needs
 
--- src/transition_cells.rt:26:1
 same-length-2 : tie.Need-same-length-2
 same-length-2 c = search needs
 
--- src/transition_cells.rt:26:1
 same-length-3 : tie.Need-same-length-3
 same-length-3 c = search needs
 
--- src/transition_cells.rt:26:1
 returns-3 : tie.Need-returns-3
 returns-3 c =
     let a = c .before .before .before .before .before .before .before .before .before .before .before .before .before .before .before .before .before .before .before .before .before .args in

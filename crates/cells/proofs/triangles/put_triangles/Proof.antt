@@ -1,22 +1,18 @@
+-- `triangles::put_triangles` meets its contract. The loop's invariant: the triangles passed are laid. Assumes nothing.
+use Prim.Native.Nat.{_-_, _≤_}
 use mathlib.Core.Path.{_≡_, _∙_, ap, sym}
-use Rattle.cells.specs.Fills.{triangles-more}
-use Rattle.cells.specs.Laying.{lay-none, length-lay}
-use borrow.Author.Needs.{needs}
 use native.Mathlib.Omega.{arith}
-use Prim.Native.Nat.{ℕ, _-_, _≤_}
+use borrow.Author.Needs.{needs}
 use lib.ListN.{length}
 use Rattle.tables.specs.Cases.{trianglesOf}
-use Rattle.model.specs.Steps.{listed}
 use Rattle.model.specs.Extraction.{triangleIndices}
+use Rattle.model.specs.Steps.{listed}
 use Rattle.cells.specs.Buffers.{layTriangles}
+use Rattle.cells.specs.Fills.{triangles-more}
+use Rattle.cells.specs.Laying.{lay-none, length-lay}
 use Rattle.cells.specs.Rows.{rowTriangle}
 use Rattle.cells.proofs.triangles.put_triangles.Statement.{statement}
 use Rattle.cells.proofs.triangles.put_triangles.Tie as tie
-use Rattle.cells.proofs.triangles.put_triangles.Reads as reads
-use Rattle.cells.proofs.triangles.put_triangles.Lts as lts
-use Rattle.cells.proofs.buffers.put_triangle.Reads as put-triangle-reads
-use Rattle.cells.proofs.triangles.triangle.Reads as triangle-reads
-use Rattle.cells.proofs.triangles.triangle_count.Reads as triangle-count-reads
 
 abbrev Inv-loop : tie.InvT-loop
 Inv-loop row turned cell triangles₀ base count t₀ triangles t =
@@ -25,38 +21,30 @@ Inv-loop row turned cell triangles₀ base count t₀ triangles t =
 abbrev μ-loop : tie.MeasureT-loop
 μ-loop row turned cell triangles₀ base count t₀ triangles t = count - t
 
--- src/triangles.rt:72:9
 triangle-count-requires : tie.Need-triangle-count-requires Inv-loop μ-loop
 triangle-count-requires c κs = search needs
 
--- src/triangles.rt:74:5
 loop-holds : tie.Need-loop-holds Inv-loop μ-loop
 loop-holds c = (search needs, sym (lay-none 3 triangleIndices _ _))
 
--- src/triangles.rt:75:33
 add-put-triangle : tie.Need-add-put-triangle Inv-loop μ-loop
 add-put-triangle c = search needs
 
--- src/triangles.rt:75:43
 triangle-requires : tie.Need-triangle-requires Inv-loop μ-loop
 triangle-requires c κs = search needs
 
--- src/triangles.rt:75:9
 put-triangle-requires : tie.Need-put-triangle-requires Inv-loop μ-loop
 put-triangle-requires c κs =
     let l = c .before .before .before .loop in
     let e = ap length (l .inv .1) ∙ length-lay 3 triangleIndices _ _ _ in
     omega arith
 
--- src/triangles.rt:76:9
 add-t : tie.Need-add-t Inv-loop μ-loop
 add-t c = search needs
 
--- src/triangles.rt:74:5
 loop-less : tie.Need-loop-less Inv-loop μ-loop
 loop-less c = search needs
 
--- src/triangles.rt:74:5
 loop-again : tie.Need-loop-again Inv-loop μ-loop
 loop-again c =
     let l = c .before .before .before .before .before .before .loop in
@@ -66,15 +54,12 @@ loop-again c =
           (c .before .before .before .triangle .ensures) (l .inv .1) (c .before .before .put-triangle .ensures),
     )
 
--- src/triangles.rt:78:5
 add-result : tie.Need-add-result Inv-loop μ-loop
 add-result c = search needs
 
--- src/triangles.rt:60:1
 same-length : tie.Need-same-length Inv-loop μ-loop
 same-length c = ap length (c .before .loop .inv .1) ∙ length-lay 3 triangleIndices _ _ _
 
--- src/triangles.rt:60:1
 returns : tie.Need-returns Inv-loop μ-loop
 returns c =
     let a = c .before .before .before .before .before .args in

@@ -1,45 +1,34 @@
-use Rattle.cells.proofs.Windings.{in-order, turned-round}
+-- `triangles::triangle` meets its contract: its corners go out in order, or turned round. Assumes nothing.
 use mathlib.Core.Path.{sym}
 use borrow.Author.Needs.{needs}
+use Rattle.cells.proofs.Windings.{in-order, turned-round}
 use Rattle.cells.proofs.triangles.triangle.Statement.{statement}
 use Rattle.cells.proofs.triangles.triangle.Tie as tie
-use Rattle.cells.proofs.triangles.triangle.Reads as reads
-use Rattle.cells.proofs.triangles.triangle.Lts as lts
-use Rattle.cells.proofs.triangles.corner_index.Reads as corner-index-reads
 
--- src/triangles.rt:51:37
 mul-corner-index : tie.Need-mul-corner-index
 mul-corner-index c = search needs
 
--- src/triangles.rt:51:9
 corner-index-requires : tie.Need-corner-index-requires
 corner-index-requires c κs = search needs
 
--- src/triangles.rt:52:37
 mul-corner-index-2 : tie.Need-mul-corner-index-2
 mul-corner-index-2 c = search needs
 
--- src/triangles.rt:52:37
 add-corner-index : tie.Need-add-corner-index
 add-corner-index c = search needs
 
--- src/triangles.rt:52:9
 corner-index-requires-2 : tie.Need-corner-index-requires-2
 corner-index-requires-2 c κs = search needs
 
--- src/triangles.rt:53:37
 mul-corner-index-3 : tie.Need-mul-corner-index-3
 mul-corner-index-3 c = search needs
 
--- src/triangles.rt:53:37
 add-corner-index-2 : tie.Need-add-corner-index-2
 add-corner-index-2 c = search needs
 
--- src/triangles.rt:53:9
 corner-index-requires-3 : tie.Need-corner-index-requires-3
 corner-index-requires-3 c κs = search needs
 
--- src/triangles.rt:55:9
 returns : tie.Need-returns
 returns c =
     let b = c .before in
@@ -48,7 +37,6 @@ returns c =
     (sym (turned-round (a .row .now) (a .cell .index) (a .t) _ _ _ (b .before .before .corner-index .ensures)
     (b .before .corner-index2 .ensures) (b .corner-index3 .ensures)))
 
--- src/triangles.rt:46:1
 returns-2 : tie.Need-returns-2
 returns-2 c =
     let b = c .before in

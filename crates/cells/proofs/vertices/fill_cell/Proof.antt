@@ -1,23 +1,21 @@
-use Rattle.cells.specs.Fills.{fill-none, fill-ready, fill-more, length-fill-store}
-use Rattle.cells.specs.Laying.{length-lay}
-use Rattle.cells.specs.Posts.{FillPut}
-use Rattle.cells.specs.Kinds.{turnAt, cellOf}
+-- `vertices::fill_cell` meets its contract. The loop's invariant: the buffers are as the definition's first k vertices leave them.
+-- Assumes nothing.
+use Prim.Native.Nat.{_-_, _≤_}
+use mathlib.Core.Bool.{false}
+use mathlib.Core.Path.{_≡_, refl, ap, _∙_}
+use native.Mathlib.Omega.{arith}
+use borrow.Author.Needs.{needs}
+use lib.ListN.{length}
+use Rattle.tables.specs.Cases.{verticesOf}
 use Rattle.model.specs.Extraction.{vertexFloats}
 use Rattle.model.specs.Mesh.{fillTo}
 use Rattle.model.specs.Points.{star}
-use Rattle.tables.specs.Cases.{verticesOf}
-use lib.ListN.{length, getD}
-use mathlib.Core.Bool.{false}
-use mathlib.Core.Path.{_≡_, refl, ap, _∙_}
-use Prim.Native.Nat.{_-_, _≤_}
-use native.Mathlib.Omega.{arith}
-use borrow.Author.Needs.{needs}
+use Rattle.cells.specs.Fills.{fill-none, fill-ready, fill-more, length-fill-store}
+use Rattle.cells.specs.Kinds.{cellOf}
+use Rattle.cells.specs.Laying.{length-lay}
+use Rattle.cells.specs.Posts.{FillPut}
 use Rattle.cells.proofs.vertices.fill_cell.Statement.{statement}
 use Rattle.cells.proofs.vertices.fill_cell.Tie as tie
-use Rattle.cells.proofs.vertices.fill_cell.Reads as reads
-use Rattle.cells.proofs.vertices.fill_cell.Lts as lts
-use Rattle.cells.proofs.triangles.vertex_count.Reads as vertex-count-reads
-use Rattle.cells.proofs.vertices.put_code.Reads as put-code-reads
 
 abbrev Inv-loop : tie.InvT-loop
 Inv-loop block mask threshold centre neighbours at codes row store₀ vertices₀ base count cell₀ next₀ k₀ store vertices cell next k =
@@ -27,29 +25,24 @@ Inv-loop block mask threshold centre neighbours at codes row store₀ vertices�
 abbrev μ-loop : tie.MeasureT-loop
 μ-loop block mask threshold centre neighbours at codes row store₀ vertices₀ base count cell₀ next₀ k₀ store vertices cell next k = count - k
 
--- src/vertices.rt:195:9
 vertex-count-requires : tie.Need-vertex-count-requires Inv-loop μ-loop
 vertex-count-requires c κs = search needs
 
--- src/vertices.rt:202:5
 loop-holds : tie.Need-loop-holds Inv-loop μ-loop
 loop-holds c =
     let a = c .before .before .before .before .before .before .before .args in
     (search needs, fill-none (cellOf (star (a .block) (a .mask) (a .threshold) (a .centre .now) (a .neighbours .now)) (a .at) (a .codes .now) (a .row .now) false) (a .base) (a .store .now) (a .vertices .now))
 
--- src/vertices.rt:210:13
 mul-put-code : tie.Need-mul-put-code Inv-loop μ-loop
 mul-put-code c =
     let b = c .before .before .before .before .before .before .before .before .before in
     omega (arith, b .pre .1 .0)
 
--- src/vertices.rt:210:13
 shared-slice-read-put-code : tie.Need-shared-slice-read-put-code Inv-loop μ-loop
 shared-slice-read-put-code c =
     let b = c .before .before .before .before .before .before .before .before .before .before in
     omega (arith, b .pre .1 .0)
 
--- src/vertices.rt:203:13
 put-code-requires : tie.Need-put-code-requires Inv-loop μ-loop
 put-code-requires c κs =
     let b = c .before .before .before .before .before .before .before .before .before .before .before .before in
@@ -67,29 +60,24 @@ put-code-requires c κs =
       ),
     )
 
--- src/vertices.rt:215:9
 mul-cell : tie.Need-mul-cell Inv-loop μ-loop
 mul-cell c =
     let b = c .before .before .before .before .before .before .before .before .before .before .before .before .before .before .before .before .before in
     omega (arith, b .pre .1 .0, c .before .before .before .before .before .before .before .before .before .before .vertex-count .ensures, c .before .before .before .before .before .before .before .before .loop-test .taken)
 
--- src/vertices.rt:215:9
 element-write-cell : tie.Need-element-write-cell Inv-loop μ-loop
 element-write-cell c =
     let b = c .before .before .before .before .before .before .before .before .before .before .before .before .before .before .before .before .before in
     omega (arith, b .pre .1 .0, c .before .before .before .before .before .before .before .before .before .before .vertex-count .ensures, c .before .before .before .before .before .before .before .before .loop-test .taken)
 
--- src/vertices.rt:216:9
 add-k : tie.Need-add-k Inv-loop μ-loop
 add-k c =
     let b = c .before .before .before .before .before .before .before .before .before .before .before .before .before .before .before .before .before in
     omega (arith, b .pre .1 .0, c .before .before .before .before .before .before .before .before .before .before .vertex-count .ensures, c .before .before .before .before .before .before .before .before .loop-test .taken)
 
--- src/vertices.rt:202:5
 loop-less : tie.Need-loop-less Inv-loop μ-loop
 loop-less c = omega (arith, c .before .before .before .before .before .before .before .before .loop-test .taken)
 
--- src/vertices.rt:202:5
 loop-again : tie.Need-loop-again Inv-loop μ-loop
 loop-again c =
     let b = c .before .before .before .before .before .before .before .before .before .before .before .before .before .before .before .before .before in
@@ -101,17 +89,14 @@ loop-again c =
           _ _ _ _ (omega (arith, b .pre .1 .0, c .before .before .before .before .before .before .before .before .before .before .vertex-count .ensures, c .before .before .before .before .before .before .before .before .loop-test .taken)) (c .before .before .before .before .put-code .ensures),
     )
 
--- src/vertices.rt:176:1
 same-length : tie.Need-same-length Inv-loop μ-loop
 same-length c =
     let a = c .before .before .before .before .before .before .before .before .before .args in
     ap length (c .before .loop .inv .1 .store-is) ∙ length-fill-store (cellOf (star (a .block) (a .mask) (a .threshold) (a .centre .now) (a .neighbours .now)) (a .at) (a .codes .now) (a .row .now) false) (a .base) (a .store .now) (c .before .loop .k)
 
--- src/vertices.rt:176:1
 same-length-2 : tie.Need-same-length-2 Inv-loop μ-loop
 same-length-2 c = ap length (c .before .loop .inv .1 .vertices-are) ∙ length-lay 6 vertexFloats _ _ _
 
--- src/vertices.rt:176:1
 returns : tie.Need-returns Inv-loop μ-loop
 returns c =
     let a = c .before .before .before .before .before .before .before .before .before .args in

@@ -1,40 +1,31 @@
-use Rattle.cells.proofs.Turns.{regular-in, transition-in}
+-- `vertices::place` meets its contract, for each kind of cell. Assumes nothing.
 use native.Mathlib.Omega.{arith}
 use borrow.Author.Needs.{needs}
+use Rattle.cells.proofs.Turns.{regular-in, transition-in}
 use Rattle.cells.proofs.vertices.place.Statement.{statement}
 use Rattle.cells.proofs.vertices.place.Tie as tie
-use Rattle.cells.proofs.vertices.place.Reads as reads
-use Rattle.cells.proofs.vertices.place.Lts as lts
-use Rattle.grid.proofs.shared_vertex_indices.regular_place.Reads as regular-place-reads
-use Rattle.grid.proofs.shared_vertex_indices.transition_place.Reads as transition-place-reads
 
--- src/vertices.rt:52:28
 enum-known-at : tie.Need-enum-known-at
 enum-known-at c = search needs
 
--- src/vertices.rt:52:37
 regular-place-requires : tie.Need-regular-place-requires
 regular-place-requires c κs =
     let b = c .before .before .before in
     let h = regular-in (c .before .at .given .1) (b .pre .1 .0) in
     record { few = b .pre .0; x-in = h .x-in; y-in = h .y-in; z-in = h .z-in; reuse = rw (c .before .at .given .1) at (b .pre .1 .1) }
 
--- src/vertices.rt:53:31
 enum-known-at-2 : tie.Need-enum-known-at-2
 enum-known-at-2 c = search needs
 
--- src/vertices.rt:53:40
 transition-place-requires : tie.Need-transition-place-requires
 transition-place-requires c κs =
     let b = c .before .before .before in
     let h = transition-in (c .before .at2 .given .1) (b .pre .1 .0) in
     record { few = b .pre .0; side-is = h .side-in; u-in = h .u-in; v-in = h .v-in; reuse = rw (c .before .at2 .given .1) at (b .pre .1 .1) }
 
--- src/vertices.rt:47:1
 returns : tie.Need-returns
 returns c = (rw (c .before .before .at .given .1) (c .regular-place .ensures .0), omega (arith, c .regular-place .ensures .1))
 
--- src/vertices.rt:47:1
 returns-2 : tie.Need-returns-2
 returns-2 c = (rw (c .before .before .at2 .given .1) (c .transition-place .ensures .0), c .transition-place .ensures .1)
 

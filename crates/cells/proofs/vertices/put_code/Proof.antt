@@ -1,160 +1,145 @@
-use Rattle.cells.proofs.Turns.{one-made, code-stored, code-loose, code-taken, back-placed, back-slots}
+-- `vertices::put_code` meets its contract: a vertex is made and stored, made and not stored, or taken. Assumes nothing.
 use mathlib.Core.Path.{sym, _∙_}
-use Rattle.grid.specs.StorePlaces.{small-store}
-use Rattle.model.specs.Points.{star}
 use native.Mathlib.Omega.{arith}
 use borrow.Author.Needs.{needs}
+use Rattle.model.specs.Points.{Star, star}
+use Rattle.grid.specs.StorePlaces.{small-store}
+use Rattle.cells.proofs.Turns.{index-within, one-made, code-stored, code-loose, code-taken, back-placed, back-within}
 use Rattle.cells.proofs.vertices.put_code.Statement.{statement}
 use Rattle.cells.proofs.vertices.put_code.Tie as tie
-use Rattle.cells.proofs.vertices.put_code.Reads as reads
-use Rattle.cells.proofs.vertices.put_code.Lts as lts
-use Rattle.cells.proofs.buffers.put_vertex.Reads as put-vertex-reads
-use Rattle.cells.proofs.codes.back.Reads as back-reads
-use Rattle.cells.proofs.codes.makes.Reads as makes-reads
-use Rattle.cells.proofs.vertices.place.Reads as place-reads
-use Rattle.cells.proofs.vertices.vertex.Reads as vertex-reads
-use Rattle.tables.proofs.tables_wrapper.new_vertex.Reads as new-vertex-reads
-use Rattle.tables.proofs.tables_wrapper.reuse_index.Reads as reuse-index-reads
 
--- src/vertices.rt:147:9
+-- `vertices::put_code` meets its contract: a vertex is made and stored, made and not stored, or taken. Assumes nothing.
+
+-- the entry, from the place where it is known what the code says
+abbrev start : tie.After-makes → tie.Start
+start m = m .before .before .before .before .before .before .before
+
+abbrev starOf : tie.Start → Star
+starOf b = star (b .args .block) (b .args .mask) (b .args .threshold) (b .args .centre .now) (b .args .neighbours .now)
+
 reuse-index-requires : tie.Need-reuse-index-requires
 reuse-index-requires c κs = search needs
 
--- src/vertices.rt:148:8
-makes-requires : tie.Need-makes-requires
-makes-requires c κs = search needs
-
--- src/vertices.rt:152:13
-vertex-requires : tie.Need-vertex-requires
-vertex-requires c κs = search needs
-
--- src/vertices.rt:149:9
-put-vertex-requires : tie.Need-put-vertex-requires
-put-vertex-requires c κs =
-    let b = c .before .before .before .before .before .before .before .before .before in
-    let a = b .args in
-    omega (arith, b .pre .1 .1 .1, one-made (star (a .block) (a .mask) (a .threshold) (a .centre .now) (a .neighbours .now)) (a .at) (a .code) _ (c .before .before .before .makes .ensures) (c .before .before .if1 .taken))
-
--- src/vertices.rt:154:21
-cast-index : tie.Need-cast-index
-cast-index c = search needs
-
--- src/vertices.rt:155:12
 new-vertex-requires : tie.Need-new-vertex-requires
 new-vertex-requires c κs = search needs
 
--- src/vertices.rt:156:17
+makes-requires : tie.Need-makes-requires
+makes-requires c κs = search needs
+
+vertex-requires : tie.Need-vertex-requires
+vertex-requires c κs = search needs
+
+put-vertex-requires : tie.Need-put-vertex-requires
+put-vertex-requires c κs =
+    let m = c .before .before .before in
+    let b = start m in
+    let a = b .args in
+    omega (arith, b .pre .1 .1 .1, one-made (starOf b) (a .at) (a .code) _ (m .makes .ensures) (c .before .before .if1 .taken))
+
+cast-index : tie.Need-cast-index
+cast-index c = search needs
+
 place-requires : tie.Need-place-requires
 place-requires c κs =
-    let b = c .before .before .before .before .before .before .before .before .before .before .before .before .before .before in
-    (b .pre .0 .few, (b .pre .0 .placed, rw (c .before .before .before .before .before .before .before .before .before .reuse-index .ensures .0) (b .pre .1 .0 .index-in)))
+    let m = c .before .before .before .before .before .before .before in
+    let b = start m in
+    let a = b .args in
+    (b .pre .0 .few, (b .pre .0 .placed, index-within (a .at) (a .code) _ (b .pre .1 .0) (m .before .before .reuse-index .ensures .0)))
 
--- src/vertices.rt:157:13
 mul-store : tie.Need-mul-store
 mul-store c =
-    let b = c .before .before .before .before .before .before .before .before .before .before .before .before .before .before .before in
+    let b = start (c .before .before .before .before .before .before .before .before) in
     omega (arith, c .place .ensures .1, small-store (b .args .block .subdivisions) (b .pre .0 .few))
 
--- src/vertices.rt:157:13
 slice-write-store : tie.Need-slice-write-store
-slice-write-store c =
-    let b = c .before .before .before .before .before .before .before .before .before .before .before .before .before .before .before in
-    omega (arith, c .place .ensures .1, b .pre .1 .1 .0)
+slice-write-store c = omega (arith, c .place .ensures .1, start (c .before .before .before .before .before .before .before .before) .pre .1 .1 .0)
 
--- src/vertices.rt:160:23
-add-t22 : tie.Need-add-t22
-add-t22 c =
-    let b = c .before .before .before .before .before .before .before .before .before .before .before .before .before .before .before in
-    omega (arith, b .pre .1 .1 .1 .short)
+add-t24 : tie.Need-add-t24
+add-t24 c = omega (arith, start (c .before .before .before .before .before .before .before .before) .pre .1 .1 .1 .short)
 
--- src/vertices.rt:158:13
 same-length : tie.Need-same-length
 same-length c = search needs
 
--- src/vertices.rt:158:13
 same-length-2 : tie.Need-same-length-2
 same-length-2 c = search needs
 
--- src/vertices.rt:158:13
 returns : tie.Need-returns
 returns c =
-    let b = c .before .before .before .before .before in
-    let a = c .before .before .before .before .before .before .before .before .before .before .before .before .before .before .before .args in
-    code-stored (star (a .block) (a .mask) (a .threshold) (a .centre .now) (a .neighbours .now)) (a .at) (a .code) (a .next) _ (a .vertices .now) (a .store .now) _
-    (b .before .before .before .before .makes .ensures) (b .before .before .before .before .before .reuse-index .ensures .0) _ _ _ (b .before .vertex .ensures) (b .put-vertex .ensures)
-    (c .before .before .new-vertex .ensures) (b .before .before .before .if1 .taken) _ (c .place .ensures .0) (c .before .if2 .taken)
+    let m = c .before .before .before .before .before .before .before .before in
+    let b = start m in
+    let a = b .args in
+    code-stored (starOf b) (a .at) (a .code) (a .next) _ (a .vertices .now) (a .store .now) _ (m .makes .ensures)
+    (m .before .before .reuse-index .ensures .0) _ _ _ (c .before .before .before .before .before .vertex .ensures) (c .before .before .before .before .put-vertex .ensures)
+    (m .before .new-vertex .ensures) (c .before .before .before .before .before .before .before .if1 .taken) _ (c .place .ensures .0) (c .before .if2 .taken)
 
--- src/vertices.rt:165:19
-add-t24 : tie.Need-add-t24
-add-t24 c = search needs
+add-t26 : tie.Need-add-t26
+add-t26 c = search needs
 
--- src/vertices.rt:163:9
 same-length-3 : tie.Need-same-length-3
 same-length-3 c = search needs
 
--- src/vertices.rt:163:9
 returns-2 : tie.Need-returns-2
 returns-2 c =
-    let b = c .before .before .before .before in
-    let a = c .before .before .before .before .before .before .before .before .before .before .before .before .before .before .args in
-    code-loose (star (a .block) (a .mask) (a .threshold) (a .centre .now) (a .neighbours .now)) (a .at) (a .code) (a .next) _ (a .vertices .now) (a .store .now) _
-    (b .before .before .before .before .makes .ensures) (b .before .before .before .before .before .reuse-index .ensures .0) _ _ _ (b .before .vertex .ensures) (b .put-vertex .ensures)
-    (c .before .new-vertex .ensures) (b .before .before .before .if1 .taken) (c .if2 .left)
+    let m = c .before .before .before .before .before .before .before in
+    let b = start m in
+    let a = b .args in
+    code-loose (starOf b) (a .at) (a .code) (a .next) _ (a .vertices .now) (a .store .now) _ (m .makes .ensures)
+    (m .before .before .reuse-index .ensures .0) _ _ _ (c .before .before .before .before .vertex .ensures) (c .before .before .before .put-vertex .ensures)
+    (m .before .new-vertex .ensures) (c .before .before .before .before .before .before .if1 .taken) (c .if2 .left)
 
--- src/vertices.rt:168:27
 back-requires : tie.Need-back-requires
 back-requires c κs = sym (c .before .makes .ensures) ∙ c .if1 .left
 
--- src/vertices.rt:168:9
 place-requires-2 : tie.Need-place-requires-2
 place-requires-2 c κs =
-    let b = c .before .before .before .before .before .before .before .before in
+    let m = c .before .before in
+    let b = start m in
     let a = b .args in
-    let e = c .back .ensures in (
+    let own = index-within (a .at) (a .code) _ (b .pre .1 .0) (m .before .before .reuse-index .ensures .0) in (
       b .pre .0 .few,
       (
-        rw e (back-placed (a .block .subdivisions) (a .at) (a .code) (b .pre .0 .placed)),
-        rw (e, back-slots (a .at) (a .code), c .before .before .before .reuse-index .ensures .0) (b .pre .1 .0 .index-in),
+        back-placed (a .code) (a .block .subdivisions) (a .at) _ (c .back .ensures) (b .pre .0 .placed),
+        back-within (a .code) _ (a .at) _ (c .back .ensures) own,
       ),
     )
 
--- src/vertices.rt:170:16
-mul-t26 : tie.Need-mul-t26
-mul-t26 c = search needs
+mul-t28 : tie.Need-mul-t28
+mul-t28 c = search needs
 
--- src/vertices.rt:170:16
-slice-read-t28 : tie.Need-slice-read-t28
-slice-read-t28 c = search needs
+slice-read-t30 : tie.Need-slice-read-t30
+slice-read-t30 c = search needs
 
--- src/vertices.rt:128:1
 returns-3 : tie.Need-returns-3
 returns-3 c =
-    let a = c .before .before .before .before .before .before .before .before .before .before .args in
-    code-taken (star (a .block) (a .mask) (a .threshold) (a .centre .now) (a .neighbours .now)) (a .at) (a .code) (a .next) _ (a .vertices .now) (a .store .now) _
-    (c .before .before .before .before .makes .ensures) (c .before .before .before .before .before .reuse-index .ensures .0) _ _ (c .before .before .back .ensures) (c .before .place2 .ensures .0) (c .before .before .before .if1 .left)
+    let m = c .before .before .before .before in
+    let b = start m in
+    let a = b .args in
+    code-taken (starOf b) (a .at) (a .code) (a .next) _ (a .vertices .now) (a .store .now) _ (m .makes .ensures)
+    (m .before .before .reuse-index .ensures .0) _ _ (c .before .before .back .ensures) (c .before .place2 .ensures .0)
+    (c .before .before .before .if1 .left)
 
 pub put-code-spec : {M : Type 1} → statement M
 put-code-spec =
     tie.close
     (tie.spec
     reuse-index-requires
+    new-vertex-requires
     makes-requires
     vertex-requires
     put-vertex-requires
     cast-index
-    new-vertex-requires
     place-requires
     mul-store
     slice-write-store
-    add-t22
+    add-t24
     same-length
     same-length-2
     returns
-    add-t24
+    add-t26
     same-length-3
     returns-2
     back-requires
     place-requires-2
-    mul-t26
-    slice-read-t28
+    mul-t28
+    slice-read-t30
     returns-3)

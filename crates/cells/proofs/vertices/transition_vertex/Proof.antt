@@ -1,52 +1,37 @@
-use Rattle.cells.proofs.Making.{point-in-cell}
-use Rattle.cells.proofs.Making.{transition-made}
-use Rattle.model.specs.Points.{star}
+-- `vertices::transition_vertex` meets its contract: its two points are points of the cell. Assumes nothing.
 use borrow.Author.Needs.{needs}
+use Rattle.model.specs.Points.{star}
+use Rattle.cells.proofs.Making.{point-in-cell, transition-made}
 use Rattle.cells.proofs.vertices.transition_vertex.Statement.{statement}
 use Rattle.cells.proofs.vertices.transition_vertex.Tie as tie
-use Rattle.cells.proofs.vertices.transition_vertex.Reads as reads
-use Rattle.cells.proofs.vertices.transition_vertex.Lts as lts
-use Rattle.points.proofs.formulas.vertex_between.Reads as vertex-between-reads
-use Rattle.points.proofs.grid_point.transition_point.Reads as transition-point-reads
-use Rattle.tables.proofs.aux_tables.cell_point.Reads as cell-point-reads
-use Rattle.tables.proofs.tables_wrapper.voxel_a_index.Reads as voxel-a-index-reads
-use Rattle.tables.proofs.tables_wrapper.voxel_b_index.Reads as voxel-b-index-reads
 
--- src/vertices.rt:106:24
 voxel-a-index-requires : tie.Need-voxel-a-index-requires
 voxel-a-index-requires c κs = search needs
 
--- src/vertices.rt:106:9
 cell-point-requires : tie.Need-cell-point-requires
 cell-point-requires c κs = search needs
 
--- src/vertices.rt:107:24
 voxel-b-index-requires : tie.Need-voxel-b-index-requires
 voxel-b-index-requires c κs = search needs
 
--- src/vertices.rt:107:9
 cell-point-requires-2 : tie.Need-cell-point-requires-2
 cell-point-requires-2 c κs = search needs
 
--- src/vertices.rt:110:9
 transition-point-requires : tie.Need-transition-point-requires
 transition-point-requires c κs =
     let b = c .before .before .before .before .before .before in
     let h = b .pre .0 in
     (record { centre-is = h .centre-is; there = h .beside }, ((h .placed .u-in, h .placed .v-in), point-in-cell (c .before .before .before .voxel-a-index .result) _ (c .before .before .cell-point .ensures)))
 
--- src/vertices.rt:111:9
 transition-point-requires-2 : tie.Need-transition-point-requires-2
 transition-point-requires-2 c κs =
     let b = c .before .before .before .before .before .before .before in
     let h = b .pre .0 in
     (record { centre-is = h .centre-is; there = h .beside }, ((h .placed .u-in, h .placed .v-in), point-in-cell (c .before .before .voxel-b-index .result) _ (c .before .cell-point2 .ensures)))
 
--- src/vertices.rt:108:5
 vertex-between-requires : tie.Need-vertex-between-requires
 vertex-between-requires c κs = search needs
 
--- src/vertices.rt:90:1
 returns : tie.Need-returns
 returns c =
     let a = c .before .before .before .before .before .before .before .before .before .args in

@@ -1,33 +1,25 @@
-use Rattle.cells.proofs.Turns.{turn-count}
-use Rattle.cells.specs.Fills.{made-total}
-use Rattle.cells.specs.Kinds.{makesAt, cellOf}
-use Rattle.tables.specs.Cases.{verticesOf}
-use lib.ListN.{getD}
+-- `whole_cells::count_cell` meets its contract: what is made depends on the codes and on where the cell lies. Assumes nothing.
 use mathlib.Core.Bool.{cond}
 use mathlib.Core.Path.{_≡_, sym, _∙_}
 use native.Mathlib.Omega.{arith}
 use borrow.Author.Needs.{needs}
+use lib.ListN.{getD}
+use Rattle.tables.specs.Cases.{verticesOf}
+use Rattle.cells.specs.Fills.{made-total}
+use Rattle.cells.specs.Kinds.{makesAt, cellOf}
+use Rattle.cells.proofs.Turns.{turn-count}
 use Rattle.cells.proofs.whole_cells.count_cell.Statement.{statement}
 use Rattle.cells.proofs.whole_cells.count_cell.Tie as tie
-use Rattle.cells.proofs.whole_cells.count_cell.Reads as reads
-use Rattle.cells.proofs.whole_cells.count_cell.Lts as lts
-use Rattle.cells.proofs.codes.count_made.Reads as count-made-reads
-use Rattle.cells.proofs.triangles.triangle_count.Reads as triangle-count-reads
-use Rattle.cells.proofs.triangles.vertex_count.Reads as vertex-count-reads
 
--- src/whole_cells.rt:70:9
 vertex-count-requires : tie.Need-vertex-count-requires
 vertex-count-requires c κs = search needs
 
--- src/whole_cells.rt:72:19
 count-made-requires : tie.Need-count-made-requires
 count-made-requires c κs = search needs
 
--- src/whole_cells.rt:73:20
 triangle-count-requires : tie.Need-triangle-count-requires
 triangle-count-requires c κs = search needs
 
--- src/whole_cells.rt:66:1
 returns : tie.Need-returns
 returns c =
     let b = c .before .before .before .before .before in

@@ -1,41 +1,33 @@
+-- `whole_cells::write_cell` meets its contract: the vertices and then the triangles make the cell. The winding plays no part in the
+-- vertices. Assumes nothing.
+use native.Mathlib.Omega.{arith}
+use borrow.Author.Needs.{needs}
+use Rattle.model.specs.Mesh.{fillTo, triangleOf}
+use Rattle.model.specs.Points.{star}
 use Rattle.cells.specs.Fills.{cell-put}
 use Rattle.cells.specs.Kinds.{cellOf}
 use Rattle.cells.specs.Rows.{rowTriangle}
-use Rattle.model.specs.Mesh.{fillTo, triangleOf}
-use Rattle.model.specs.Points.{star}
-use native.Mathlib.Omega.{arith}
-use borrow.Author.Needs.{needs}
 use Rattle.cells.proofs.whole_cells.write_cell.Statement.{statement}
 use Rattle.cells.proofs.whole_cells.write_cell.Tie as tie
-use Rattle.cells.proofs.whole_cells.write_cell.Reads as reads
-use Rattle.cells.proofs.whole_cells.write_cell.Lts as lts
-use Rattle.cells.proofs.triangles.put_triangles.Reads as put-triangles-reads
-use Rattle.cells.proofs.vertices.fill_cell.Reads as fill-cell-reads
 
--- src/whole_cells.rt:45:9
 fill-cell-requires : tie.Need-fill-cell-requires
 unfolding fillTo
 fill-cell-requires c κs =
     let p = c .before .before .before .before .before .before .before .before .before .pre in
     (p .0, ((omega (arith, p .1 .0 .1), (p .1 .0 .1 .few-vertices, p .1 .0 .0)), (p .1 .1 .0, p .1 .1 .1 .0)))
 
--- src/whole_cells.rt:59:9
 put-triangles-requires : tie.Need-put-triangles-requires
 put-triangles-requires c κs = search needs
 
--- src/whole_cells.rt:22:1
 same-length : tie.Need-same-length
 same-length c = search needs
 
--- src/whole_cells.rt:22:1
 same-length-2 : tie.Need-same-length-2
 same-length-2 c = search needs
 
--- src/whole_cells.rt:22:1
 same-length-3 : tie.Need-same-length-3
 same-length-3 c = search needs
 
--- src/whole_cells.rt:22:1
 returns : tie.Need-returns
 unfolding fillTo triangleOf rowTriangle
 returns c =
