@@ -1,0 +1,125 @@
+-- Laws of the writing pass: a cell is written into the buffers, and what stands in them at the end.
+use Prim.Native.Nat.{ℕ, _+_, _*_, _≤_}
+use native.Mathlib.Omega.{arith}
+use mathlib.Core.Path.{_≡_, refl, sym, _∙_}
+use mathlib.Core.List.{List}
+use lib.Ieee.{Float}
+use lib.ListN.{length, replicate, length-append}
+use lib.Seq.{take-all}
+use Rattle.model.specs.declared.Counts.{Counts}
+use Rattle.model.specs.Steps.{listed}
+use Rattle.model.specs.Points.{Star}
+use Rattle.model.specs.Mesh.{Cell, Mesh, fillTo, triangleOf, filled, blank, cellStep, storeLength, meshOf}
+use Rattle.model.specs.Extraction.{vertexFloats, triangleIndices}
+use Rattle.cells.specs.Buffers.{layVertices, layTriangles}
+use Rattle.cells.specs.Laying.{each-append}
+use Rattle.cells.specs.Steps.{length-listed}
+use Rattle.cells.specs.Posts.{Room, CellPut}
+use Rattle.algorithm.specs.Posts.{Fits, Holds, SameLengths, Exact, Written}
+use Rattle.algorithm.proofs.Buffers.{take-lay}
+use Rattle.algorithm.proofs.Walk.{Upto}
+
+module _ (c : Cell) (m : Mesh) where
+  pub cell-made : length (cellStep c m .made) ≡ length (m .made) + length (filled c m .made)
+  unfolding cellStep
+  cell-made = length-append (m .made) (filled c m .made)
+
+  pub cell-triangles : length (cellStep c m .triangles) ≡ length (m .triangles) + c .triangles
+  unfolding cellStep
+  cell-triangles = rw (length-append, length-listed)
+
+-- ---- a cell written
+
+pub holds-none : (n : ℕ) (vertices : List Float) (triangles : List ℕ)
+    → Holds (blank n) (record { vertices = 0; triangles = 0 }) vertices triangles (replicate (storeLength n) 0)
+unfolding blank
+holds-none n vertices triangles = record { vertex-count = refl; triangle-count = refl; vertices-are = refl; triangles-are = refl; store-is = refl }
+
+-- a cell can be written: the buffers hold the mesh before it, and have room for a mesh that has it
+pub record Ready (s : Star) (c : Cell) (m : Mesh) (counts : Counts) (vertices : List Float) (triangles store : List ℕ) : Type 0 where
+  pub holds : Holds m counts vertices triangles store
+  pub upto : Upto (cellStep c m) (meshOf s)
+  pub fits : Fits s vertices triangles store
+
+module _ {s : Star} {c : Cell} {m : Mesh} {counts : Counts} {vertices : List Float} {triangles store : List ℕ}
+    (ready : Ready s c m counts vertices triangles store) where
+  filled-is : fillTo c (counts .vertices) store (c .vertices) ≡ filled c m
+  filled-is = cc
+
+  -- the room that a cell wants is there
+  pub room-vertices : Room 6 (counts .vertices + length (fillTo c (counts .vertices) store (c .vertices) .made)) vertices
+  room-vertices =
+      let e : counts .vertices + length (fillTo c (counts .vertices) store (c .vertices) .made) ≡ length (cellStep c m .made) =
+      cc (filled-is, cell-made c m) in
+      record { room = omega arith; short = omega arith }
+
+  pub room-triangles : Room 3 (counts .triangles + c .triangles) triangles
+  room-triangles =
+      let e : counts .triangles + c .triangles ≡ length (cellStep c m .triangles) = cc (cell-triangles c m) in
+      record { room = omega arith; short = omega arith }
+
+  pub holds-more : (counts′ : Counts) (vertices′ : List Float) (triangles′ store′ : List ℕ)
+      → CellPut c (counts .vertices) (counts .triangles) vertices triangles store (counts′ .vertices) (counts′ .triangles) vertices′ triangles′ store′
+      → Holds (cellStep c m) counts′ vertices′ triangles′ store′
+  unfolding cellStep
+  holds-more counts′ vertices′ triangles′ store′ put =
+      let new = filled c m .made in
+      let sent = listed (triangleOf c (filled c m .index)) (c .triangles) in
+      let nv = counts .vertices in
+      let nt = counts .triangles in
+      let f = filled-is in
+      let k : length sent ≡ c .triangles = length-listed (triangleOf c (filled c m .index)) (c .triangles) in
+      let ev : counts′ .vertices ≡ nv + length new = cc in
+      let et : counts′ .triangles ≡ nt + length sent = cc in
+      let lv : vertices′ ≡ layVertices vertices nv new = cc in
+      let lt : triangles′ ≡ layTriangles triangles nt sent = cc in
+      let made : length (fillTo c nv store (c .vertices) .made) ≡ length new = cc in
+      let rv : 6 * (nv + length new) ≤ length vertices = omega (arith, room-vertices .room) in
+      let rt : 3 * (nt + length sent) ≤ length triangles = omega (arith, room-triangles .room) in
+      record {
+        vertex-count = cc (length-append (m .made) new);
+        triangle-count = cc (length-append (m .triangles) sent);
+        vertices-are = rw (ev, lv, take-lay 6 vertexFloats (λ t. refl) vertices nv new rv, ready .holds .vertices-are, each-append 6 vertexFloats (m .made) new);
+        triangles-are = rw (et, lt, take-lay 3 triangleIndices (λ t. refl) triangles nt sent rt, ready .holds .triangles-are, each-append 3 triangleIndices (m .triangles) sent);
+        store-is = cc;
+      }
+
+-- ---- at the end
+
+pub holds-all : (s : Star) (counts : Counts) (vertices : List Float) (triangles store : List ℕ)
+    → Exact s vertices triangles store → Holds (meshOf s) counts vertices triangles store → Written (meshOf s) vertices triangles store
+holds-all s counts vertices triangles store exact h =
+    record {
+      vertices-are = sym (take-all (6 * counts .vertices) vertices (omega arith)) ∙ h .vertices-are;
+      triangles-are = sym (take-all (3 * counts .triangles) triangles (omega arith)) ∙ h .triangles-are;
+      store-is = h .store-is;
+    }
+
+-- ---- lengths that stay
+
+pub same-then : {v v′ v″ : List Float} {t t′ t″ s s′ s″ : List ℕ} → SameLengths v v′ t t′ s s′ → SameLengths v′ v″ t′ t″ s′ s″
+    → SameLengths v v″ t t″ s s″
+same-then h k =
+    record {
+      vertices-same = k .vertices-same ∙ h .vertices-same;
+      triangles-same = k .triangles-same ∙ h .triangles-same;
+      store-same = k .store-same ∙ h .store-same;
+    }
+
+module _ {s : Star} {vertices₀ vertices : List Float} {triangles₀ triangles store₀ store : List ℕ}
+    (same : SameLengths vertices₀ vertices triangles₀ triangles store₀ store) where
+  pub fits-still : Fits s vertices₀ triangles₀ store₀ → Fits s vertices triangles store
+  fits-still fits =
+      record {
+        vertices-fit = record { room = omega arith; short = fits .vertices-fit .short };
+        triangles-fit = record { room = omega arith; short = fits .triangles-fit .short };
+        store-fits = same .store-same ∙ fits .store-fits;
+      }
+
+  pub exact-still : Exact s vertices₀ triangles₀ store₀ → Exact s vertices triangles store
+  exact-still exact =
+      record {
+        fits = fits-still (exact .fits);
+        vertices-fill = same .vertices-same ∙ exact .vertices-fill;
+        triangles-fill = same .triangles-same ∙ exact .triangles-fill;
+      }

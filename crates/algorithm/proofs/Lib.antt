@@ -1,0 +1,6 @@
+pub mod Buffers
+pub mod Walk
+pub mod Holding
+pub mod Growth
+pub mod Answers
+pub mod Pinned

@@ -1,0 +1,92 @@
+-- The mesh grows by one layer in each turn. Assumes nothing.
+use borrow.Author.Needs.{needs}
+use native.Mathlib.Omega.{arith}
+use Prim.Native.Nat.{_≤_, _<_, _-_}
+use mathlib.Core.Path.{refl}
+use Rattle.model.specs.Points.{star}
+use Rattle.algorithm.specs.Walk.{regularTo}
+use Rattle.algorithm.specs.Posts.{Holds, SameLengths}
+use Rattle.algorithm.proofs.Walk.{regular-start, regular-end}
+use Rattle.algorithm.proofs.Holding.{holds-none, same-then, fits-still}
+use Rattle.algorithm.proofs.writing.write_regular_cells.Statement.{statement}
+use Rattle.algorithm.proofs.writing.write_regular_cells.Tie as tie
+
+abbrev Inv-loop : tie.InvT-loop
+Inv-loop block mask threshold centre neighbours classes cells codes store₀ vertices₀ triangles₀ n counts₀ x₀ store vertices triangles counts x =
+    (x ≤ n)
+    × (SameLengths vertices₀ vertices triangles₀ triangles store₀ store
+    × Holds (regularTo (star block mask threshold centre neighbours) x 0 0) counts vertices triangles store)
+
+abbrev μ-loop : tie.MeasureT-loop
+μ-loop block mask threshold centre neighbours classes cells codes store₀ vertices₀ triangles₀ n counts₀ x₀ store vertices triangles counts x = n - x
+
+below : (c : tie.In-loop Inv-loop μ-loop) → c .before .loop .x < c .before .before .before .before .before .before .before .args .block .subdivisions
+below c = omega (arith, c .loop-test .taken, c .before .before .before .before .before .before .before .pre .1 .0 .some)
+
+loop-holds : tie.Need-loop-holds Inv-loop μ-loop
+loop-holds c =
+    let b = c .before .before .before .before .before in
+    let a = b .args in
+    let s = star (a .block) (a .mask) (a .threshold) (a .centre .now) (a .neighbours .now) in
+    (omega arith, (record { vertices-same = refl; triangles-same = refl; store-same = refl }, rw (regular-start s, b .pre .1 .1 .1) (holds-none (a .block .subdivisions) (a .vertices .now) (a .triangles .now))))
+
+write-layer-requires : tie.Need-write-layer-requires Inv-loop μ-loop
+write-layer-requires c κs =
+    let b = c .before .before .before .before .before .before .before .before .before .before in
+    let i = c .before .before .before in
+    let l = i .before .loop in
+    (b .pre .0, (b .pre .1 .0, (below i, (fits-still (l .inv .1 .0) (b .pre .1 .1 .0), l .inv .1 .1))))
+
+add-x : tie.Need-add-x Inv-loop μ-loop
+add-x c = search needs
+
+loop-less : tie.Need-loop-less Inv-loop μ-loop
+loop-less c = search needs
+
+loop-again : tie.Need-loop-again Inv-loop μ-loop
+loop-again c =
+    let w = c .before .before .before .before .before .before .write-layer in
+    let i = c .before .before .before .before .before .before .before .before .before .before in (
+      omega (arith, below i),
+      (
+        same-then (i .before .loop .inv .1 .0)
+            record {
+              vertices-same = w .kept .1 .1 .1 .1 .1 .1 .1 .1 .1 .1 .1 .0;
+              triangles-same = w .kept .1 .1 .1 .1 .1 .1 .1 .1 .1 .1 .1 .1 .0;
+              store-same = w .kept .1 .1 .1 .1 .1 .1 .1 .1 .1 .1 .0;
+            },
+        w .ensures,
+      ),
+    )
+
+same-length : tie.Need-same-length Inv-loop μ-loop
+same-length c = c .before .loop .inv .1 .0 .store-same
+
+same-length-2 : tie.Need-same-length-2 Inv-loop μ-loop
+same-length-2 c = c .before .loop .inv .1 .0 .vertices-same
+
+same-length-3 : tie.Need-same-length-3 Inv-loop μ-loop
+same-length-3 c = c .before .loop .inv .1 .0 .triangles-same
+
+returns : tie.Need-returns Inv-loop μ-loop
+returns c =
+    let a = c .before .before .before .before .before .before .before .args in
+    let l = c .before .loop in
+    let s = star (a .block) (a .mask) (a .threshold) (a .centre .now) (a .neighbours .now) in
+    rw (← regular-end s (l .x) (omega arith)) (l .inv .1 .1)
+
+pub write-regular-cells-spec : {M : Type 1} → statement M
+write-regular-cells-spec =
+    tie.close
+    (tie.spec
+    Inv-loop
+    μ-loop
+    loop-holds
+    write-layer-requires
+    add-x
+    loop-less
+    loop-again
+    same-length
+    same-length-2
+    same-length-3
+    returns)

@@ -1,0 +1,90 @@
+-- The mesh grows by one row in each turn. Assumes nothing.
+use borrow.Author.Needs.{needs}
+use native.Mathlib.Omega.{arith}
+use Prim.Native.Nat.{_≤_, _<_, _-_}
+use mathlib.Core.Path.{refl}
+use Rattle.model.specs.Points.{star}
+use Rattle.algorithm.specs.Walk.{transitionTo}
+use Rattle.algorithm.specs.Posts.{Holds, SameLengths}
+use Rattle.algorithm.proofs.Walk.{transition-side}
+use Rattle.algorithm.proofs.Holding.{same-then, fits-still}
+use Rattle.algorithm.proofs.writing.write_side.Statement.{statement}
+use Rattle.algorithm.proofs.writing.write_side.Tie as tie
+
+abbrev Inv-loop : tie.InvT-loop
+Inv-loop block mask threshold centre neighbours classes cells codes side counts₀ store₀ vertices₀ triangles₀ n u₀ counts store vertices triangles u =
+    (u ≤ n)
+    × (SameLengths vertices₀ vertices triangles₀ triangles store₀ store
+    × Holds (transitionTo (star block mask threshold centre neighbours) side u 0) counts vertices triangles store)
+
+abbrev μ-loop : tie.MeasureT-loop
+μ-loop block mask threshold centre neighbours classes cells codes side counts₀ store₀ vertices₀ triangles₀ n u₀ counts store vertices triangles u = n - u
+
+below : (c : tie.In-loop Inv-loop μ-loop) → c .before .loop .u < c .before .before .before .before .before .before .before .args .block .subdivisions
+below c = omega (arith, c .loop-test .taken, c .before .before .before .before .before .before .before .pre .1 .0 .some)
+
+loop-holds : tie.Need-loop-holds Inv-loop μ-loop
+loop-holds c = (omega arith, (record { vertices-same = refl; triangles-same = refl; store-same = refl }, c .before .before .before .before .before .pre .1 .1 .1 .1))
+
+write-row-requires : tie.Need-write-row-requires Inv-loop μ-loop
+write-row-requires c κs =
+    let b = c .before .before .before .before .before .before .before .before .before .before in
+    let i = c .before .before .before in
+    let p = b .pre .1 .1 .0 in
+    let l = i .before .loop in
+    (b .pre .0, (b .pre .1 .0, ((p .0, (p .1, below i)), (fits-still (l .inv .1 .0) (b .pre .1 .1 .1 .0), l .inv .1 .1))))
+
+add-u : tie.Need-add-u Inv-loop μ-loop
+add-u c = search needs
+
+loop-less : tie.Need-loop-less Inv-loop μ-loop
+loop-less c = search needs
+
+loop-again : tie.Need-loop-again Inv-loop μ-loop
+loop-again c =
+    let w = c .before .before .before .before .before .before .write-row in
+    let i = c .before .before .before .before .before .before .before .before .before .before in (
+      omega (arith, below i),
+      (
+        same-then (i .before .loop .inv .1 .0)
+            record {
+              vertices-same = w .kept .1 .1 .1 .1 .1 .1 .1 .1 .1 .1 .1 .1 .0;
+              triangles-same = w .kept .1 .1 .1 .1 .1 .1 .1 .1 .1 .1 .1 .1 .1 .0;
+              store-same = w .kept .1 .1 .1 .1 .1 .1 .1 .1 .1 .1 .1 .0;
+            },
+        w .ensures,
+      ),
+    )
+
+same-length : tie.Need-same-length Inv-loop μ-loop
+same-length c = c .before .loop .inv .1 .0 .store-same
+
+same-length-2 : tie.Need-same-length-2 Inv-loop μ-loop
+same-length-2 c = c .before .loop .inv .1 .0 .vertices-same
+
+same-length-3 : tie.Need-same-length-3 Inv-loop μ-loop
+same-length-3 c = c .before .loop .inv .1 .0 .triangles-same
+
+returns : tie.Need-returns Inv-loop μ-loop
+returns c =
+    let b = c .before .before .before .before .before .before .before in
+    let a = b .args in
+    let l = c .before .loop in
+    let s = star (a .block) (a .mask) (a .threshold) (a .centre .now) (a .neighbours .now) in
+    rw (← transition-side s (a .side) (l .u) (b .pre .1 .1 .0 .1) (omega arith)) (l .inv .1 .1)
+
+pub write-side-spec : {M : Type 1} → statement M
+write-side-spec =
+    tie.close
+    (tie.spec
+    Inv-loop
+    μ-loop
+    loop-holds
+    write-row-requires
+    add-u
+    loop-less
+    loop-again
+    same-length
+    same-length-2
+    same-length-3
+    returns)
