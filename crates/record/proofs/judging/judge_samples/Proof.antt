@@ -1,0 +1,74 @@
+-- `judge_samples` meets its contract. The loop's invariant: no sample passed is refused.
+use Prim.Native.Nat.{_+_, _*_, _-_, _≤_}
+use mathlib.Core.Path.{_≡_, sym}
+use native.Mathlib.Omega.{arith}
+use borrow.Author.Needs.{needs}
+use borrow.Author.Tests.{not-true, not-false}
+use Rattle.model.specs.declared.Refusal.the-variants.{BadSample}
+use Rattle.model.specs.declared.Verdict.the-variants.{Passed, Refused}
+use Rattle.model.specs.Refusals.{first}
+use Rattle.judge.specs.First.{not-yet, hit}
+use Rattle.record.specs.Parts.{sampleUsableAt}
+use Rattle.record.proofs.judging.judge_samples.Statement.{statement}
+use Rattle.record.proofs.judging.judge_samples.Tie as tie
+
+abbrev Inv-loop : tie.InvT-loop
+Inv-loop bytes count k₀ k = (k ≤ count) × (first (sampleUsableAt bytes) k ≡ Passed)
+
+abbrev μ-loop : tie.MeasureT-loop
+μ-loop bytes count k₀ k = count - k
+
+loop-holds : tie.Need-loop-holds Inv-loop μ-loop
+loop-holds c = search needs
+
+mul-is-usable-at : tie.Need-mul-is-usable-at Inv-loop μ-loop
+mul-is-usable-at c = omega arith
+
+add-is-usable-at : tie.Need-add-is-usable-at Inv-loop μ-loop
+add-is-usable-at c = omega arith
+
+is-usable-at-requires : tie.Need-is-usable-at-requires Inv-loop μ-loop
+is-usable-at-requires c κs = omega arith
+
+returns : tie.Need-returns Inv-loop μ-loop
+returns c =
+    let start = c .before .before .before .before .before .args in
+    let k = c .before .before .before .loop .k in
+    let bad = not-true (c .before .is-usable-at .result) (c .if1 .taken) in
+    let here : sampleUsableAt (start .bytes .now) k ≡ Refused (BadSample k) = rw (← c .before .is-usable-at .ensures, bad) in
+    sym (hit (sampleUsableAt (start .bytes .now)) k (start .count) (BadSample k) (c .before .before .before .loop .inv .1) here (omega arith))
+
+add-k : tie.Need-add-k Inv-loop μ-loop
+add-k c = search needs
+
+loop-less : tie.Need-loop-less Inv-loop μ-loop
+loop-less c = omega arith
+
+loop-again : tie.Need-loop-again Inv-loop μ-loop
+loop-again c =
+    let start = c .before .before .before .before .before .args in
+    let k = c .before .before .before .loop .k in
+    let good = not-false (c .before .is-usable-at .result) (c .if1 .left) in
+    let here : sampleUsableAt (start .bytes .now) k ≡ Passed = rw (← c .before .is-usable-at .ensures, good) in
+    (omega arith, not-yet (sampleUsableAt (start .bytes .now)) k (c .before .before .before .loop .inv .1) here)
+
+returns-2 : tie.Need-returns-2 Inv-loop μ-loop
+returns-2 c =
+    let all : c .before .loop .k ≡ c .before .before .before .args .count = omega arith in
+    sym (rw all at (c .before .loop .inv .1))
+
+pub judge-samples-spec : {M : Type 1} → statement M
+judge-samples-spec =
+    tie.close
+    (tie.spec
+    Inv-loop
+    μ-loop
+    loop-holds
+    mul-is-usable-at
+    add-is-usable-at
+    is-usable-at-requires
+    returns
+    add-k
+    loop-less
+    loop-again
+    returns-2)

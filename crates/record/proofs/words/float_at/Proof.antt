@@ -1,0 +1,18 @@
+use mathlib.Core.Path.{ap}
+use lib.Ieee.{binary32, ofBits}
+use lib.Ieee.Bits.{nanBits-is}
+use borrow.Author.Needs.{needs}
+use Rattle.record.proofs.words.float_at.Statement.{statement}
+use Rattle.record.proofs.words.float_at.Tie as tie
+
+word-at-requires : tie.Need-word-at-requires
+word-at-requires c κs = search needs
+
+float-from-bits-result : tie.Need-float-from-bits-result
+float-from-bits-result c = rw (nanBits-is, c .word-at .ensures) (c .before .before .pre .1)
+
+returns : tie.Need-returns
+returns c = ap (ofBits binary32) (c .word-at .ensures)
+
+pub float-at-spec : {M : Type 1} → statement M
+float-at-spec = tie.close (tie.spec word-at-requires float-from-bits-result returns)

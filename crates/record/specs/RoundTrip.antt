@@ -1,0 +1,210 @@
+-- Document 01, 'Block record': reading then writing gives the same bytes, and writing then reading the same block.
+use Prim.Native.Nat.{ℕ, _+_, _-_, _*_, _≤_, _<_, zero-le}
+use native.Mathlib.Nat.{mul-le-mul-right}
+use native.Mathlib.Omega.{arith}
+use mathlib.Core.Path.{_≡_, refl, sym, ap, ap₂, _∙_, subst}
+use mathlib.Core.Bool.{Bool, true, false, cond}
+use mathlib.Core.List.{List, [], _∷_, _++_}
+use borrow.Author.Tests.{leb-true, le-leb, eq-eqb}
+use lib.Count.{ones}
+use lib.Dec.{leb, eqb}
+use lib.Ieee.{Float, nan}
+use lib.ListN.{length, getD, take, drop, length-append, length-take, length-drop, take-append-drop}
+use lib.Seq.{take-at, take-all, take-append-le, drop-append-le, length-take-le}
+use Rattle.model.specs.declared.Header.{Header}
+use Rattle.model.specs.declared.Refusal.the-variants.{MissingNeighbour}
+use Rattle.model.specs.declared.Verdict.{Verdict}
+use Rattle.model.specs.declared.Verdict.the-variants.{Passed, Refused}
+use Rattle.model.specs.declared.RecordRead.the-variants as RecordRead
+use Rattle.model.specs.declared.RecordWritten.the-variants as RecordWritten
+use Rattle.model.specs.Steps.{laid}
+use Rattle.model.specs.Samples.{sampleLength}
+use Rattle.model.specs.Sides.{named, namedBelow, neighbourLength, neighboursLength}
+use Rattle.model.specs.Refusals.{unless, orElse, first}
+use Rattle.model.specs.Points.{star}
+use Rattle.model.specs.Judging.{judgeMeasures, judgeMissing, sideThere, usable, judgeSamples, judgeBuffer}
+use Rattle.model.specs.Extraction.{judgeStar}
+use Rattle.model.specs.Record.{wordAt, sampleCount, countOf, headerOf, samplesOf, recordOf, judgeRecord, readAnswer, readRecord, writeAnswer, writeRecord}
+use Rattle.grid.specs.Shape.{Shaped}
+use Rattle.grid.specs.SideLaws.{named-below}
+use Rattle.judge.specs.First.{both-passed, passed-over}
+use Rattle.judge.specs.Passing.{star-shaped}
+use Rattle.record.specs.Words.{Bytes, Fit}
+use Rattle.record.specs.Writable.{star-parts}
+use Rattle.record.specs.Accepted.{Accepted, accepted, passes, length-samples, sample-is, samples-pass, samples-usable, count-small}
+use Rattle.record.specs.Bytes.{measuresOf, length-record, length-told, version-told, header-back, samples-back, record-back}
+
+-- ---- reading then writing
+
+-- no neighbour is missing of a list that is long enough
+none-missing : (n mask held : ℕ) → mask ≤ 63 → neighboursLength n mask ≤ held → judgeMissing n mask held ≡ Passed
+unfolding judgeMissing
+none-missing n mask held sides h = passed-over (sideThere n mask held) 0 6 refl (λ side from l. by side l (named mask side) refl) zero-le
+  where
+    by : (side : ℕ) → side < 6 → (b : Bool) → named mask side ≡ b
+        → cond b (unless (leb ((namedBelow mask side + 1) * neighbourLength n) held) (MissingNeighbour side)) Passed ≡ Passed
+    by side l true e =
+        let fits : (namedBelow mask side + 1) * neighbourLength n ≤ ones mask * neighbourLength n =
+        mul-le-mul-right (neighbourLength n) (omega (arith, named-below mask side sides l e)) in
+        rw (le-leb ((namedBelow mask side + 1) * neighbourLength n) held (omega arith))
+    by side l false e = refl
+
+module _ (bytes : List ℕ) (a : Accepted bytes) where
+  abbrev n : ℕ
+  n = getD bytes 5 0
+
+  abbrev mask : ℕ
+  mask = getD bytes 6 0
+
+  star-passes : (centre neighbours : List Float) → centre ++ neighbours ≡ samplesOf bytes → length centre ≡ sampleLength n
+      → judgeStar (star (headerOf bytes .block) mask (headerOf bytes .threshold) centre neighbours) ≡ Passed
+  unfolding judgeStar headerOf
+  star-passes centre neighbours whole centre-is =
+      let neighbours-are : length neighbours ≡ neighboursLength n mask =
+      omega (arith, length-append centre neighbours, ap length whole, length-samples bytes) in
+      let samples : judgeSamples (centre ++ neighbours) ≡ Passed =
+      ap judgeSamples whole
+      ∙ samples-pass (samplesOf bytes)
+      (λ k h. let l : k < countOf bytes = rw (length-samples bytes) at h in ap usable (sample-is bytes k l) ∙ a .usable-samples k l) in
+      rw (
+        le-leb 1 n (a .some),
+        le-leb n 16 (a .few),
+        le-leb mask 63 (a .sides),
+        a .measures,
+        eq-eqb (length centre) (sampleLength n) centre-is,
+        none-missing n mask (length neighbours) (a .sides) (omega arith),
+        le-leb (length neighbours) (neighboursLength n mask) (omega arith),
+        samples,
+      )
+
+  -- the two parts of what was read, whatever stands beyond
+  centre-part : (beyond : List Float) → take (sampleLength n) (samplesOf bytes ++ beyond) ≡ take (sampleLength n) (samplesOf bytes)
+  centre-part beyond = take-append-le (sampleLength n) (samplesOf bytes) beyond (rw (length-samples bytes) (omega arith))
+
+  neighbours-part : (beyond : List Float) → take (neighboursLength n mask) (drop (sampleLength n) (samplesOf bytes ++ beyond)) ≡ drop (sampleLength n) (samplesOf bytes)
+  neighbours-part beyond =
+      ap (take (neighboursLength n mask)) (drop-append-le (sampleLength n) (samplesOf bytes) beyond (rw (length-samples bytes) (omega arith)))
+      ∙ take-at (drop (sampleLength n) (samplesOf bytes)) beyond (neighboursLength n mask) (rw (length-drop, length-samples bytes) (omega arith))
+
+  written : Bytes bytes → (out : List ℕ) → length bytes ≤ length out
+      → writeRecord (headerOf bytes) (take (sampleLength n) (samplesOf bytes)) (drop (sampleLength n) (samplesOf bytes)) out
+      ≡ record { answer = RecordWritten.Bytes (length bytes); bytes = laid bytes out }
+  unfolding headerOf writeRecord
+  written small out room =
+      let centre = take (sampleLength n) (samplesOf bytes) in
+      let neighbours = drop (sampleLength n) (samplesOf bytes) in
+      let whole : centre ++ neighbours ≡ samplesOf bytes = take-append-drop (sampleLength n) (samplesOf bytes) in
+      let long : 27 + 4 * length (samplesOf bytes) ≡ length bytes = rw (length-samples bytes) (sym (a .counted)) in
+      let centre-is : length centre ≡ sampleLength n = length-take-le (sampleLength n) (samplesOf bytes) (rw (length-samples bytes) (omega arith)) in
+      rw (
+        star-passes centre neighbours whole centre-is,
+        whole,
+        le-leb (27 + 4 * length (samplesOf bytes)) (length out) (omega arith),
+        record-back bytes small a,
+        long,
+      )
+
+-- a block is answered only by a record that passes
+answered : (bytes : List ℕ) (samples : List Float) (h : Header) (v : Verdict) → readAnswer bytes samples v .answer ≡ RecordRead.Block h
+    → (v ≡ Passed) × (headerOf bytes ≡ h)
+answered bytes samples h Passed e = (refl, cc)
+answered bytes samples h (Refused r) e = (cc, cc)
+
+pub read-write : (bytes : List ℕ) (samples : List Float) (out : List ℕ) (h : Header)
+    → Bytes bytes → readRecord bytes samples .answer ≡ RecordRead.Block h → length bytes ≤ length out
+    → let n = h .block .subdivisions in
+    let read = readRecord bytes samples .samples in
+    writeRecord h (take (sampleLength n) read) (take (neighboursLength n (h .mask)) (drop (sampleLength n) read)) out
+    ≡ record { answer = RecordWritten.Bytes (length bytes); bytes = laid bytes out }
+unfolding readRecord headerOf
+read-write bytes samples out h small e room =
+    let passed = answered bytes samples h (orElse (judgeRecord bytes) (judgeBuffer (countOf bytes) (length samples))) e in
+    let a = accepted bytes (both-passed _ _ (passed .0) .0) in
+    let beyond = drop (length (samplesOf bytes)) samples in
+    let read = readRecord bytes samples .samples in
+    let read-is : read ≡ samplesOf bytes ++ beyond = ap (λ (v : Verdict). readAnswer bytes samples v .samples) (passed .0) in
+    let c = sampleLength (getD bytes 5 0) in
+    let k = neighboursLength (getD bytes 5 0) (getD bytes 6 0) in
+    subst
+    (λ (h : Header).
+    writeRecord h (take (sampleLength (h .block .subdivisions)) read)
+    (take (neighboursLength (h .block .subdivisions) (h .mask)) (drop (sampleLength (h .block .subdivisions)) read)) out
+    ≡ record { answer = RecordWritten.Bytes (length bytes); bytes = laid bytes out })
+    (passed .1)
+    (ap₂ (λ (centre neighbours : List Float). writeRecord (headerOf bytes) centre neighbours out)
+    (ap (take c) read-is ∙ centre-part bytes a beyond) (ap (λ (r : List Float). take k (drop c r)) read-is ∙ neighbours-part bytes a beyond)
+    ∙ written bytes a small out room)
+
+-- ---- writing then reading
+
+module _ (h : Header) (centre neighbours : List Float) (fit-measures : Fit (measuresOf h)) (fit : Fit (centre ++ neighbours))
+    (passed : judgeStar (star (h .block) (h .mask) (h .threshold) centre neighbours) ≡ Passed) (shaped : Shaped (star (h .block) (h .mask) (h .threshold) centre neighbours)) where
+  abbrev samples : List Float
+  samples = centre ++ neighbours
+
+  abbrev bytes : List ℕ
+  bytes = recordOf h samples
+
+  header-is : headerOf bytes ≡ h
+  header-is = header-back h samples fit-measures fit
+
+  n-is : getD bytes 5 0 ≡ h .block .subdivisions
+  unfolding headerOf
+  n-is = ap (λ (k : Header). k .block .subdivisions) header-is
+
+  mask-is : getD bytes 6 0 ≡ h .mask
+  unfolding headerOf
+  mask-is = ap (λ (k : Header). k .mask) header-is
+
+  count-is : countOf bytes ≡ length samples
+  count-is = ap₂ sampleCount n-is mask-is ∙ sym (rw (length-append, shaped .centre-is, shaped .neighbours-are))
+
+  samples-are : samplesOf bytes ≡ samples
+  samples-are = samples-back h samples fit-measures fit count-is
+
+  read-back : Accepted bytes
+  unfolding headerOf
+  read-back =
+      let n = h .block .subdivisions in
+      let long = length-record h samples in
+      let parts = star-parts (star (h .block) (h .mask) (h .threshold) centre neighbours) passed in
+      let few : length samples ≤ 297297 = rw (← count-is, n-is, mask-is) (count-small n (h .mask) (shaped .few) (shaped .sides)) in
+      record {
+        long = omega arith;
+        told = length-told h samples (omega arith) ∙ rw long (omega arith);
+        version = version-told h samples;
+        some = rw n-is (shaped .some);
+        few = rw n-is (shaped .few);
+        sides = rw mask-is (shaped .sides);
+        measures = ap (λ (k : Header). judgeMeasures (k .block) (k .threshold)) header-is ∙ parts .0;
+        counted = rw count-is long;
+        usable-samples = λ k l.
+            ap usable (sym (sample-is bytes k l) ∙ ap (λ (s : List Float). getD s k nan) samples-are)
+            ∙ samples-usable samples k (parts .1) (rw (← count-is) l);
+      }
+
+-- bytes are answered only for a block that passes
+wrote : (h : Header) (samples : List Float) (out : List ℕ) (k : ℕ) (v : Verdict) → writeAnswer h samples out v .answer ≡ RecordWritten.Bytes k
+    → (v ≡ Passed) × (27 + 4 * length samples ≡ k)
+wrote h samples out k Passed e = (refl, cc)
+wrote h samples out k (Refused r) e = (cc, cc)
+
+pub write-read : (h : Header) (centre neighbours : List Float) (out : List ℕ) (samples : List Float) (k : ℕ)
+    → Fit (measuresOf h) → Fit (centre ++ neighbours)
+    → writeRecord h centre neighbours out .answer ≡ RecordWritten.Bytes k → length (centre ++ neighbours) ≤ length samples
+    → readRecord (take k (writeRecord h centre neighbours out .bytes)) samples
+    ≡ record { answer = RecordRead.Block h; samples = laid (centre ++ neighbours) samples }
+unfolding readRecord writeRecord
+write-read h centre neighbours out samples k fit-measures fit e room =
+    let s = star (h .block) (h .mask) (h .threshold) centre neighbours in
+    let written = wrote h (centre ++ neighbours) out k (orElse (judgeStar s) (judgeBuffer (27 + 4 * length (centre ++ neighbours)) (length out))) e in
+    let passed = both-passed (judgeStar s) _ (written .0) .0 in
+    let shaped = star-shaped s passed in
+    let bytes = recordOf h (centre ++ neighbours) in
+    let taken : take k (writeRecord h centre neighbours out .bytes) ≡ bytes =
+    ap (λ (v : Verdict). take k (writeAnswer h (centre ++ neighbours) out v .bytes)) (written .0)
+    ∙ take-at bytes (drop (length bytes) out) k (length-record h (centre ++ neighbours) ∙ written .1) in
+    let a = read-back h centre neighbours fit-measures fit passed shaped in
+    let count = count-is h centre neighbours fit-measures fit passed shaped in
+    ap (λ (b : List ℕ). readRecord b samples) taken
+    ∙ rw (passes bytes a, count, le-leb (length (centre ++ neighbours)) (length samples) room, header-is h centre neighbours fit-measures fit passed shaped, samples-are h centre neighbours fit-measures fit passed shaped)

@@ -1,0 +1,65 @@
+-- What the writer rests on: what holds of a block that 1 to 7 do not refuse. Assumes nothing.
+use Prim.Native.Nat.{ℕ, zero, suc, _+_, _≤_, _<_}
+use native.Mathlib.Omega.{arith}
+use mathlib.Core.Path.{_≡_, refl, sym, ap, _∙_, subst}
+use mathlib.Core.Bool.{not}
+use mathlib.Core.List.{List, _++_}
+use lib.Dec.{T}
+use lib.Ieee.{Float, nan, isNan}
+use lib.ListN.{length, getD, length-append, List·getD-append}
+use lib.Seq.{getD-append-add}
+use Rattle.model.specs.declared.Header.{Header}
+use Rattle.model.specs.declared.Verdict.the-variants.{Passed}
+use Rattle.model.specs.Points.{Star, star, subdivisions}
+use Rattle.model.specs.Judging.{judgeSubdivisions, judgeMask, judgeMeasures, judgeCentre, judgeMissing, judgeTooLong, judgeSamples}
+use Rattle.model.specs.Extraction.{judgeStar}
+use Rattle.judge.specs.First.{both-passed}
+use Rattle.judge.specs.Passing.{star-shaped}
+use Rattle.record.specs.Words.{Numbers, usable-number}
+use Rattle.record.specs.Accepted.{count-small, measure-number, samples-usable}
+use Rattle.record.specs.Bytes.{measuresOf}
+
+pub star-parts : (s : Star) → judgeStar s ≡ Passed → (judgeMeasures (s .block) (s .threshold) ≡ Passed) × (judgeSamples (s .centre ++ s .neighbours) ≡ Passed)
+unfolding judgeStar
+star-parts s passed =
+    let n = subdivisions s in
+    let held = length (s .neighbours) in
+    let past-1 = both-passed (judgeSubdivisions n) _ passed .1 in
+    let past-2 = both-passed (judgeMask (s .mask)) _ past-1 .1 in
+    let past-3 = both-passed (judgeMeasures (s .block) (s .threshold)) _ past-2 in
+    let past-4 = both-passed (judgeCentre n (length (s .centre))) _ (past-3 .1) .1 in
+    let past-5 = both-passed (judgeMissing n (s .mask) held) _ past-4 .1 in
+    (past-3 .0, both-passed (judgeTooLong n (s .mask) held) (judgeSamples (s .centre ++ s .neighbours)) past-5 .1)
+
+pub record Writable (h : Header) (centre neighbours : List Float) : Type 0 where
+  pub few : h .block .subdivisions ≤ 16
+  pub counted : length centre + length neighbours ≤ 297297
+  pub measures : Numbers (measuresOf h)
+  pub centre-numbers : Numbers centre
+  pub neighbour-numbers : Numbers neighbours
+
+measures-are : (h : Header) → judgeMeasures (h .block) (h .threshold) ≡ Passed → Numbers (measuresOf h)
+measures-are h e zero l = measure-number (h .block) (h .threshold) 0 e
+measures-are h e (suc zero) l = measure-number (h .block) (h .threshold) 1 e
+measures-are h e (suc (suc zero)) l = measure-number (h .block) (h .threshold) 2 e
+measures-are h e (suc (suc (suc zero))) l = measure-number (h .block) (h .threshold) 3 e
+measures-are h e (suc (suc (suc (suc zero)))) l = measure-number (h .block) (h .threshold) 4 e
+measures-are h e (suc (suc (suc (suc (suc k))))) l = absurd (omega arith)
+
+pub writable : (h : Header) (centre neighbours : List Float) → judgeStar (star (h .block) (h .mask) (h .threshold) centre neighbours) ≡ Passed
+    → Writable h centre neighbours
+writable h centre neighbours passed =
+    let s = star (h .block) (h .mask) (h .threshold) centre neighbours in
+    let shaped = star-shaped s passed in
+    let parts = star-parts s passed in
+    let number : (k : ℕ) → k < length centre + length neighbours → T (not (isNan (getD (centre ++ neighbours) k nan))) =
+    λ k l. usable-number (getD (centre ++ neighbours) k nan) (samples-usable (centre ++ neighbours) k (parts .1) (rw length-append l)) in
+    record {
+      few = shaped .few;
+      counted = rw (shaped .centre-is, shaped .neighbours-are) (count-small (h .block .subdivisions) (h .mask) (shaped .few) (shaped .sides));
+      measures = measures-are h (parts .0);
+      centre-numbers = λ k l.
+          subst (λ (x : Float). T (not (isNan x))) (List·getD-append centre neighbours nan k l) (number k (omega arith));
+      neighbour-numbers = λ k l.
+          subst (λ (x : Float). T (not (isNan x))) (getD-append-add centre neighbours k nan) (number (length centre + k) (omega arith));
+    }

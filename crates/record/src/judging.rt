@@ -1,0 +1,141 @@
+// The judges of a record's bytes, in the reader's order: 11, 12, 1, 2, 3, 13, 7.
+ghost use mathlib.Core.Path.{_≡_};
+ghost use Prim.Native.Nat.{_+_, _*_, _≤_, _<_};
+ghost use lib.ListN.{length, getD};
+ghost use Rattle.model.specs.Refusals.{first};
+ghost use Rattle.model.specs.Judging.{usable, usableSize, measureUsable, judgeMeasures};
+ghost use Rattle.model.specs.Record.{floatAt, headerOf, sampleCount, judgeLength, judgeRecord};
+ghost use Rattle.record.specs.Parts.{HeadPassed, sampleUsableAt, judgeHead, judgeBody};
+use crate::words::word_at;
+use grid::transition_sides::count;
+use grid::voxel_blocks::sample_length;
+use judge::judge_mask;
+use judge::judge_subdivisions;
+use judge::unless;
+use model::Refusal;
+use model::Verdict;
+
+// The bytes before the samples.
+pub const HEADER: usize = 27;
+
+// The pattern without its sign is at most that of 1,048,576.
+fn is_usable_at(bytes: &[u8], at: usize) -> bool
+    requires { ⌜ at + 4 ≤ length (now bytes) ⌝ }
+    ensures { λ r. ⌜ r ≡ usable (floatAt (now (bytes .entry)) at) ⌝ }
+{
+    word_at(bytes, at) % 0x8000_0000 <= 0x4980_0000
+}
+
+// The pattern is that of 1/1024, that of 1,048,576 or one between.
+fn is_usable_size_at(bytes: &[u8], at: usize) -> bool
+    requires { ⌜ at + 4 ≤ length (now bytes) ⌝ }
+    ensures { λ r. ⌜ r ≡ usableSize (floatAt (now (bytes .entry)) at) ⌝ }
+{
+    let size = word_at(bytes, at);
+    (0x3A80_0000 <= size) & (size <= 0x4980_0000)
+}
+
+fn judge_length(bytes: &[u8]) -> Verdict
+    ensures { λ r. ⌜ r ≡ judgeLength (now (bytes .entry)) ⌝ }
+{
+    if bytes.len() < HEADER {
+        return Verdict::Refused(Refusal::RecordLength);
+    }
+    unless(
+        word_at(bytes, 0) as usize == bytes.len() - 4,
+        Refusal::RecordLength,
+    )
+}
+
+// Base x, y and z are 0 to 2, size is 3 and threshold 4.
+fn is_measure_usable(bytes: &[u8], which: usize) -> bool
+    requires { ⌜ (27 ≤ length (now bytes)) × (which < 5) ⌝ }
+    ensures { λ r. ⌜ r ≡ measureUsable (headerOf (now (bytes .entry)) .block) (headerOf (now (bytes .entry)) .threshold) which ⌝ }
+{
+    if which == 3 {
+        return is_usable_size_at(bytes, 23);
+    }
+    if which == 4 {
+        return is_usable_at(bytes, 7);
+    }
+    is_usable_at(bytes, 11 + 4 * which)
+}
+
+fn judge_measures(bytes: &[u8]) -> Verdict
+    requires { ⌜ 27 ≤ length (now bytes) ⌝ }
+    ensures { λ r. ⌜ r ≡ judgeMeasures (headerOf (now (bytes .entry)) .block) (headerOf (now (bytes .entry)) .threshold) ⌝ }
+{
+    for which in 0..5 {
+        if !is_measure_usable(bytes, which) {
+            return Verdict::Refused(Refusal::Measure(which));
+        }
+    }
+    Verdict::Passed
+}
+
+// 12, 1, 2 and 3.
+fn judge_head(bytes: &[u8]) -> Verdict
+    requires { ⌜ 27 ≤ length (now bytes) ⌝ }
+    ensures { λ r. ⌜ r ≡ judgeHead (now (bytes .entry)) ⌝ }
+{
+    let version = bytes[4];
+    let known = unless(version == 1, Refusal::Version(version as usize));
+    if let Verdict::Refused(r) = known {
+        return Verdict::Refused(r);
+    }
+    let subdivisions = judge_subdivisions(bytes[5] as usize);
+    if let Verdict::Refused(r) = subdivisions {
+        return Verdict::Refused(r);
+    }
+    let sides = judge_mask(bytes[6]);
+    if let Verdict::Refused(r) = sides {
+        return Verdict::Refused(r);
+    }
+    judge_measures(bytes)
+}
+
+// The samples of a block and of its neighbours.
+fn sample_count(n: usize, mask: u8) -> usize
+    requires { ⌜ (n ≤ 16) × (mask ≤ 63) ⌝ }
+    ensures { λ r. ⌜ (r ≡ sampleCount n mask) × (r ≤ 297297) ⌝ }
+{
+    sample_length(n) + count(mask) * sample_length(2 * n)
+}
+
+fn judge_samples(bytes: &[u8], count: usize) -> Verdict
+    requires { ⌜ length (now bytes) ≡ 27 + 4 * count ⌝ }
+    ensures { λ r. ⌜ r ≡ first (sampleUsableAt (now (bytes .entry))) count ⌝ }
+{
+    for k in 0..count {
+        if !is_usable_at(bytes, HEADER + 4 * k) {
+            return Verdict::Refused(Refusal::BadSample(k));
+        }
+    }
+    Verdict::Passed
+}
+
+// 13 and 7.
+fn judge_body(bytes: &[u8]) -> Verdict
+    requires { ⌜ HeadPassed (now bytes) ⌝ }
+    ensures { λ r. ⌜ r ≡ judgeBody (now (bytes .entry)) ⌝ }
+{
+    let count = sample_count(bytes[5] as usize, bytes[6]);
+    if bytes.len() - HEADER != 4 * count {
+        return Verdict::Refused(Refusal::SampleCount(count));
+    }
+    judge_samples(bytes, count)
+}
+
+pub fn judge_record(bytes: &[u8]) -> Verdict
+    ensures { λ r. ⌜ r ≡ judgeRecord (now (bytes .entry)) ⌝ }
+{
+    let length = judge_length(bytes);
+    if let Verdict::Refused(r) = length {
+        return Verdict::Refused(r);
+    }
+    let head = judge_head(bytes);
+    if let Verdict::Refused(r) = head {
+        return Verdict::Refused(r);
+    }
+    judge_body(bytes)
+}

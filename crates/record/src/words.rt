@@ -1,0 +1,31 @@
+// Big-endian words among bytes, and floats by their bit patterns.
+ghost use mathlib.Core.Path.{_≡_};
+ghost use mathlib.Core.Bool.{not};
+ghost use Prim.Native.Nat.{_+_, _≤_, _<_};
+ghost use lib.Dec.{T};
+ghost use lib.Ieee.{isNan};
+ghost use lib.ListN.{length};
+ghost use Rattle.model.specs.Record.{wordAt, floatAt};
+
+fn wide(b: u8) -> u32
+    ensures { λ r. ⌜ (r ≡ b) × (r < 256) ⌝ }
+{
+    b as u32
+}
+
+pub fn word_at(bytes: &[u8], at: usize) -> u32
+    requires { ⌜ at + 4 ≤ length (now bytes) ⌝ }
+    ensures { λ r. ⌜ r ≡ wordAt (now (bytes .entry)) at ⌝ }
+{
+    16777216 * wide(bytes[at])
+        + 65536 * wide(bytes[at + 1])
+        + 256 * wide(bytes[at + 2])
+        + wide(bytes[at + 3])
+}
+
+pub fn float_at(bytes: &[u8], at: usize) -> f32
+    requires { ⌜ (at + 4 ≤ length (now bytes)) × T (not (isNan (floatAt (now bytes) at))) ⌝ }
+    ensures { λ r. ⌜ r ≡ floatAt (now (bytes .entry)) at ⌝ }
+{
+    f32::from_bits(word_at(bytes, at))
+}

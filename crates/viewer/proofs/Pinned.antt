@@ -1,0 +1,16 @@
+-- What the statement of each of the viewer's calls allows is one answer.
+use mathlib.Core.Path.{_≡_}
+use contract.Lifetimes.{Lfts}
+use Rattle.model.specs.Pinned.{pinned}
+use Rattle.viewer.proofs.sirveshan_subdivisions.Reads as subdivisions
+use Rattle.viewer.proofs.sirveshan_blank.Reads as blank
+use Rattle.viewer.proofs.sirveshan_sample.Reads as sample
+
+pub subdivisions-pinned : (κs : Lfts 1) (a : _) (r r′ : _) (e e′ : _) → subdivisions.Learnt κs a r e → subdivisions.Learnt κs a r′ e′ → r ≡ r′
+subdivisions-pinned κs a r r′ e e′ h k = pinned h k
+
+pub blank-pinned : (κs : Lfts 1) (a : _) (r r′ : _) (e e′ : _) → blank.Learnt κs a r e → blank.Learnt κs a r′ e′ → r ≡ r′
+blank-pinned κs a r r′ e e′ h k = pinned h k
+
+pub sample-pinned : (κs : Lfts 1) (a : _) (r r′ : _) (e e′ : _) → sample.Learnt κs a r e → sample.Learnt κs a r′ e′ → r ≡ r′
+sample-pinned κs a r r′ e e′ h k = pinned h k
