@@ -5,13 +5,13 @@ use mathlib.Core.List.{List}
 use lib.Ieee.{Float}
 use lib.ListN.{length, take}
 use Rattle.model.specs.declared.Counts.{Counts}
-use Rattle.model.specs.Steps.{each}
 use Rattle.model.specs.declared.Verdict.{Verdict}
+use Rattle.model.specs.declared.Extraction.{Extraction}
+use Rattle.model.specs.Steps.{each}
 use Rattle.model.specs.Refusals.{orElse}
 use Rattle.model.specs.Points.{Star, subdivisions}
-use Rattle.model.specs.Judging.{judgeFaces, judgeStore, judgeRoom}
 use Rattle.model.specs.Mesh.{Mesh, storeLength, meshOf}
-use Rattle.model.specs.declared.Extraction.{Extraction}
+use Rattle.model.specs.Judging.{judgeFaces, judgeStore, judgeRoom}
 use Rattle.model.specs.Extraction.{vertexFloats, triangleIndices, judgeStar, Outcome, outcome}
 use Rattle.cells.specs.Posts.{Room}
 

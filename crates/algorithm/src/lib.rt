@@ -97,8 +97,8 @@ fn extract_mesh(
         transition_codes,
     );
     let room = judge_room(counts, vertices.len(), triangles.len());
-    if let Verdict::Refused(refusal) = room {
-        return Extraction::Refused(refusal);
+    if let Verdict::Refused(no_room) = room {
+        return Extraction::Refused(no_room);
     }
     let places = store_length(block.subdivisions);
     let floats = 6 * counts.vertices;

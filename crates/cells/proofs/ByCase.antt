@@ -2,9 +2,11 @@
 -- nothing.
 use Prim.Native.Nat.{ℕ, _+_, _*_, _≤_, _<_}
 use mathlib.Core.Path.{_≡_, refl, sym, _∙_}
-use mathlib.Core.Bool.{Bool, false}
+use mathlib.Core.Bool.{Bool, true, false, _||_}
 use mathlib.Core.List.{List}
 use native.Mathlib.Omega.{arith}
+use borrow.Author.Tests.{eqb-true}
+use lib.Dec.{eqb}
 use lib.Ieee.{Float}
 use lib.ListN.{length, getD}
 use Rattle.tables.specs.RegularRows as regular
@@ -23,7 +25,7 @@ use Rattle.model.specs.Points.{Star, regularCase, transitionCase}
 use Rattle.model.specs.Mesh.{Cell, fillTo, regularCell, transitionCell}
 use Rattle.cells.specs.declared.CellIndex.{CellIndex}
 use Rattle.cells.specs.declared.CellIndex.the-variants.{Regular, Transition}
-use Rattle.cells.specs.Posts.{Room, CellPut, Adds}
+use Rattle.cells.specs.Posts.{Room, CellPut, Adds, Nothing}
 use Rattle.cells.specs.Rows.{Followed}
 use Rattle.cells.specs.Kinds.{Usable, cellOf, Coded}
 
@@ -63,6 +65,17 @@ coded : (at : CellIndex) (codes : List ℕ) (count : ℕ) → length codes ≡ 1
     → ((i : ℕ) → i < count → Usable at (getD codes i 0)) → Coded at codes count
 coded at codes count long few usable = record { there = omega arith; usable = usable }
 
+-- what holds of the case with no point inside and of that with all of them
+uncut-either : (P : ℕ → Type 0) (case all : ℕ) (uncut : Bool) → P 0 → P all → uncut ≡ (eqb case 0 || eqb case all) → uncut ≡ true → P case
+uncut-either P case all uncut none every e t = go (eqb case 0) (eqb case all) refl refl (sym e ∙ t)
+  where
+    go : (x y : Bool) → eqb case 0 ≡ x → eqb case all ≡ y → x || y ≡ true → P case
+    go true y is-none is-all h = rw (eqb-true case 0 is-none) none
+    go false true is-none is-all h = rw (eqb-true case all is-all) every
+    go false false is-none is-all h =
+        let z : _≡_ {A = ℕ} 0 1 = cc in
+        absurd (omega arith)
+
 -- ---- regular cells
 
 module _ (case : ℕ) (small : case < 256) (codes row : List ℕ) (codes-are : codes ≡ regularCodes case) (row-is : row ≡ regularRow case) where
@@ -91,20 +104,20 @@ module _ (case : ℕ) (small : case < 256) (codes row : List ℕ) (codes-are : c
 abbrev RegularNothing : ℕ → Type 0
 RegularNothing case = (regularVertices case ≡ 0) × (regularTriangles case ≡ 0)
 
-pub all-outside : RegularNothing 0
+regular-outside : RegularNothing 0
 unfolding regular.classes regular.cellRows regularClass regularRow regularVertices regularTriangles
-all-outside = (refl, refl)
+regular-outside = (refl, refl)
 
-pub all-inside : RegularNothing 255
+regular-inside : RegularNothing 255
 unfolding regular.classes regular.cellRows regularClass regularRow regularVertices regularTriangles
-all-inside = (refl, refl)
+regular-inside = (refl, refl)
 
-pub regular-nothing : (s : Star) (x y z case blank : ℕ) → RegularNothing blank → case ≡ regularCase s x y z → case ≡ blank
-    → (regularCell s x y z .vertices ≡ 0) × (regularCell s x y z .triangles ≡ 0)
+pub regular-nothing : (s : Star) (x y z case : ℕ) (uncut : Bool) → case ≡ regularCase s x y z
+    → uncut ≡ (eqb case 0 || eqb case 255) → uncut ≡ true → Nothing (regularCell s x y z)
 unfolding regularCell
-regular-nothing s x y z case blank none e b =
-    let is : regularCase s x y z ≡ blank = sym e ∙ b in
-    rw is none
+regular-nothing s x y z case uncut e u t =
+    let none = uncut-either RegularNothing case 255 uncut regular-outside regular-inside u t in
+    rw (← e) (record { no-vertices = none .0; no-triangles = none .1 })
 
 -- ---- transition cells
 
@@ -136,17 +149,17 @@ module _ (case : ℕ) (small : case < 512) (codes row : List ℕ) (codes-are : c
 abbrev TransitionNothing : ℕ → Type 0
 TransitionNothing case = (transitionVertices case ≡ 0) × (transitionTriangles case ≡ 0)
 
-pub fine-outside : TransitionNothing 0
+transition-outside : TransitionNothing 0
 unfolding transition.classes transition.cellRows transitionClass transitionRow transitionVertices transitionTriangles
-fine-outside = (refl, refl)
+transition-outside = (refl, refl)
 
-pub fine-inside : TransitionNothing 511
+transition-inside : TransitionNothing 511
 unfolding transition.classes transition.cellRows transitionClass transitionRow transitionVertices transitionTriangles
-fine-inside = (refl, refl)
+transition-inside = (refl, refl)
 
-pub transition-nothing : (s : Star) (side u v case blank : ℕ) → TransitionNothing blank → case ≡ transitionCase s side u v → case ≡ blank
-    → (transitionCell s side u v .vertices ≡ 0) × (transitionCell s side u v .triangles ≡ 0)
+pub transition-nothing : (s : Star) (side u v case : ℕ) (uncut : Bool) → case ≡ transitionCase s side u v
+    → uncut ≡ (eqb case 0 || eqb case 511) → uncut ≡ true → Nothing (transitionCell s side u v)
 unfolding transitionCell
-transition-nothing s side u v case blank none e b =
-    let is : transitionCase s side u v ≡ blank = sym e ∙ b in
-    rw is none
+transition-nothing s side u v case uncut e c t =
+    let none = uncut-either TransitionNothing case 511 uncut transition-outside transition-inside c t in
+    rw (← e) (record { no-vertices = none .0; no-triangles = none .1 })

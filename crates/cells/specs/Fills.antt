@@ -17,7 +17,7 @@ use Rattle.model.specs.Extraction.{vertexFloats, triangleIndices}
 use Rattle.cells.specs.Buffers.{layVertices, layTriangles, pad}
 use Rattle.cells.specs.Steps.{iterate-upto, iterate-keeps, length-listed, listed-same}
 use Rattle.cells.specs.Laying.{lay-none, lay-append, length-lay}
-use Rattle.cells.specs.Posts.{Room, TurnPut, FillPut, CellPut, Adds}
+use Rattle.cells.specs.Posts.{Room, TurnPut, FillPut, CellPut, Adds, Nothing}
 
 -- ---- twelve places
 
@@ -159,17 +159,17 @@ module _ (c : Cell) (nv nt : ℕ) (vertices : List Float) (triangles store : Lis
       }
 
   -- a cell with no vertex and no triangle leaves all as it was
-  pub cell-blank : c .vertices ≡ 0 → c .triangles ≡ 0 → CellPut c nv nt vertices triangles store nv nt vertices triangles store
+  pub nothing-put : Nothing c → CellPut c nv nt vertices triangles store nv nt vertices triangles store
   unfolding fillTo
-  cell-blank v t =
+  nothing-put none =
       record {
-        nv-is = rw (v, add-zero);
-        nt-is = rw (t, add-zero);
-        vertices-are = rw v (sym (lay-none 6 vertexFloats vertices nv));
-        triangles-are = rw t (sym (lay-none 3 triangleIndices triangles nt));
-        store-is = rw v;
+        nv-is = rw (none .no-vertices, add-zero);
+        nt-is = rw (none .no-triangles, add-zero);
+        vertices-are = rw (none .no-vertices) (sym (lay-none 6 vertexFloats vertices nv));
+        triangles-are = rw (none .no-triangles) (sym (lay-none 3 triangleIndices triangles nt));
+        store-is = rw (none .no-vertices);
       }
 
-pub blank-adds : (c : Cell) → c .vertices ≡ 0 → c .triangles ≡ 0 → Adds c 0 0
+pub nothing-adds : (c : Cell) → Nothing c → Adds c 0 0
 unfolding fillTo
-blank-adds c v t = record { few = omega arith; vertices = λ base store. rw v; triangles = t }
+nothing-adds c none = record { few = omega arith; vertices = λ base store. rw (none .no-vertices); triangles = none .no-triangles }

@@ -46,3 +46,8 @@ pub record Adds (c : Cell) (dv dt : ℕ) : Type 0 where
   pub few : (dv ≤ 12) × (dt ≤ 12)
   pub vertices : (base : ℕ) (store : List ℕ) → length (fillTo c base store (c .vertices) .made) ≡ dv
   pub triangles : c .triangles ≡ dt
+
+-- a cell that adds nothing
+pub record Nothing (c : Cell) : Type 0 where
+  pub no-vertices : c .vertices ≡ 0
+  pub no-triangles : c .triangles ≡ 0

@@ -1,15 +1,15 @@
 // The case numbers: which corners of a regular cell, and which fine points of a transition cell, are inside.
 ghost use mathlib.Core.Path.{_≡_};
+ghost use mathlib.Core.Bool.{_||_};
 ghost use mathlib.Core.List.{List};
-ghost use Prim.Native.Nat.{ℕ, _+_, _*_, _/_, _%_, _≤_, _<_, _^_};
+ghost use Prim.Native.Nat.{ℕ, _*_, _≤_, _<_, _^_};
+ghost use lib.Dec.{eqb};
 ghost use lib.Ieee.{Float};
 ghost use lib.ListN.{length};
-ghost use Rattle.model.specs.declared.Block.{Block};
 ghost use Rattle.model.specs.Steps.{total};
 ghost use Rattle.model.specs.Samples.{sampleLength, sampleOf};
 ghost use Rattle.model.specs.Formulas.{insideBit};
 ghost use Rattle.model.specs.Points.{star, cornerPoint, regularCase, fineSample, transitionCase};
-ghost use Rattle.grid.specs.Places.{Within};
 ghost use Rattle.grid.specs.SideLaws.{NeighbourThere};
 ghost use Rattle.cells.specs.Kinds.{InBlock};
 use grid::voxel_blocks::sample;
@@ -18,6 +18,13 @@ use model::Xyz;
 use points::formulas::inside;
 use points::grid_point::fine_sample;
 use tables::aux_tables::contribution;
+
+// Whether no point of a cell is inside, or all of them are.
+pub fn is_uncut(case: usize, all: usize) -> bool
+    ensures { λ r. ⌜ r ≡ (eqb case 0 || eqb case all) ⌝ }
+{
+    (case == 0) | (case == all)
+}
 
 fn inside_bit(threshold: f32, sample: f32) -> usize
     ensures { λ r. ⌜ (r ≡ insideBit threshold sample) × (r ≤ 1) ⌝ }

@@ -11,6 +11,7 @@ ghost use Rattle.grid.specs.Shape.{Shaped};
 ghost use Rattle.cells.specs.Posts.{Room, CellPut, Adds};
 ghost use Rattle.cells.specs.Rows.{RegularTables};
 use crate::CellIndex;
+use crate::cases::is_uncut;
 use crate::cases::regular_case;
 use crate::whole_cells::count_cell;
 use crate::whole_cells::write_cell;
@@ -46,10 +47,7 @@ pub fn write_regular_cell(
     ensures { λ r. ⌜ CellPut (regularCell (star block mask threshold (now (centre .entry)) (now (neighbours .entry))) x y z) (counts .vertices) (counts .triangles) (now (vertices .entry)) (now (triangles .entry)) (now (store .entry)) (r .vertices) (r .triangles) (now (vertices .exit)) (now (triangles .exit)) (now (store .exit)) ⌝ }
 {
     let case = regular_case(block, threshold, centre, x, y, z);
-    if case == 0 {
-        return counts;
-    }
-    if case == 255 {
+    if is_uncut(case, 255) {
         return counts;
     }
     write_cell(
@@ -86,13 +84,7 @@ pub fn count_regular_cell(
     ensures { λ r. ⌜ ((mask : ℕ) (ns : List Float) → Adds (regularCell (star block mask threshold (now (centre .entry)) ns) x y z) (r .vertices) (r .triangles)) ⌝ }
 {
     let case = regular_case(block, threshold, centre, x, y, z);
-    if case == 0 {
-        return Counts {
-            vertices: 0,
-            triangles: 0,
-        };
-    }
-    if case == 255 {
+    if is_uncut(case, 255) {
         return Counts {
             vertices: 0,
             triangles: 0,

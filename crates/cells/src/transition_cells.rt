@@ -12,6 +12,7 @@ ghost use Rattle.grid.specs.Shape.{Shaped};
 ghost use Rattle.cells.specs.Posts.{Room, CellPut, Adds};
 ghost use Rattle.cells.specs.Rows.{TransitionTables};
 use crate::CellIndex;
+use crate::cases::is_uncut;
 use crate::cases::transition_case;
 use crate::whole_cells::count_cell;
 use crate::whole_cells::write_cell;
@@ -48,10 +49,7 @@ pub fn write_transition_cell(
     ensures { λ r. ⌜ CellPut (transitionCell (star block mask threshold (now (centre .entry)) (now (neighbours .entry))) side u v) (counts .vertices) (counts .triangles) (now (vertices .entry)) (now (triangles .entry)) (now (store .entry)) (r .vertices) (r .triangles) (now (vertices .exit)) (now (triangles .exit)) (now (store .exit)) ⌝ }
 {
     let case = transition_case(block, mask, threshold, neighbours, side, u, v);
-    if case == 0 {
-        return counts;
-    }
-    if case == 511 {
+    if is_uncut(case, 511) {
         return counts;
     }
     write_cell(
@@ -89,13 +87,7 @@ pub fn count_transition_cell(
     ensures { λ r. ⌜ ((centre : List Float) → Adds (transitionCell (star block mask threshold centre (now (neighbours .entry))) side u v) (r .vertices) (r .triangles)) ⌝ }
 {
     let case = transition_case(block, mask, threshold, neighbours, side, u, v);
-    if case == 0 {
-        return Counts {
-            vertices: 0,
-            triangles: 0,
-        };
-    }
-    if case == 511 {
+    if is_uncut(case, 511) {
         return Counts {
             vertices: 0,
             triangles: 0,

@@ -6,8 +6,9 @@ use Prim.Native.Nat.{_*_, _≤_}
 use lib.ListN.{length, take}
 use lib.Seq.{length-take-le}
 use Rattle.model.specs.declared.Verdict.the-variants.{Passed}
+use Rattle.model.specs.declared.Extraction.the-variants.{Refused}
 use Rattle.model.specs.Points.{star}
-use Rattle.algorithm.specs.Posts.{Exact}
+use Rattle.algorithm.specs.Posts.{counted, Exact, Leaves}
 use Rattle.algorithm.proofs.Holding.{exact-still}
 use Rattle.algorithm.proofs.Answers.{no-room, has-room, parts, done}
 use Rattle.algorithm.proofs.extract_mesh.Statement.{statement}
@@ -22,13 +23,20 @@ judge-room-requires c κs = search needs
 enum-known-room : tie.Need-enum-known-room
 enum-known-room c = search needs
 
-returns : tie.Need-returns
-returns c =
+no-room-left : (c : tie.After-known-told) →
+    let a = c .before .before .before .before .before .before .before .before .before .before .args in
+    let s = star (a .block) (a .mask) (a .threshold) (a .centre .now) (a .neighbours .now) in
+    Leaves (counted s (a .store .now) (a .vertices .now) (a .triangles .now)) (Refused (c .before .room .given .0 .0))
+    (a .store .now) (a .vertices .now) (a .triangles .now)
+no-room-left c =
     let a = c .before .before .before .before .before .before .before .before .before .before .args in
     let k = c .before .before .before .before .count-mesh in
     let r = c .before .before .before .judge-room in
     let s = star (a .block) (a .mask) (a .threshold) (a .centre .now) (a .neighbours .now) in
     no-room s (a .store .now) (a .vertices .now) (a .triangles .now) _ (k .result) (k .ensures) (r .result) (r .ensures) _ (cc)
+
+returns : tie.Need-returns
+returns c = no-room-left c
 
 enum-told : tie.Need-enum-told
 enum-told c = search needs

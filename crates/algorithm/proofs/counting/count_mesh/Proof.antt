@@ -2,7 +2,7 @@
 use borrow.Author.Needs.{needs}
 use native.Mathlib.Omega.{arith}
 use Rattle.model.specs.Points.{star}
-use Rattle.algorithm.proofs.Growth.{plus-fits, counted-mesh}
+use Rattle.algorithm.proofs.Growth.{counted-mesh}
 use Rattle.algorithm.proofs.counting.count_mesh.Statement.{statement}
 use Rattle.algorithm.proofs.counting.count_mesh.Tie as tie
 
@@ -15,7 +15,11 @@ count-transition-cells-requires c κs = search needs
 plus-requires : tie.Need-plus-requires
 plus-requires c κs =
     let a = c .before .before .before .before .args in
-    plus-fits (c .before .count-regular-cells .ensures (a .mask) (a .neighbours .now)) (c .count-transition-cells .ensures (a .centre .now)) (omega arith)
+    let regular = c .before .count-regular-cells .ensures (a .mask) (a .neighbours .now) in
+    let transition = c .count-transition-cells .ensures (a .centre .now) in (
+      omega (arith, regular .few-vertices, transition .few-vertices),
+      omega (arith, regular .few-triangles, transition .few-triangles),
+    )
 
 returns : tie.Need-returns
 returns c =

@@ -3,31 +3,25 @@ use mathlib.Core.Bool.{false}
 use borrow.Author.Needs.{needs}
 use Rattle.model.specs.Mesh.{regularCell}
 use Rattle.model.specs.Points.{star}
-use Rattle.cells.specs.Fills.{blank-adds}
-use Rattle.cells.proofs.ByCase.{adds-as, all-outside, all-inside, regular-nothing, regular-coded, regular-followed, regular-is}
+use Rattle.cells.specs.Fills.{nothing-adds}
+use Rattle.cells.proofs.ByCase.{adds-as, regular-nothing, regular-coded, regular-followed, regular-is}
 use Rattle.cells.proofs.regular_cells.count_regular_cell.Statement.{statement}
 use Rattle.cells.proofs.regular_cells.count_regular_cell.Tie as tie
 
 regular-case-requires : tie.Need-regular-case-requires
 regular-case-requires c κs = search needs
 
+is-uncut-requires : tie.Need-is-uncut-requires
+is-uncut-requires c κs = search needs
+
 returns : tie.Need-returns
 returns c =
-    let a = c .before .before .before .args in
-    let case = c .before .regular-case in
-    λ mask ns.
-    let s = star (a .block) mask (a .threshold) (a .centre .now) ns in
-    let none = regular-nothing s (a .x) (a .y) (a .z) (case .result) 0 all-outside (case .ensures .0 mask ns) (c .if1 .taken) in
-    blank-adds (regularCell s (a .x) (a .y) (a .z)) (none .0) (none .1)
-
-returns-2 : tie.Need-returns-2
-returns-2 c =
     let a = c .before .before .before .before .args in
     let case = c .before .before .regular-case in
     λ mask ns.
     let s = star (a .block) mask (a .threshold) (a .centre .now) ns in
-    let none = regular-nothing s (a .x) (a .y) (a .z) (case .result) 255 all-inside (case .ensures .0 mask ns) (c .if2 .taken) in
-    blank-adds (regularCell s (a .x) (a .y) (a .z)) (none .0) (none .1)
+    nothing-adds (regularCell s (a .x) (a .y) (a .z))
+    (regular-nothing s (a .x) (a .y) (a .z) (case .result) _ (case .ensures .0 mask ns) (c .before .is-uncut .ensures) (c .if1 .taken))
 
 regular-case-codes-requires : tie.Need-regular-case-codes-requires
 regular-case-codes-requires c κs = search needs
@@ -45,14 +39,15 @@ count-cell-requires c κs =
       regular-followed (case .result) (case .ensures .1) _ _ codes-are row-is,
     )
 
-returns-3 : tie.Need-returns-3
-returns-3 c =
+returns-2 : tie.Need-returns-2
+returns-2 c =
     let a = c .before .before .before .before .before .before .before .args in
     let case = c .before .before .before .before .before .regular-case in
+    let codes-are = c .before .before .regular-case-codes .ensures in
+    let row-is = c .before .regular-case-cell .ensures in
     λ mask ns.
     let s = star (a .block) mask (a .threshold) (a .centre .now) ns in
-    adds-as
-    (regular-is (case .result) (case .ensures .1) _ _ (c .before .before .regular-case-codes .ensures) (c .before .regular-case-cell .ensures) s (a .x) (a .y) (a .z) (case .ensures .0 mask ns))
+    adds-as (regular-is (case .result) (case .ensures .1) _ _ codes-are row-is s (a .x) (a .y) (a .z) (case .ensures .0 mask ns))
     (c .count-cell .ensures s false)
 
 pub count-regular-cell-spec : {M : Type 1} → statement M
@@ -60,9 +55,9 @@ count-regular-cell-spec =
     tie.close
     (tie.spec
     regular-case-requires
+    is-uncut-requires
     returns
-    returns-2
     regular-case-codes-requires
     regular-case-cell-requires
     count-cell-requires
-    returns-3)
+    returns-2)

@@ -1,32 +1,47 @@
 -- `regular_cells::write_regular_cell` meets its contract: the rows of its case describe the cell. Assumes nothing.
+use mathlib.Core.Bool.{false}
+use mathlib.Core.Path.{_≡_}
 use borrow.Author.Needs.{needs}
 use Rattle.model.specs.Mesh.{regularCell}
-use Rattle.model.specs.Points.{star}
-use Rattle.cells.specs.Fills.{cell-blank}
-use Rattle.cells.proofs.ByCase.{vertex-room, triangle-room, put-as, all-outside, all-inside, regular-nothing, regular-coded, regular-followed, regular-is}
+use Rattle.model.specs.Points.{Star, star}
+use Rattle.model.specs.Rotations.{xyz}
+use Rattle.cells.specs.Fills.{nothing-put}
+use Rattle.cells.specs.Kinds.{cellOf}
+use Rattle.cells.specs.declared.CellIndex.the-variants.{Regular}
+use Rattle.cells.proofs.ByCase.{vertex-room, triangle-room, put-as, regular-nothing, regular-coded, regular-followed, regular-is}
 use Rattle.cells.proofs.regular_cells.write_regular_cell.Statement.{statement}
 use Rattle.cells.proofs.regular_cells.write_regular_cell.Tie as tie
+
+abbrev starOf : tie.Start → Star
+starOf b = star (b .args .block) (b .args .mask) (b .args .threshold) (b .args .centre .now) (b .args .neighbours .now)
+
+-- the entry, from the place where the rows are lent
+abbrev start : tie.After-regular-case-cell → tie.Start
+start r = r .before .before .before .before .before .before .before .before .before .before
+
+-- the rows that are lent describe the cell
+same : (r : tie.After-regular-case-cell) →
+    cellOf (starOf (start r)) (Regular (xyz (start r .args .x) (start r .args .y) (start r .args .z))) (r .before .regular-case-codes .result .now) (r .regular-case-cell .result .now) false
+    ≡ regularCell (starOf (start r)) (start r .args .x) (start r .args .y) (start r .args .z)
+same r =
+    let a = start r .args in
+    let case = r .before .before .before .before .regular-case in
+    regular-is (case .result) (case .ensures .1) _ _ (r .before .regular-case-codes .ensures) (r .regular-case-cell .ensures) (starOf (start r)) (a .x) (a .y) (a .z)
+    (case .ensures .0 (a .mask) (a .neighbours .now))
 
 regular-case-requires : tie.Need-regular-case-requires
 regular-case-requires c κs = search needs
 
+is-uncut-requires : tie.Need-is-uncut-requires
+is-uncut-requires c κs = search needs
+
 returns : tie.Need-returns
 returns c =
-    let a = c .before .before .before .before .before .before .before .args in
-    let case = c .before .regular-case in
-    let s = star (a .block) (a .mask) (a .threshold) (a .centre .now) (a .neighbours .now) in
-    let none = regular-nothing s (a .x) (a .y) (a .z) (case .result) 0 all-outside (case .ensures .0 (a .mask) (a .neighbours .now)) (c .if1 .taken) in
-    cell-blank (regularCell s (a .x) (a .y) (a .z)) (a .counts .vertices) (a .counts .triangles) (a .vertices .now) (a .triangles .now) (a .store .now) (none .0)
-    (none .1)
-
-returns-2 : tie.Need-returns-2
-returns-2 c =
-    let a = c .before .before .before .before .before .before .before .before .args in
+    let b = c .before .before .before .before .before .before .before .before in
+    let a = b .args in
     let case = c .before .before .regular-case in
-    let s = star (a .block) (a .mask) (a .threshold) (a .centre .now) (a .neighbours .now) in
-    let none = regular-nothing s (a .x) (a .y) (a .z) (case .result) 255 all-inside (case .ensures .0 (a .mask) (a .neighbours .now)) (c .if2 .taken) in
-    cell-blank (regularCell s (a .x) (a .y) (a .z)) (a .counts .vertices) (a .counts .triangles) (a .vertices .now) (a .triangles .now) (a .store .now) (none .0)
-    (none .1)
+    nothing-put (regularCell (starOf b) (a .x) (a .y) (a .z)) (a .counts .vertices) (a .counts .triangles) (a .vertices .now) (a .triangles .now) (a .store .now)
+    (regular-nothing (starOf b) (a .x) (a .y) (a .z) (case .result) _ (case .ensures .0 (a .mask) (a .neighbours .now)) (c .before .is-uncut .ensures) (c .if1 .taken))
 
 regular-case-codes-requires : tie.Need-regular-case-codes-requires
 regular-case-codes-requires c κs = search needs
@@ -36,20 +51,13 @@ regular-case-cell-requires c κs = search needs
 
 write-cell-requires : tie.Need-write-cell-requires
 write-cell-requires c κs =
-    let b = c .before .before .before .before .before .before .before .before .before .before .before .before .before in
-    let a = b .args in
-    let p = b .pre .1 in
-    let s = star (a .block) (a .mask) (a .threshold) (a .centre .now) (a .neighbours .now) in
-    let case = c .before .before .before .before .before .before .before .regular-case in
-    let codes-are = c .before .before .before .before .regular-case-codes .ensures in
-    let row-is = c .before .before .before .regular-case-cell .ensures in
-    let same = regular-is (case .result) (case .ensures .1) _ _ codes-are row-is s (a .x) (a .y) (a .z) (case .ensures .0 (a .mask) (a .neighbours .now)) in (
-      record {
-        few = p .0 .few;
-        centre-is = p .0 .centre-is;
-        placed = record { x-in = p .1 .0 .0; y-in = p .1 .0 .1 .0; z-in = p .1 .0 .1 .1 };
-        beside = tt;
-      },
+    let r = c .before .before .before in
+    let a = start r .args in
+    let p = start r .pre .1 in
+    let case = r .before .before .before .before .regular-case in
+    let codes-are = r .before .regular-case-codes .ensures in
+    let row-is = r .regular-case-cell .ensures in (
+      record { few = p .0 .few; centre-is = p .0 .centre-is; placed = record { x-in = p .1 .0 .0; y-in = p .1 .0 .1 .0; z-in = p .1 .0 .1 .1 }; beside = tt },
       (
         (
           regular-coded (case .result) (case .ensures .1) _ _ codes-are row-is (a .x) (a .y) (a .z),
@@ -58,8 +66,8 @@ write-cell-requires c κs =
         (
           p .1 .1 .0,
           (
-            vertex-room same (a .counts .vertices) (a .vertices .now) (a .store .now) (p .1 .1 .1 .0),
-            triangle-room same (a .counts .triangles) (a .triangles .now) (p .1 .1 .1 .1),
+            vertex-room (same r) (a .counts .vertices) (a .vertices .now) (a .store .now) (p .1 .1 .1 .0),
+            triangle-room (same r) (a .counts .triangles) (a .triangles .now) (p .1 .1 .1 .1),
           ),
         ),
       ),
@@ -74,15 +82,11 @@ same-length-2 c = search needs
 same-length-3 : tie.Need-same-length-3
 same-length-3 c = search needs
 
-returns-3 : tie.Need-returns-3
-returns-3 c =
-    let a = c .before .before .before .before .before .before .before .before .before .before .before .before .before .before .before .before .before .before .before .before .args in
-    let s = star (a .block) (a .mask) (a .threshold) (a .centre .now) (a .neighbours .now) in
-    let case = c .before .before .before .before .before .before .before .before .before .before .before .before .before .before .regular-case in
-    put-as
-    (regular-is (case .result) (case .ensures .1) _ _ (c .before .before .before .before .before .before .before .before .before .before .before .regular-case-codes .ensures) (c .before .before .before .before .before .before .before .before .before .before .regular-case-cell .ensures)
-    s (a .x) (a .y) (a .z) (case .ensures .0 (a .mask) (a .neighbours .now)))
-    (a .counts .vertices) (a .counts .triangles) (a .vertices .now) (a .triangles .now) (a .store .now) _ _ _ _ _
+returns-2 : tie.Need-returns-2
+returns-2 c =
+    let r = c .before .before .before .before .before .before .before .before .before .before in
+    let a = start r .args in
+    put-as (same r) (a .counts .vertices) (a .counts .triangles) (a .vertices .now) (a .triangles .now) (a .store .now) _ _ _ _ _
     (c .before .before .before .before .before .before .write-cell .ensures)
 
 pub write-regular-cell-spec : {M : Type 1} → statement M
@@ -90,12 +94,12 @@ write-regular-cell-spec =
     tie.close
     (tie.spec
     regular-case-requires
+    is-uncut-requires
     returns
-    returns-2
     regular-case-codes-requires
     regular-case-cell-requires
     write-cell-requires
     same-length
     same-length-2
     same-length-3
-    returns-3)
+    returns-2)

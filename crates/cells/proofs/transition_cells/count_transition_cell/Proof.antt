@@ -4,35 +4,25 @@ use borrow.Author.Needs.{needs}
 use Rattle.tables.specs.Cases.{transitionTurned}
 use Rattle.model.specs.Mesh.{transitionCell}
 use Rattle.model.specs.Points.{star}
-use Rattle.cells.specs.Fills.{blank-adds}
-use Rattle.cells.proofs.ByCase.{adds-as, fine-outside, fine-inside, transition-nothing, transition-coded, transition-followed, transition-is}
+use Rattle.cells.specs.Fills.{nothing-adds}
+use Rattle.cells.proofs.ByCase.{adds-as, transition-nothing, transition-coded, transition-followed, transition-is}
 use Rattle.cells.proofs.transition_cells.count_transition_cell.Statement.{statement}
 use Rattle.cells.proofs.transition_cells.count_transition_cell.Tie as tie
 
 transition-case-requires : tie.Need-transition-case-requires
-transition-case-requires c κs =
-    let p = c .before .pre .1 in (
-      record { few = p .0 .0; sides = p .0 .1 .0; side-is = p .1 .0; is-named = p .1 .1 .0; neighbours-are = p .0 .1 .1 },
-      p .1 .1 .1,
-    )
+transition-case-requires c κs = search needs
+
+is-uncut-requires : tie.Need-is-uncut-requires
+is-uncut-requires c κs = search needs
 
 returns : tie.Need-returns
 returns c =
-    let a = c .before .before .before .args in
-    let case = c .before .transition-case in
-    λ centre.
-    let s = star (a .block) (a .mask) (a .threshold) centre (a .neighbours .now) in
-    let none = transition-nothing s (a .side) (a .u) (a .v) (case .result) 0 fine-outside (case .ensures .0 centre) (c .if1 .taken) in
-    blank-adds (transitionCell s (a .side) (a .u) (a .v)) (none .0) (none .1)
-
-returns-2 : tie.Need-returns-2
-returns-2 c =
     let a = c .before .before .before .before .args in
     let case = c .before .before .transition-case in
     λ centre.
     let s = star (a .block) (a .mask) (a .threshold) centre (a .neighbours .now) in
-    let none = transition-nothing s (a .side) (a .u) (a .v) (case .result) 511 fine-inside (case .ensures .0 centre) (c .if2 .taken) in
-    blank-adds (transitionCell s (a .side) (a .u) (a .v)) (none .0) (none .1)
+    nothing-adds (transitionCell s (a .side) (a .u) (a .v))
+    (transition-nothing s (a .side) (a .u) (a .v) (case .result) _ (case .ensures .0 centre) (c .before .is-uncut .ensures) (c .if1 .taken))
 
 transition-case-codes-requires : tie.Need-transition-case-codes-requires
 transition-case-codes-requires c κs = search needs
@@ -50,14 +40,15 @@ count-cell-requires c κs =
       transition-followed (case .result) (case .ensures .1) _ _ codes-are row-is,
     )
 
-returns-3 : tie.Need-returns-3
-returns-3 c =
+returns-2 : tie.Need-returns-2
+returns-2 c =
     let a = c .before .before .before .before .before .before .before .args in
     let case = c .before .before .before .before .before .transition-case in
+    let codes-are = c .before .before .transition-case-codes .ensures in
+    let row-is = c .before .transition-case-cell .ensures in
     λ centre.
     let s = star (a .block) (a .mask) (a .threshold) centre (a .neighbours .now) in
-    adds-as
-    (transition-is (case .result) (case .ensures .1) _ _ (c .before .before .transition-case-codes .ensures) (c .before .transition-case-cell .ensures) s (a .side) (a .u) (a .v) (transitionTurned (case .result)) (case .ensures .0 centre) refl)
+    adds-as (transition-is (case .result) (case .ensures .1) _ _ codes-are row-is s (a .side) (a .u) (a .v) (transitionTurned (case .result)) (case .ensures .0 centre) refl)
     (c .count-cell .ensures s (transitionTurned (case .result)))
 
 pub count-transition-cell-spec : {M : Type 1} → statement M
@@ -65,9 +56,9 @@ count-transition-cell-spec =
     tie.close
     (tie.spec
     transition-case-requires
+    is-uncut-requires
     returns
-    returns-2
     transition-case-codes-requires
     transition-case-cell-requires
     count-cell-requires
-    returns-3)
+    returns-2)

@@ -1,36 +1,46 @@
 -- `transition_cells::write_transition_cell` meets its contract: the rows of its case describe the cell. Assumes nothing.
+use mathlib.Core.Path.{_≡_}
 use borrow.Author.Needs.{needs}
 use Rattle.model.specs.Mesh.{transitionCell}
-use Rattle.model.specs.Points.{star}
-use Rattle.cells.specs.Fills.{cell-blank}
-use Rattle.cells.proofs.ByCase.{vertex-room, triangle-room, put-as, fine-outside, fine-inside, transition-nothing, transition-coded, transition-followed, transition-is}
+use Rattle.model.specs.Points.{Star, star}
+use Rattle.points.specs.TransitionPoints.{bordered}
+use Rattle.cells.specs.Fills.{nothing-put}
+use Rattle.cells.specs.Kinds.{cellOf}
+use Rattle.cells.specs.declared.CellIndex.the-variants.{Transition}
+use Rattle.cells.proofs.ByCase.{vertex-room, triangle-room, put-as, transition-nothing, transition-coded, transition-followed, transition-is}
 use Rattle.cells.proofs.transition_cells.write_transition_cell.Statement.{statement}
 use Rattle.cells.proofs.transition_cells.write_transition_cell.Tie as tie
 
+abbrev starOf : tie.Start → Star
+starOf b = star (b .args .block) (b .args .mask) (b .args .threshold) (b .args .centre .now) (b .args .neighbours .now)
+
+-- the entry, from the place where the rows are lent
+abbrev start : tie.After-transition-turned → tie.Start
+start r = r .before .before .before .before .before .before .before .before .before .before .before
+
+-- the rows that are lent describe the cell
+same : (r : tie.After-transition-turned) →
+    cellOf (starOf (start r)) (Transition (record { side = start r .args .side; u = start r .args .u; v = start r .args .v })) (r .before .before .transition-case-codes .result .now) (r .before .transition-case-cell .result .now) (r .transition-turned .result)
+    ≡ transitionCell (starOf (start r)) (start r .args .side) (start r .args .u) (start r .args .v)
+same r =
+    let a = start r .args in
+    let case = r .before .before .before .before .before .transition-case in
+    transition-is (case .result) (case .ensures .1) _ _ (r .before .before .transition-case-codes .ensures) (r .before .transition-case-cell .ensures) (starOf (start r)) (a .side) (a .u) (a .v) _
+    (case .ensures .0 (a .centre .now)) (r .transition-turned .ensures)
+
 transition-case-requires : tie.Need-transition-case-requires
-transition-case-requires c κs =
-    let p = c .before .before .before .before .before .pre .1 in (
-      record { few = p .0 .few; sides = p .0 .sides; side-is = p .1 .0 .0; is-named = p .1 .0 .1 .0; neighbours-are = p .0 .neighbours-are },
-      p .1 .0 .1 .1,
-    )
+transition-case-requires c κs = search needs
+
+is-uncut-requires : tie.Need-is-uncut-requires
+is-uncut-requires c κs = search needs
 
 returns : tie.Need-returns
 returns c =
-    let a = c .before .before .before .before .before .before .before .args in
-    let case = c .before .transition-case in
-    let s = star (a .block) (a .mask) (a .threshold) (a .centre .now) (a .neighbours .now) in
-    let none = transition-nothing s (a .side) (a .u) (a .v) (case .result) 0 fine-outside (case .ensures .0 (a .centre .now)) (c .if1 .taken) in
-    cell-blank (transitionCell s (a .side) (a .u) (a .v)) (a .counts .vertices) (a .counts .triangles) (a .vertices .now) (a .triangles .now) (a .store .now) (none .0)
-    (none .1)
-
-returns-2 : tie.Need-returns-2
-returns-2 c =
-    let a = c .before .before .before .before .before .before .before .before .args in
+    let b = c .before .before .before .before .before .before .before .before in
+    let a = b .args in
     let case = c .before .before .transition-case in
-    let s = star (a .block) (a .mask) (a .threshold) (a .centre .now) (a .neighbours .now) in
-    let none = transition-nothing s (a .side) (a .u) (a .v) (case .result) 511 fine-inside (case .ensures .0 (a .centre .now)) (c .if2 .taken) in
-    cell-blank (transitionCell s (a .side) (a .u) (a .v)) (a .counts .vertices) (a .counts .triangles) (a .vertices .now) (a .triangles .now) (a .store .now) (none .0)
-    (none .1)
+    nothing-put (transitionCell (starOf b) (a .side) (a .u) (a .v)) (a .counts .vertices) (a .counts .triangles) (a .vertices .now) (a .triangles .now) (a .store .now)
+    (transition-nothing (starOf b) (a .side) (a .u) (a .v) (case .result) _ (case .ensures .0 (a .centre .now)) (c .before .is-uncut .ensures) (c .if1 .taken))
 
 transition-case-codes-requires : tie.Need-transition-case-codes-requires
 transition-case-codes-requires c κs = search needs
@@ -43,20 +53,14 @@ transition-turned-requires c κs = search needs
 
 write-cell-requires : tie.Need-write-cell-requires
 write-cell-requires c κs =
-    let b = c .before .before .before .before .before .before .before .before .before .before .before .before .before .before in
-    let a = b .args in
-    let p = b .pre .1 in
-    let s = star (a .block) (a .mask) (a .threshold) (a .centre .now) (a .neighbours .now) in
-    let case = c .before .before .before .before .before .before .before .before .transition-case in
-    let codes-are = c .before .before .before .before .before .transition-case-codes .ensures in
-    let row-is = c .before .before .before .before .transition-case-cell .ensures in
-    let same = transition-is (case .result) (case .ensures .1) _ _ codes-are row-is s (a .side) (a .u) (a .v) _ (case .ensures .0 (a .centre .now)) (c .before .before .before .transition-turned .ensures) in (
-      record {
-        few = p .0 .few;
-        centre-is = p .0 .centre-is;
-        placed = record { side-in = p .1 .0 .0; u-in = p .1 .0 .1 .1 .0; v-in = p .1 .0 .1 .1 .1 };
-        beside = record { few = p .0 .few; sides = p .0 .sides; side-is = p .1 .0 .0; is-named = p .1 .0 .1 .0; neighbours-are = p .0 .neighbours-are };
-      },
+    let r = c .before .before .before in
+    let a = start r .args in
+    let p = start r .pre .1 in
+    let s = starOf (start r) in
+    let case = r .before .before .before .before .before .transition-case in
+    let codes-are = r .before .before .transition-case-codes .ensures in
+    let row-is = r .before .transition-case-cell .ensures in (
+      record { few = p .0 .few; centre-is = p .0 .centre-is; placed = record { side-in = p .1 .0 .0; u-in = p .1 .0 .1 .1 .0; v-in = p .1 .0 .1 .1 .1 }; beside = bordered s (a .side) (p .0) (p .1 .0 .0) (p .1 .0 .1 .0) .there },
       (
         (
           transition-coded (case .result) (case .ensures .1) _ _ codes-are row-is (record { side = a .side; u = a .u; v = a .v }),
@@ -65,8 +69,8 @@ write-cell-requires c κs =
         (
           p .1 .1 .0,
           (
-            vertex-room same (a .counts .vertices) (a .vertices .now) (a .store .now) (p .1 .1 .1 .0),
-            triangle-room same (a .counts .triangles) (a .triangles .now) (p .1 .1 .1 .1),
+            vertex-room (same r) (a .counts .vertices) (a .vertices .now) (a .store .now) (p .1 .1 .1 .0),
+            triangle-room (same r) (a .counts .triangles) (a .triangles .now) (p .1 .1 .1 .1),
           ),
         ),
       ),
@@ -81,15 +85,11 @@ same-length-2 c = search needs
 same-length-3 : tie.Need-same-length-3
 same-length-3 c = search needs
 
-returns-3 : tie.Need-returns-3
-returns-3 c =
-    let a = c .before .before .before .before .before .before .before .before .before .before .before .before .before .before .before .before .before .before .before .before .before .args in
-    let s = star (a .block) (a .mask) (a .threshold) (a .centre .now) (a .neighbours .now) in
-    let case = c .before .before .before .before .before .before .before .before .before .before .before .before .before .before .before .transition-case in
-    put-as
-    (transition-is (case .result) (case .ensures .1) _ _ (c .before .before .before .before .before .before .before .before .before .before .before .before .transition-case-codes .ensures) (c .before .before .before .before .before .before .before .before .before .before .before .transition-case-cell .ensures)
-    s (a .side) (a .u) (a .v) _ (case .ensures .0 (a .centre .now)) (c .before .before .before .before .before .before .before .before .before .before .transition-turned .ensures))
-    (a .counts .vertices) (a .counts .triangles) (a .vertices .now) (a .triangles .now) (a .store .now) _ _ _ _ _
+returns-2 : tie.Need-returns-2
+returns-2 c =
+    let r = c .before .before .before .before .before .before .before .before .before .before in
+    let a = start r .args in
+    put-as (same r) (a .counts .vertices) (a .counts .triangles) (a .vertices .now) (a .triangles .now) (a .store .now) _ _ _ _ _
     (c .before .before .before .before .before .before .write-cell .ensures)
 
 pub write-transition-cell-spec : {M : Type 1} → statement M
@@ -97,8 +97,8 @@ write-transition-cell-spec =
     tie.close
     (tie.spec
     transition-case-requires
+    is-uncut-requires
     returns
-    returns-2
     transition-case-codes-requires
     transition-case-cell-requires
     transition-turned-requires
@@ -106,4 +106,4 @@ write-transition-cell-spec =
     same-length
     same-length-2
     same-length-3
-    returns-3)
+    returns-2)
