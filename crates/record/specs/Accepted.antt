@@ -3,7 +3,7 @@ use Prim.Native.Nat.{ℕ, zero, suc, _+_, _-_, _*_, _/_, _≤_, _<_, zero-le}
 use native.Mathlib.Nat.{mul-le-mul, not-suc-le-zero, le-of-suc-le-suc, eq-or-lt-of-le}
 use native.Mathlib.Omega.{arith}
 use mathlib.Core.Path.{_≡_, refl, sym, ap, _∙_}
-use mathlib.Core.Bool.{Bool, true, false, not, and-eq-true-iff}
+use mathlib.Core.Bool.{true, not, and-eq-true-iff}
 use mathlib.Core.Logic.{⊎-elim}
 use mathlib.Core.List.{List}
 use borrow.Author.Tests.{leb-true, eqb-true, le-leb, eq-eqb}
@@ -16,10 +16,10 @@ use Rattle.model.specs.declared.Refusal.the-variants.{Subdivisions, Mask, Measu
 use Rattle.model.specs.declared.Verdict.{Verdict}
 use Rattle.model.specs.declared.Verdict.the-variants.{Passed}
 use Rattle.model.specs.Refusals.{unless, first}
-use Rattle.model.specs.Judging.{usable, measureUsable, judgeSubdivisions, judgeMask, judgeMeasures, judgeSamples, sampleUsable}
+use Rattle.model.specs.Judging.{usable, measureUsable, judgeMeasures, judgeSamples, sampleUsable}
 use Rattle.model.specs.Sides.{neighbourLength}
 use Rattle.grid.specs.Places.{small}
-use Rattle.model.specs.Record.{wordAt, sampleCount, floatAt, headerOf, countOf, samplesOf, judgeLength, judgeVersion, judgeCount, judgeRecord}
+use Rattle.model.specs.Record.{wordAt, sampleCount, floatAt, headerOf, countOf, samplesOf, judgeRecord}
 use Rattle.record.specs.Lists.{length-listed, getD-listed}
 use Rattle.judge.specs.First.{unless-passed, both-passed, passed-over}
 use Rattle.record.specs.Words.{usable-number, size-number}

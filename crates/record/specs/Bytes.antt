@@ -1,20 +1,18 @@
 -- Document 01, 'Block record': the bytes of a header and its samples, read back; and an accepted record's bytes, put back.
 -- Assumes nothing.
-use Prim.Native.Nat.{ℕ, zero, suc, _+_, _-_, _*_, _^_, _≤_, _<_}
+use Prim.Native.Nat.{ℕ, zero, suc, _+_, _*_, _^_, _≤_, _<_}
 use native.Mathlib.Nat.{zero-add}
 use native.Mathlib.Omega.{arith}
-use mathlib.Core.Path.{_≡_, refl, sym, ap, ap₂, _∙_, subst}
-use mathlib.Core.Bool.{not}
+use mathlib.Core.Path.{_≡_, refl, sym, ap, ap₂, _∙_}
 use mathlib.Core.List.{List, [], _∷_, _++_, append-assoc}
-use lib.Dec.{T}
-use lib.Ieee.{Float, nan, isNan}
+use lib.Ieee.{Float, nan}
 use lib.ListN.{length, getD, take, drop, length-append, length-drop, take-append-drop}
 use lib.Seq.{drop-cons, take-add, take-all, drop-drop, getD-append-add, sets}
 use Rattle.model.specs.declared.Header.{Header}
 use Rattle.model.specs.Steps.{listed, each, laid}
 use Rattle.model.specs.Record.{wordAt, wordBytes, floatAt, floatBytes, headerOf, countOf, samplesOf, recordOf}
 use Rattle.record.specs.Lists.{each-append, length-each, listed-is, sets-append, sets-first}
-use Rattle.record.specs.Words.{Bytes, Fit, length-word, word-after, word-back, floats-back, floats-after, usable-number}
+use Rattle.record.specs.Words.{Bytes, Fit, word-after, word-back, floats-back, floats-after, usable-number}
 use Rattle.record.specs.Accepted.{Accepted, length-samples, measured}
 
 -- the five floats of a header

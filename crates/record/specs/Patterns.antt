@@ -1,15 +1,14 @@
 -- The bit patterns of an f32, ordered as the sizes that they stand for: so that a float is judged by its bits, before it is a float.
 -- Document 01, refusals 3 and 7: finite and at most 1,048,576 in size; a size from 1/1024 on. Assumes nothing.
-use Prim.Native.Nat.{ℕ, zero, suc, _+_, _-_, _*_, _/_, _%_, _^_, _≤_, _<_}
-use native.Mathlib.Nat.{mul-one, mul-assoc, mul-comm, mul-left-comm, mul-right-comm, mul-pos, mul-le-mul-left, mul-le-mul-right, mul-lt-mul-of-pos-right, lt-of-lt-of-le, le-trans, le-of-eq, le-of-lt, le-add-right, eq-or-lt-of-le, pow-succ'}
+use Prim.Native.Nat.{ℕ, zero, suc, _+_, _*_, _/_, _%_, _^_, _≤_, _<_}
+use native.Mathlib.Nat.{mul-one, mul-assoc, mul-comm, mul-right-comm, mul-pos, mul-le-mul-left, mul-le-mul-right, mul-lt-mul-of-pos-right, lt-of-lt-of-le, le-trans, le-of-eq, le-of-lt, le-add-right, eq-or-lt-of-le, pow-succ'}
 use native.Mathlib.Omega.{arith}
 use mathlib.Core.Path.{_≡_, refl, sym, ap, ap₂, _∙_, subst}
 use mathlib.Core.Bool.{Bool, true, false, not, _&&_, _||_, and-false, or-true, true≢false}
 use mathlib.Core.Logic.{_⊎_, inl, inr}
 use borrow.Author.Tests.{le-leb, lt-leb, leb-true, leb-false, ne-eqb, lt-ltb, le-ltb, eq-eqb, eqb-true, eqb-false}
-use lib.Dec.{T, leb, ltb, eqb, eqb·suc-zero, lit<}
-use lib.IntN.{pos}
-use lib.Pow.{pow-pos, pow-mono, pow-add}
+use lib.Dec.{leb, ltb, eqb, eqb·suc-zero, lit<}
+use lib.Pow.{pow-pos, pow-mono}
 use lib.Ieee as Ieee
 use lib.Ieee.{Float, nan, inf, fin, binary32, up, down, ofFields, ofBits}
 use lib.Ieee.Fits.{down-pos}

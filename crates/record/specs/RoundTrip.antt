@@ -1,16 +1,16 @@
 -- Document 01, 'Block record': reading then writing gives the same bytes, and writing then reading the same block.
-use Prim.Native.Nat.{ℕ, _+_, _-_, _*_, _≤_, _<_, zero-le}
+use Prim.Native.Nat.{ℕ, _+_, _*_, _≤_, _<_, zero-le}
 use native.Mathlib.Nat.{mul-le-mul-right}
 use native.Mathlib.Omega.{arith}
 use mathlib.Core.Path.{_≡_, refl, sym, ap, ap₂, _∙_, subst}
 use mathlib.Core.Bool.{Bool, true, false, cond}
-use mathlib.Core.List.{List, [], _∷_, _++_}
-use borrow.Author.Tests.{leb-true, le-leb, eq-eqb}
+use mathlib.Core.List.{List, _++_}
+use borrow.Author.Tests.{le-leb, eq-eqb}
 use lib.Count.{ones}
-use lib.Dec.{leb, eqb}
+use lib.Dec.{leb}
 use lib.Ieee.{Float, nan}
-use lib.ListN.{length, getD, take, drop, length-append, length-take, length-drop, take-append-drop}
-use lib.Seq.{take-at, take-all, take-append-le, drop-append-le, length-take-le}
+use lib.ListN.{length, getD, take, drop, length-append, length-drop, take-append-drop}
+use lib.Seq.{take-at, take-append-le, drop-append-le, length-take-le}
 use Rattle.model.specs.declared.Header.{Header}
 use Rattle.model.specs.declared.Refusal.the-variants.{MissingNeighbour}
 use Rattle.model.specs.declared.Verdict.{Verdict}
@@ -20,11 +20,11 @@ use Rattle.model.specs.declared.RecordWritten.the-variants as RecordWritten
 use Rattle.model.specs.Steps.{laid}
 use Rattle.model.specs.Samples.{sampleLength}
 use Rattle.model.specs.Sides.{named, namedBelow, neighbourLength, neighboursLength}
-use Rattle.model.specs.Refusals.{unless, orElse, first}
+use Rattle.model.specs.Refusals.{unless, orElse}
 use Rattle.model.specs.Points.{star}
 use Rattle.model.specs.Judging.{judgeMeasures, judgeMissing, sideThere, usable, judgeSamples, judgeBuffer}
 use Rattle.model.specs.Extraction.{judgeStar}
-use Rattle.model.specs.Record.{wordAt, sampleCount, countOf, headerOf, samplesOf, recordOf, judgeRecord, readAnswer, readRecord, writeAnswer, writeRecord}
+use Rattle.model.specs.Record.{sampleCount, countOf, headerOf, samplesOf, recordOf, judgeRecord, readAnswer, readRecord, writeAnswer, writeRecord}
 use Rattle.grid.specs.Shape.{Shaped}
 use Rattle.grid.specs.SideLaws.{named-below}
 use Rattle.judge.specs.First.{both-passed, passed-over}

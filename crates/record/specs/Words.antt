@@ -1,19 +1,19 @@
 -- Document 01, 'Block record': big-endian words among bytes, taken out and put back, and floats by their patterns.
 -- Assumes nothing.
 use Prim.Native.Nat.{ℕ, zero, suc, _+_, _*_, _/_, _%_, _^_, _≤_, _<_}
-use native.Mathlib.Nat.{add-zero, add-assoc, mul-suc, not-suc-le-zero, le-of-suc-le-suc, le-of-lt}
+use native.Mathlib.Nat.{add-zero, mul-suc, not-suc-le-zero, le-of-suc-le-suc, le-of-lt}
 use native.Mathlib.Numerals.{add-one, add-two, add-three}
 use native.Mathlib.Omega.{arith}
 use mathlib.Core.Path.{_≡_, refl, sym, ap, ap₂, _∙_, subst}
-use mathlib.Core.Bool.{Bool, true, false, not, _&&_, and-eq-true-iff}
+use mathlib.Core.Bool.{true, not, and-eq-true-iff}
 use mathlib.Core.List.{List, [], _∷_, _++_, append-assoc, append-nil}
 use lib.Dec.{T}
 use lib.Ieee as Ieee
 use lib.Ieee.{Float, nan, inf, fin, binary32, isNan, fits}
 use lib.Ieee.Bits.{ofBits-toBits, toBits-ofBits, toBits-lt}
-use lib.ListN.{length, getD, take, drop, set, length-append, length-drop, length-take}
-use lib.Seq.{sets, take-suc, drop-cons, take-add, drop-drop, length-take-le, getD-append-add, getD-append-seam, sets-eq}
-use Rattle.model.specs.Steps.{listed, each, laid}
+use lib.ListN.{length, getD, take, drop, length-append}
+use lib.Seq.{sets, take-suc, drop-cons, take-add, drop-drop, length-take-le, getD-append-add, getD-append-seam}
+use Rattle.model.specs.Steps.{listed, each}
 use Rattle.model.specs.Formulas.{whole, _⊘_}
 use Rattle.model.specs.Judging.{limit, usable, usableSize}
 use Rattle.model.specs.Record.{wordAt, wordBytes, floatAt, floatBytes}

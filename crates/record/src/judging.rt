@@ -1,7 +1,7 @@
 // The judges of a record's bytes, in the reader's order: 11, 12, 1, 2, 3, 13, 7.
 ghost use mathlib.Core.Path.{_≡_};
 ghost use Prim.Native.Nat.{_+_, _*_, _≤_, _<_};
-ghost use lib.ListN.{length, getD};
+ghost use lib.ListN.{length};
 ghost use Rattle.model.specs.Refusals.{first};
 ghost use Rattle.model.specs.Judging.{usable, usableSize, measureUsable, judgeMeasures};
 ghost use Rattle.model.specs.Record.{floatAt, headerOf, sampleCount, judgeLength, judgeRecord};
@@ -18,12 +18,19 @@ use model::Verdict;
 // The bytes before the samples.
 pub const HEADER: usize = 27;
 
+// The bit patterns of 1,048,576 and of 1/1024, and the weight of the sign in a pattern.
+const LIMIT: u32 = 0x4980_0000;
+
+const LEAST_SIZE: u32 = 0x3A80_0000;
+
+const SIGN: u32 = 0x8000_0000;
+
 // The pattern without its sign is at most that of 1,048,576.
 fn is_usable_at(bytes: &[u8], at: usize) -> bool
     requires { ⌜ at + 4 ≤ length (now bytes) ⌝ }
     ensures { λ r. ⌜ r ≡ usable (floatAt (now (bytes .entry)) at) ⌝ }
 {
-    word_at(bytes, at) % 0x8000_0000 <= 0x4980_0000
+    word_at(bytes, at) % SIGN <= LIMIT
 }
 
 // The pattern is that of 1/1024, that of 1,048,576 or one between.
@@ -32,7 +39,7 @@ fn is_usable_size_at(bytes: &[u8], at: usize) -> bool
     ensures { λ r. ⌜ r ≡ usableSize (floatAt (now (bytes .entry)) at) ⌝ }
 {
     let size = word_at(bytes, at);
-    (0x3A80_0000 <= size) & (size <= 0x4980_0000)
+    (LEAST_SIZE <= size) & (size <= LIMIT)
 }
 
 fn judge_length(bytes: &[u8]) -> Verdict
@@ -95,7 +102,7 @@ fn judge_head(bytes: &[u8]) -> Verdict
 }
 
 // The samples of a block and of its neighbours.
-fn sample_count(n: usize, mask: u8) -> usize
+pub fn sample_count(n: usize, mask: u8) -> usize
     requires { ⌜ (n ≤ 16) × (mask ≤ 63) ⌝ }
     ensures { λ r. ⌜ (r ≡ sampleCount n mask) × (r ≤ 297297) ⌝ }
 {

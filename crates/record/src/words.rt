@@ -17,10 +17,11 @@ pub fn word_at(bytes: &[u8], at: usize) -> u32
     requires { ⌜ at + 4 ≤ length (now bytes) ⌝ }
     ensures { λ r. ⌜ r ≡ wordAt (now (bytes .entry)) at ⌝ }
 {
-    16777216 * wide(bytes[at])
-        + 65536 * wide(bytes[at + 1])
-        + 256 * wide(bytes[at + 2])
-        + wide(bytes[at + 3])
+    let first = wide(bytes[at]);
+    let second = wide(bytes[at + 1]);
+    let third = wide(bytes[at + 2]);
+    let fourth = wide(bytes[at + 3]);
+    16777216 * first + 65536 * second + 256 * third + fourth
 }
 
 pub fn float_at(bytes: &[u8], at: usize) -> f32

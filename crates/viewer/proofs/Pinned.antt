@@ -1,4 +1,4 @@
--- What the statement of each of the viewer's calls allows is one answer.
+-- What the statement of each call allows is one answer: two that it allows for the same inputs are equal. The calls lend no buffer.
 use mathlib.Core.Path.{_≡_}
 use contract.Lifetimes.{Lfts}
 use Rattle.model.specs.Pinned.{pinned}

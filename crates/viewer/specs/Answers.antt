@@ -1,20 +1,19 @@
 -- The viewer's packed numbers, by what the record's judges find, and a sample's bits where they stand in the record. Assumes nothing.
 use Prim.Native.Nat.{ℕ, _+_, _*_, _^_, _≤_, _<_}
-use native.Mathlib.Omega.{arith}
-use mathlib.Core.Path.{_≡_, refl, sym, ap, _∙_}
+use mathlib.Core.Path.{_≡_, sym, ap, _∙_}
 use mathlib.Core.Bool.{Bool, true, false, cond, _||_}
 use mathlib.Core.List.{List}
 use lib.Dec.{eqb, lit≤}
-use lib.Ieee.{Float, nan, binary32, ofBits, toBits}
+use lib.Ieee.{Float, nan, binary32, toBits}
 use lib.Ieee.Bits.{toBits-ofBits}
-use lib.ListN.{length, getD}
+use lib.ListN.{getD}
 use Rattle.model.specs.declared.Refusal.{Refusal}
 use Rattle.model.specs.declared.Refusal.the-variants.{Subdivisions, Mask, Measure, CentreLength, MissingNeighbour, NeighboursTooLong, BadSample, FaceMismatch, IndexStoreTooShort, NoRoom, RecordLength, Version, SampleCount, BufferTooShort, PointNeverSampled}
 use Rattle.model.specs.declared.Verdict.{Verdict}
 use Rattle.model.specs.declared.Verdict.the-variants.{Passed, Refused}
 use Rattle.model.specs.Steps.{total}
 use Rattle.model.specs.Formulas.{insideBit}
-use Rattle.model.specs.Samples.{sampleLength, placeOf, sampled, valueAt, readingAt}
+use Rattle.model.specs.Samples.{placeOf, sampled, valueAt, readingAt}
 use Rattle.model.specs.Refusals.{numbersOf}
 use Rattle.model.specs.Record.{wordAt, floatAt, countOf, headerOf, samplesOf, judgeRecord}
 use Rattle.model.specs.Viewer.{packed, sampleBits, blankAnswer}

@@ -9,7 +9,7 @@ ghost use Rattle.model.specs.Formulas.{insideBit};
 ghost use Rattle.model.specs.Samples.{readingAt};
 ghost use Rattle.model.specs.Refusals.{numbersOf};
 ghost use Rattle.model.specs.Record.{countOf, headerOf, samplesOf};
-ghost use Rattle.model.specs.Viewer.{blankOf, sampleBits, subdivisionsAnswer, blankAnswer, sampleAnswer};
+ghost use Rattle.model.specs.Viewer.{sampleBits, subdivisionsAnswer, blankAnswer, sampleAnswer};
 ghost use Rattle.record.specs.Accepted.{Accepted};
 use grid::voxel_blocks::one_up;
 use grid::voxel_blocks::outside_by;

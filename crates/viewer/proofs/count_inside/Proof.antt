@@ -4,9 +4,8 @@ use mathlib.Core.Path.{_≡_, refl, sym, ap₂, _∙_}
 use mathlib.Core.List.{List}
 use native.Mathlib.Numerals.{add-one}
 use native.Mathlib.Omega.{arith}
-use borrow.Author.Needs.{needs}
 use lib.Ieee.{nan}
-use lib.ListN.{length, getD}
+use lib.ListN.{getD}
 use Rattle.model.specs.Steps.{total}
 use Rattle.model.specs.Formulas.{insideBit}
 use Rattle.model.specs.Record.{floatAt, countOf, headerOf, samplesOf}

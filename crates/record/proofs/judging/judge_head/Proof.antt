@@ -1,4 +1,4 @@
-use mathlib.Core.Path.{_≡_}
+use mathlib.Core.Path.{_≡_, sym, _∙_}
 use native.Mathlib.Omega.{arith}
 use borrow.Author.Needs.{needs}
 use lib.ListN.{getD}
@@ -22,11 +22,11 @@ enum-known-known c = search needs
 
 returns : tie.Need-returns
 returns c =
-    let version : judgeVersion (c .before .before .before .before .before .before .args .bytes .now) ≡ Refused (c .before .known .given .0 .0) = cc in
+    let version : judgeVersion (c .before .before .before .before .before .before .args .bytes .now) ≡ Refused (c .before .known .given .0 .0) = sym (c .before .before .before .unless .ensures) ∙ c .before .known .given .1 in
     rw version
 
 version-passed : (c : tie.After-enum-told) → judgeVersion (c .before .before .before .before .before .args .bytes .now) ≡ Passed
-version-passed c = cc
+version-passed c = sym (c .before .before .unless .ensures) ∙ c .enum-told .given .1
 
 enum-told : tie.Need-enum-told
 enum-told c = search needs
@@ -46,11 +46,11 @@ enum-known-subdivisions c = search needs
 returns-2 : tie.Need-returns-2
 returns-2 c =
     let n = getD (c .before .before .before .before .before .before .before .before .before .before .args .bytes .now) 5 0 in
-    let subdivisions : judgeSubdivisions n ≡ Refused (c .before .subdivisions .given .0 .0) = cc in
+    let subdivisions : judgeSubdivisions n ≡ Refused (c .before .subdivisions .given .0 .0) = sym (c .before .before .before .judge-subdivisions .ensures) ∙ c .before .subdivisions .given .1 in
     rw (version-passed (c .before .before .before .before .before), subdivisions)
 
 subdivisions-passed : (c : tie.After-enum-told2) → judgeSubdivisions (getD (c .before .before .before .before .before .before .before .before .before .args .bytes .now) 5 0) ≡ Passed
-subdivisions-passed c = cc
+subdivisions-passed c = sym (c .before .before .judge-subdivisions .ensures) ∙ c .enum-told2 .given .1
 
 enum-told-2 : tie.Need-enum-told-2
 enum-told-2 c = search needs
@@ -67,7 +67,7 @@ enum-known-sides c = search needs
 returns-3 : tie.Need-returns-3
 returns-3 c =
     let mask = getD (c .before .before .before .before .before .before .before .before .before .before .before .before .before .before .args .bytes .now) 6 0 in
-    let sides : judgeMask mask ≡ Refused (c .before .sides .given .0 .0) = cc in
+    let sides : judgeMask mask ≡ Refused (c .before .sides .given .0 .0) = sym (c .before .before .before .judge-mask .ensures) ∙ c .before .sides .given .1 in
     rw (version-passed (c .before .before .before .before .before .before .before .before .before), subdivisions-passed (c .before .before .before .before .before), sides)
 
 enum-told-3 : tie.Need-enum-told-3
@@ -78,7 +78,7 @@ judge-measures-requires c κs = search needs
 
 returns-4 : tie.Need-returns-4
 returns-4 c =
-    let sides : judgeMask (getD (c .before .before .before .before .before .before .before .before .before .before .before .before .before .before .args .bytes .now) 6 0) ≡ Passed = cc in
+    let sides : judgeMask (getD (c .before .before .before .before .before .before .before .before .before .before .before .before .before .before .args .bytes .now) 6 0) ≡ Passed = sym (c .before .before .before .judge-mask .ensures) ∙ c .before .enum-told3 .given .1 in
     rw (version-passed (c .before .before .before .before .before .before .before .before .before), subdivisions-passed (c .before .before .before .before .before), sides) (c .judge-measures .ensures)
 
 pub judge-head-spec : {M : Type 1} → statement M

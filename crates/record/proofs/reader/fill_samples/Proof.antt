@@ -1,11 +1,10 @@
 -- `fill_samples` meets its contract. The loop's invariant: the samples passed stand in the first places, and all beyond is as it was.
 use Prim.Native.Nat.{ℕ, _+_, _-_, _*_, _≤_, _<_}
-use mathlib.Core.Path.{_≡_, refl, sym, ap, _∙_}
+use mathlib.Core.Path.{_≡_, refl, ap, _∙_}
 use mathlib.Core.List.{List, _++_}
 use native.Mathlib.Omega.{arith}
 use lib.Ieee.{Float}
 use lib.ListN.{length, drop, set, length-set}
-use borrow.Author.Needs.{needs}
 use Rattle.model.specs.Steps.{listed}
 use Rattle.model.specs.Record.{floatAt, countOf, samplesOf}
 use Rattle.record.specs.Lists.{length-listed, listed-more}

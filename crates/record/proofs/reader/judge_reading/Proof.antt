@@ -1,4 +1,4 @@
-use mathlib.Core.Path.{_≡_}
+use mathlib.Core.Path.{_≡_, sym, _∙_}
 use borrow.Author.Needs.{needs}
 use Rattle.model.specs.declared.Verdict.the-variants.{Passed, Refused}
 use Rattle.model.specs.Record.{judgeRecord}
@@ -14,11 +14,11 @@ enum-known-whole c = search needs
 
 returns : tie.Need-returns
 returns c =
-    let whole : judgeRecord (c .before .before .before .before .before .args .bytes .now) ≡ Refused (c .before .whole .given .0 .0) = cc in
+    let whole : judgeRecord (c .before .before .before .before .before .args .bytes .now) ≡ Refused (c .before .whole .given .0 .0) = sym (c .before .before .before .judge-record .ensures) ∙ c .before .whole .given .1 in
     rw whole
 
 passed : (c : tie.After-enum-told) → judgeRecord (c .before .before .before .before .args .bytes .now) ≡ Passed
-passed c = cc
+passed c = sym (c .before .before .judge-record .ensures) ∙ c .enum-told .given .1
 
 enum-told : tie.Need-enum-told
 enum-told c = search needs

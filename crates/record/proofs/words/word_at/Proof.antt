@@ -9,9 +9,6 @@ shared-slice-read-wide c = search needs
 wide-requires : tie.Need-wide-requires
 wide-requires c κs = search needs
 
-mul-result : tie.Need-mul-result
-mul-result c = search needs
-
 add-wide : tie.Need-add-wide
 add-wide c = search needs
 
@@ -20,12 +17,6 @@ shared-slice-read-wide-2 c = search needs
 
 wide-requires-2 : tie.Need-wide-requires-2
 wide-requires-2 c κs = search needs
-
-mul-result-2 : tie.Need-mul-result-2
-mul-result-2 c = search needs
-
-add-result : tie.Need-add-result
-add-result c = search needs
 
 add-wide-2 : tie.Need-add-wide-2
 add-wide-2 c = search needs
@@ -36,12 +27,6 @@ shared-slice-read-wide-3 c = search needs
 wide-requires-3 : tie.Need-wide-requires-3
 wide-requires-3 c κs = search needs
 
-mul-result-3 : tie.Need-mul-result-3
-mul-result-3 c = search needs
-
-add-result-2 : tie.Need-add-result-2
-add-result-2 c = search needs
-
 add-wide-3 : tie.Need-add-wide-3
 add-wide-3 c = search needs
 
@@ -50,6 +35,21 @@ shared-slice-read-wide-4 c = search needs
 
 wide-requires-4 : tie.Need-wide-requires-4
 wide-requires-4 c κs = search needs
+
+mul-result : tie.Need-mul-result
+mul-result c = search needs
+
+mul-result-2 : tie.Need-mul-result-2
+mul-result-2 c = search needs
+
+add-result : tie.Need-add-result
+add-result c = search needs
+
+mul-result-3 : tie.Need-mul-result-3
+mul-result-3 c = search needs
+
+add-result-2 : tie.Need-add-result-2
+add-result-2 c = search needs
 
 add-result-3 : tie.Need-add-result-3
 add-result-3 c = search needs
@@ -64,19 +64,19 @@ word-at-spec =
     (tie.spec
     shared-slice-read-wide
     wide-requires
-    mul-result
     add-wide
     shared-slice-read-wide-2
     wide-requires-2
-    mul-result-2
-    add-result
     add-wide-2
     shared-slice-read-wide-3
     wide-requires-3
-    mul-result-3
-    add-result-2
     add-wide-3
     shared-slice-read-wide-4
     wide-requires-4
+    mul-result
+    mul-result-2
+    add-result
+    mul-result-3
+    add-result-2
     add-result-3
     returns)

@@ -1,4 +1,4 @@
-use mathlib.Core.Path.{_≡_}
+use mathlib.Core.Path.{_≡_, sym, _∙_}
 use native.Mathlib.Omega.{arith}
 use borrow.Author.Needs.{needs}
 use lib.ListN.{length-append}
@@ -17,11 +17,11 @@ enum-known-whole c = search needs
 
 returns : tie.Need-returns
 returns c =
-    let whole : judgeStar (star (c .before .before .before .before .before .before .args .header .block) (c .before .before .before .before .before .before .args .header .mask) (c .before .before .before .before .before .before .args .header .threshold) (c .before .before .before .before .before .before .args .centre .now) (c .before .before .before .before .before .before .args .neighbours .now)) ≡ Refused (c .before .whole .given .0 .0) = cc in
+    let whole : judgeStar (star (c .before .before .before .before .before .before .args .header .block) (c .before .before .before .before .before .before .args .header .mask) (c .before .before .before .before .before .before .args .header .threshold) (c .before .before .before .before .before .before .args .centre .now) (c .before .before .before .before .before .before .args .neighbours .now)) ≡ Refused (c .before .whole .given .0 .0) = sym (c .before .before .before .judge-star .ensures) ∙ c .before .whole .given .1 in
     rw whole
 
 passed : (c : tie.After-enum-told) → judgeStar (star (c .before .before .before .before .before .args .header .block) (c .before .before .before .before .before .args .header .mask) (c .before .before .before .before .before .args .header .threshold) (c .before .before .before .before .before .args .centre .now) (c .before .before .before .before .before .args .neighbours .now)) ≡ Passed
-passed c = cc
+passed c = sym (c .before .before .judge-star .ensures) ∙ c .enum-told .given .1
 
 enum-told : tie.Need-enum-told
 enum-told c = search needs
