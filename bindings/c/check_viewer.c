@@ -1,0 +1,183 @@
+/*
+ * Calls the viewer's three functions from C on good, blank and damaged records, and compares with the answers that
+ * document 01 gives. bindings/c/check.sh builds and runs it.
+ */
+#include "sirveshan.h"
+
+#include <inttypes.h>
+#include <stdio.h>
+#include <string.h>
+
+enum { HEADER = 27, SAMPLES = 3000 };
+
+static const uint32_t ZERO = 0x00000000, HALF = 0x3f000000, ONE = 0x3f800000, MINUS_ZERO = 0x80000000;
+static const uint32_t MINUS_ONE = 0xbf800000, LIMIT = 0x49800000, LEAST_SIZE = 0x3a800000;
+static const uint32_t INFINITE = 0x7f800000, NOT_A_NUMBER = 0x7fc00000;
+
+/* A record: its bytes, and how many they are. */
+struct record {
+    uint8_t bytes[HEADER + 4 * SAMPLES];
+    size_t length;
+};
+
+static int passed, failed;
+
+static void put(struct record *r, size_t at, uint32_t word)
+{
+    for (size_t k = 0; k < 4; k++)
+        r->bytes[at + k] = (uint8_t)(word >> (24 - 8 * k));
+}
+
+static void put_length(struct record *r)
+{
+    put(r, 0, (uint32_t)(r->length - 4));
+}
+
+static void put_sample(struct record *r, size_t place, uint32_t bits)
+{
+    put(r, HEADER + 4 * place, bits);
+}
+
+/* Threshold 0.5, base 0, size 1, every sample the same. */
+static struct record record_of(unsigned n, unsigned mask, uint32_t sample)
+{
+    struct record r = {{0}, 0};
+    size_t m = n + 1, fine = 2 * n + 1, count = m * m * m + 6 * m * m;
+    for (unsigned side = 0; side < 6; side++)
+        if (mask >> side & 1)
+            count += fine * fine * fine + 6 * fine * fine;
+    r.length = HEADER + 4 * count;
+    put_length(&r);
+    r.bytes[4] = 1;
+    r.bytes[5] = (uint8_t)n;
+    r.bytes[6] = (uint8_t)mask;
+    put(&r, 7, HALF);
+    put(&r, 23, ONE);
+    for (size_t place = 0; place < count; place++)
+        put_sample(&r, place, sample);
+    return r;
+}
+
+static void expect(const char *what, uint64_t found, uint64_t wanted)
+{
+    if (found == wanted) {
+        passed++;
+        return;
+    }
+    failed++;
+    printf("%s: %" PRIu64 ", not %" PRIu64 "\n", what, found, wanted);
+}
+
+static void expect_sample(const char *what, const struct record *r, int32_t x, int32_t y, int32_t z, uint64_t wanted)
+{
+    expect(what, sirveshan_sample(r->bytes, r->length, x, y, z), wanted);
+}
+
+/* All three calls refuse, by the same number. */
+static void expect_refused(const char *what, const struct record *r, uint64_t number)
+{
+    expect(what, sirveshan_subdivisions(r->bytes, r->length), SIRVESHAN_REFUSED + number);
+    expect(what, sirveshan_blank(r->bytes, r->length), SIRVESHAN_REFUSED + number);
+    expect_sample(what, r, 0, 0, 0, SIRVESHAN_SAMPLE_REFUSED + number);
+    expect_sample(what, r, 99, -99, 99, SIRVESHAN_SAMPLE_REFUSED + number);
+}
+
+static void expect_word_refused(const char *what, size_t at, uint32_t bits, uint64_t number)
+{
+    struct record r = record_of(1, 0, ONE);
+    put(&r, at, bits);
+    expect_refused(what, &r, number);
+}
+
+static void expect_byte_refused(const char *what, size_t at, uint8_t byte, uint64_t number)
+{
+    struct record r = record_of(1, 0, ONE);
+    r.bytes[at] = byte;
+    expect_refused(what, &r, number);
+}
+
+/* Document 01's case A. */
+static void good(void)
+{
+    const uint64_t never = SIRVESHAN_SAMPLE_REFUSED + 15;
+    struct record r = record_of(1, 0, ZERO);
+    put_sample(&r, 0, ONE);
+    put_sample(&r, 7, MINUS_ZERO);
+    put_sample(&r, 8, HALF);
+    put_sample(&r, 31, MINUS_ONE);
+    expect("case A", sirveshan_subdivisions(r.bytes, r.length), 1);
+    expect("case A", sirveshan_blank(r.bytes, r.length), 0);
+    expect_sample("first point", &r, 0, 0, 0, ONE);
+    expect_sample("last point", &r, 1, 1, 1, MINUS_ZERO);
+    expect_sample("first extension", &r, -1, 0, 0, HALF);
+    expect_sample("last extension", &r, 1, 1, 2, MINUS_ONE);
+    expect_sample("two outside", &r, -1, -1, 0, never);
+    expect_sample("two steps outside", &r, 0, 3, 0, never);
+    expect_sample("two steps below", &r, 0, 0, -2, never);
+    expect_sample("far below", &r, INT32_MIN, 0, 0, never);
+    expect_sample("far above", &r, 0, INT32_MAX, 0, never);
+}
+
+static void good_with_neighbours(void)
+{
+    struct record r = record_of(2, 0x21, ONE);
+    put_sample(&r, 15, LIMIT);
+    put(&r, 11, 0x80000000 | LIMIT);
+    put(&r, 23, LEAST_SIZE);
+    expect("neighbours", sirveshan_subdivisions(r.bytes, r.length), 2);
+    expect_sample("(1,2,0) of n = 2", &r, 1, 2, 0, LIMIT);
+}
+
+static void blank(void)
+{
+    struct record r = record_of(2, 1, ZERO);
+    expect("all outside", sirveshan_blank(r.bytes, r.length), 1);
+    put_sample(&r, 27, ONE);
+    put_sample(&r, 81, ONE);
+    expect("beyond the block", sirveshan_blank(r.bytes, r.length), 1);
+    put_sample(&r, 26, ONE);
+    expect("its last point", sirveshan_blank(r.bytes, r.length), 0);
+    r = record_of(2, 0, HALF);
+    expect("all at the threshold", sirveshan_blank(r.bytes, r.length), 1);
+    put_sample(&r, 0, ZERO);
+    expect("its first point", sirveshan_blank(r.bytes, r.length), 0);
+}
+
+static void damaged(void)
+{
+    struct record r = record_of(1, 0, ONE);
+    r.length--;
+    expect_refused("a byte short", &r, 11);
+    r.length = HEADER - 1;
+    put_length(&r);
+    expect_refused("under 27 bytes", &r, 11);
+    r = record_of(1, 0, ONE);
+    r.length += 4;
+    expect_refused("longer than told", &r, 11);
+    put_length(&r);
+    expect_refused("a sample too many", &r, 13);
+    expect_word_refused("length off by one", 0, HEADER + 4 * 32 - 3, 11);
+    expect_byte_refused("version", 4, 2, 12);
+    expect_byte_refused("no subdivisions", 5, 0, 1);
+    expect_byte_refused("17 subdivisions", 5, 17, 1);
+    expect_byte_refused("other subdivisions", 5, 2, 13);
+    expect_byte_refused("mask 64", 6, 64, 2);
+    expect_byte_refused("other mask", 6, 1, 13);
+    expect_word_refused("threshold", 7, NOT_A_NUMBER, 3);
+    expect_word_refused("base x", 11, INFINITE, 3);
+    expect_word_refused("base y", 15, LIMIT + 1, 3);
+    expect_word_refused("base z", 19, 0x80000000 | NOT_A_NUMBER, 3);
+    expect_word_refused("size", 23, LEAST_SIZE - 1, 3);
+    expect_word_refused("first sample", HEADER, NOT_A_NUMBER, 7);
+    expect_word_refused("last sample", HEADER + 4 * 31, 0x80000000 | INFINITE, 7);
+}
+
+int main(void)
+{
+    good();
+    good_with_neighbours();
+    blank();
+    damaged();
+    printf("%d passed, %d failed\n", passed, failed);
+    return failed != 0;
+}
