@@ -1,0 +1,177 @@
+//! Ours against the Rust, same blocks, same process: microseconds a block, judging included.
+//!
+//! `bench` prints a table. `bench ours N MASK smooth` (or `rust`, or `noisy`) meshes one such block
+//! a hundred times and prints nothing, for an instruction count under valgrind.
+
+use oracle::record::{block_length, Block};
+use oracle::Star;
+use std::hint::black_box;
+use std::time::{Duration, Instant};
+
+const SIZES: [usize; 3] = [4, 8, 16];
+const MASKS: [u8; 3] = [0, 1, 63];
+const SHAPES: [&str; 2] = ["smooth", "noisy"];
+
+/// A quarry face: a bumpy height over the fine grid, whose even points are the centre's.
+fn height(x: i64, y: i64, z: i64, n: usize) -> f32 {
+    let (x, y, z) = (x as f32, y as f32, z as f32);
+    z - n as f32 - 1.7 * (0.31 * x).sin() - 1.3 * (0.23 * y + 0.1 * x).cos() + 0.37
+}
+
+fn noise(x: i64, y: i64, z: i64) -> f32 {
+    let mut bits = (x as u64) ^ (y as u64).rotate_left(21) ^ (z as u64).rotate_left(42);
+    for _ in 0..2 {
+        bits = (bits ^ bits >> 31).wrapping_mul(0x9e37_79b9_7f4a_7c15);
+    }
+    (bits >> 40) as f32 / (1 << 23) as f32 - 1.0
+}
+
+fn value(shape: &str, point: [i64; 3], n: usize) -> f32 {
+    let [x, y, z] = point;
+    match shape {
+        "smooth" => height(x, y, z, n),
+        _ => noise(x, y, z),
+    }
+}
+
+/// The points of a block in the order of their places.
+fn points(n: i64) -> Vec<[i64; 3]> {
+    let mut all = Vec::new();
+    for x in 0..=n {
+        for y in 0..=n {
+            all.extend((0..=n).map(|z| [x, y, z]));
+        }
+    }
+    for axis in 0..3 {
+        for across in [-1, n + 1] {
+            for i in 0..=n {
+                all.extend((0..=n).map(|j| match axis {
+                    0 => [across, i, j],
+                    1 => [i, across, j],
+                    _ => [i, j, across],
+                }));
+            }
+        }
+    }
+    assert_eq!(all.len(), block_length(n as usize));
+    all
+}
+
+fn block(n: usize, mask: u8, shape: &str) -> Block {
+    let centre = points(n as i64).iter().map(|p| value(shape, p.map(|k| 2 * k), n)).collect();
+    let mut neighbours = Vec::new();
+    for side in (0..6).filter(|side| mask >> side & 1 == 1) {
+        let mut origin = [0; 3];
+        origin[side / 2] = if side % 2 == 0 { -2 * n as i64 } else { 2 * n as i64 };
+        let at = |p: &[i64; 3]| value(shape, std::array::from_fn(|k| p[k] + origin[k]), n);
+        neighbours.extend(points(2 * n as i64).iter().map(at));
+    }
+    Block { n, mask, threshold: 0.0, base: [10.0, 20.0, 30.0], size: 8.0, centre, neighbours }
+}
+
+/// Our mesher with buffers that were made once and are not cleared between blocks.
+struct Ours {
+    store: Vec<u32>,
+    vertices: Vec<f32>,
+    triangles: Vec<u32>,
+}
+
+impl Ours {
+    fn new() -> Ours {
+        let most = 12 * (16 * 16 * 16 + 6 * 16 * 16);
+        Ours {
+            store: vec![0; sirveshan::store_length(16)],
+            vertices: vec![0.0; 6 * most],
+            triangles: vec![0; 3 * most],
+        }
+    }
+
+    fn mesh(&mut self, block: &Block) -> sirveshan::Counts {
+        let Block { base, size, n, .. } = *block;
+        sirveshan::extract(
+            &sirveshan::Block { base, size, subdivisions: n },
+            block.mask,
+            block.threshold,
+            &block.centre,
+            &block.neighbours,
+            &mut self.store,
+            &mut self.vertices,
+            &mut self.triangles,
+        )
+        .expect("a block that is accepted")
+    }
+}
+
+/// The best of many rounds, in microseconds a call.
+fn best(mut call: impl FnMut()) -> f64 {
+    let mut best = f64::INFINITY;
+    let end = Instant::now() + Duration::from_millis(700);
+    while Instant::now() < end {
+        let start = Instant::now();
+        for _ in 0..10 {
+            call();
+        }
+        best = best.min(start.elapsed().as_secs_f64() * 1e5);
+    }
+    best
+}
+
+fn table() {
+    println!("| face | n | mask | vertices | triangles | ours µs | Rust µs | times as fast |");
+    println!("|---|---|---|---|---|---|---|---|");
+    let mut ours = Ours::new();
+    for shape in SHAPES {
+        for n in SIZES {
+            for mask in MASKS {
+                let block = block(n, mask, shape);
+                let star = Star::new(&block);
+                let counts = ours.mesh(&block);
+                let mesh = star.extract();
+                assert_eq!((counts.vertices, counts.triangles), (mesh.vertices.len(), mesh.triangles.len()));
+                let our_time = best(|| {
+                    black_box(ours.mesh(black_box(&block)));
+                });
+                let rust_time = best(|| {
+                    black_box(black_box(&star).extract());
+                });
+                println!(
+                    "| {shape} | {n} | {mask} | {} | {} | {our_time:.1} | {rust_time:.1} | {:.1} |",
+                    counts.vertices,
+                    counts.triangles,
+                    rust_time / our_time
+                );
+            }
+        }
+    }
+}
+
+fn many(words: &[String]) -> Option<()> {
+    let [who, n, mask, shape] = words else { return None };
+    let block = block(n.parse().ok()?, mask.parse().ok()?, shape);
+    match who.as_str() {
+        "ours" => {
+            let mut ours = Ours::new();
+            for _ in 0..100 {
+                black_box(ours.mesh(black_box(&block)));
+            }
+        }
+        "rust" => {
+            let star = Star::new(&block);
+            for _ in 0..100 {
+                black_box(black_box(&star).extract());
+            }
+        }
+        _ => return None,
+    }
+    Some(())
+}
+
+fn main() {
+    let words: Vec<String> = std::env::args().skip(1).collect();
+    if words.is_empty() {
+        table();
+    } else if many(&words).is_none() {
+        eprintln!("bench | bench ours|rust N MASK smooth|noisy");
+        std::process::exit(1);
+    }
+}
