@@ -1,7 +1,7 @@
 //! Ours against the Rust, same blocks, same process: microseconds a block, judging included.
 //!
-//! `bench` prints a table. `bench ours N MASK smooth` (or `rust`, or `noisy`) meshes one such block
-//! a hundred times and prints nothing, for an instruction count under valgrind.
+//! `bench` prints a table. `bench ours TIMES N MASK smooth` (or `rust`, or `noisy`) meshes one such
+//! block that often and prints nothing: `instructions` takes two such runs apart.
 
 use oracle::record::{block_length, Block};
 use oracle::Star;
@@ -146,18 +146,19 @@ fn table() {
 }
 
 fn many(words: &[String]) -> Option<()> {
-    let [who, n, mask, shape] = words else { return None };
+    let [who, times, n, mask, shape] = words else { return None };
+    let times: usize = times.parse().ok()?;
     let block = block(n.parse().ok()?, mask.parse().ok()?, shape);
     match who.as_str() {
         "ours" => {
             let mut ours = Ours::new();
-            for _ in 0..100 {
+            for _ in 0..times {
                 black_box(ours.mesh(black_box(&block)));
             }
         }
         "rust" => {
             let star = Star::new(&block);
-            for _ in 0..100 {
+            for _ in 0..times {
                 black_box(black_box(&star).extract());
             }
         }
@@ -171,7 +172,7 @@ fn main() {
     if words.is_empty() {
         table();
     } else if many(&words).is_none() {
-        eprintln!("bench | bench ours|rust N MASK smooth|noisy");
+        eprintln!("bench | bench ours|rust TIMES N MASK smooth|noisy");
         std::process::exit(1);
     }
 }
