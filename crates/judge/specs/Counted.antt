@@ -1,7 +1,8 @@
 -- Document 01, 'Answers by number': 7 for samples whose places are counted on from another place, and that two lists lent one after
--- the other are judged one after the other.
-use Prim.Native.Nat.{ℕ, _+_}
-use mathlib.Core.Path.{_≡_}
+-- the other are judged one after the other. Samples that can all be used pass, wherever they are counted from.
+use Prim.Native.Nat.{ℕ, zero, suc, _+_}
+use mathlib.Core.Path.{_≡_, refl, sym, _∙_}
+use mathlib.Core.Bool.{Bool, true, _&&_, and-eq-true-iff}
 use mathlib.Core.List.{List, _++_}
 use native.Mathlib.Nat.{zero-add}
 use lib.Ieee.{Float, nan}
@@ -9,6 +10,7 @@ use lib.ListN.{length, getD, length-append, List·getD-append}
 use lib.Seq.{getD-append-add}
 use Rattle.model.specs.declared.Refusal.the-variants.{BadSample}
 use Rattle.model.specs.declared.Verdict.{Verdict}
+use Rattle.model.specs.declared.Verdict.the-variants.{Passed}
 use Rattle.model.specs.Refusals.{unless, orElse, first}
 use Rattle.model.specs.Judging.{usable, sampleUsable, judgeSamples}
 use Rattle.judge.specs.First.{first-append, first-same}
@@ -18,6 +20,17 @@ usableFrom from samples place = unless (usable (getD samples place nan)) (BadSam
 
 abbrev pub judgeFrom : ℕ → List Float → Verdict
 judgeFrom from samples = first (usableFrom from samples) (length samples)
+
+-- the first k samples can be used
+abbrev pub allUsable : List Float → ℕ → Bool
+allUsable samples zero = true
+allUsable samples (suc k) = allUsable samples k && usable (getD samples k nan)
+
+all-pass : (from : ℕ) (samples : List Float) (k : ℕ) → allUsable samples k ≡ true → first (usableFrom from samples) k ≡ Passed
+all-pass from samples zero h = refl
+all-pass from samples (suc k) h =
+    let parts = and-eq-true-iff (allUsable samples k) (usable (getD samples k nan)) .0 h in
+    rw (all-pass from samples k (parts .0), parts .1)
 
 module _ (centre neighbours : List Float) where
   pub one-after-the-other :
@@ -31,3 +44,12 @@ module _ (centre neighbours : List Float) where
       (λ i h. rw getD-append-add)
       in
       rw (length-append, first-append, in-centre, after)
+
+  pub both-usable : {a b : Bool} → a ≡ allUsable centre (length centre) → b ≡ allUsable neighbours (length neighbours)
+      → (a && b) ≡ true
+      → Passed ≡ judgeSamples (centre ++ neighbours)
+  both-usable {a} {b} in-centre after h =
+      let parts = and-eq-true-iff a b .0 h in
+      let passed = all-pass 0 centre (length centre) (sym in-centre ∙ parts .0) in
+      let rest = all-pass (length centre) neighbours (length neighbours) (sym after ∙ parts .1) in
+      rw (one-after-the-other, passed, rest)

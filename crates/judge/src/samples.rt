@@ -4,11 +4,22 @@ ghost use mathlib.Core.List.{_++_};
 ghost use Prim.Native.Nat.{_+_, _<_, _^_};
 ghost use lib.ListN.{length};
 ghost use Rattle.model.specs.Judging.{judgeSamples};
-ghost use Rattle.judge.specs.Counted.{judgeFrom};
+ghost use Rattle.judge.specs.Counted.{allUsable, judgeFrom};
 use crate::is_usable;
 use crate::or_else;
 use model::Refusal;
 use model::Verdict;
+
+// Whether every sample can be used. It looks at them all, which the compiler does many at a time.
+fn all_usable(samples: &[f32]) -> bool
+    ensures { λ r. ⌜ r ≡ allUsable (now (samples .entry)) (length (now (samples .entry))) ⌝ }
+{
+    let mut usable = true;
+    for place in 0..samples.len() {
+        usable = usable & is_usable(samples[place]);
+    }
+    usable
+}
 
 // The first bad one of these samples, their places counted on from another.
 fn first_bad(samples: &[f32], from: usize) -> Verdict
@@ -26,5 +37,8 @@ fn first_bad(samples: &[f32], from: usize) -> Verdict
 pub fn judge_samples(centre: &[f32], neighbours: &[f32]) -> Verdict
     ensures { λ r. ⌜ r ≡ judgeSamples (now (centre .entry) ++ now (neighbours .entry)) ⌝ }
 {
+    if all_usable(centre) & all_usable(neighbours) {
+        return Verdict::Passed;
+    }
     or_else(first_bad(centre, 0), first_bad(neighbours, centre.len()))
 }
