@@ -94,6 +94,10 @@ pub fn regular_position(block: Block, mask: u8, p: Xyz) -> Vector
     ensures { λ r. ⌜ r ≡ Formulas.regularPosition block mask p ⌝ }
 {
     let at = original_position(block, p);
+    // With no named side, a point that touches a face is held, and shrinking moves no other one.
+    if mask == 0 {
+        return at;
+    }
     let n = block.subdivisions;
     let size = block.size;
     if held(n, mask, p) {
