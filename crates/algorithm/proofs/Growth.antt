@@ -1,5 +1,5 @@
 -- Laws of the counting pass: what steps taken in order add, whatever was there before them.
-use Prim.Native.Nat.{ℕ, _+_, _^_, _≤_, _<_}
+use Prim.Native.Nat.{ℕ, _+_, _*_, _/_, _%_, _^_, _≤_, _<_}
 use native.Mathlib.Nat.{add-zero}
 use native.Mathlib.Numerals.{add-one}
 use native.Mathlib.Omega.{arith}
@@ -9,12 +9,14 @@ use lib.ListN.{length}
 use Rattle.model.specs.declared.Counts.{Counts}
 use Rattle.model.specs.Steps.{iterate}
 use Rattle.model.specs.Sides.{named}
-use Rattle.model.specs.Points.{Star, subdivisions}
+use Rattle.model.specs.Points.{Star, subdivisions, regularCase, transitionCase}
 use Rattle.model.specs.Mesh.{Cell, Mesh, blank, cellStep, regularCell, regularColumn, regularLayer, regularMesh, transitionCell, transitionRow, transitionSide, meshOf}
 use Rattle.grid.specs.SideLaws.{NextSide}
+use Rattle.cases.specs.Bits.{NextSet}
+use Rattle.cases.specs.Columns.{uncut}
 use Rattle.cells.specs.Posts.{Adds}
 use Rattle.algorithm.specs.Posts.{plus, Grows, Counted}
-use Rattle.algorithm.proofs.Walk.{sides-skip}
+use Rattle.algorithm.proofs.Walk.{cells-skip, row-skip, sides-skip}
 use Rattle.algorithm.proofs.Holding.{cell-made, cell-triangles}
 
 abbrev none : Counts
@@ -83,6 +85,20 @@ module _ (s : Star) where
       → Grows (iterate (λ z. cellStep (regularCell s x y z)) z) cells counts → Grows (regularColumn s x y) cells counts
   unfolding regularColumn
   grows-column x y z cells counts e g = rw e at g
+
+  -- up to the next cell that is cut
+  pub grows-next : (n x y bits : ℕ) → ((z : ℕ) → z < n → bits / 2 ^ z % 2 ≡ 0 → uncut (regularCase s x y z) 255 ≡ true)
+      → (from next : ℕ) (counts : Counts) → NextSet bits n from next
+      → Grows (iterate (λ z. cellStep (regularCell s x y z)) from) from counts → Grows (iterate (λ z. cellStep (regularCell s x y z)) next) next counts
+  grows-next n x y bits clear from next counts step g =
+      grows-few next (step .from-le) (grows-as (λ m. sym (cells-skip s n x y bits clear from next step m)) g)
+
+  pub grows-next-in-row : (n side u bits : ℕ) → ((v : ℕ) → v < n → bits / 2 ^ (2 * v) % 2 ≡ 0 → uncut (transitionCase s side u v) 511 ≡ true)
+      → (from bit : ℕ) (counts : Counts) → NextSet bits (2 * n) (2 * from) bit
+      → Grows (iterate (λ v. cellStep (transitionCell s side u v)) from) from counts
+      → Grows (iterate (λ v. cellStep (transitionCell s side u v)) (bit / 2)) (bit / 2) counts
+  grows-next-in-row n side u bits clear from bit counts step g =
+      grows-few (bit / 2) (omega (arith, step .from-le)) (grows-as (λ m. sym (row-skip s n side u bits clear from bit step m)) g)
 
   pub grows-layer : (x y cells : ℕ) (counts : Counts) → y ≡ subdivisions s
       → Grows (iterate (regularColumn s x) y) cells counts → Grows (regularLayer s x) cells counts

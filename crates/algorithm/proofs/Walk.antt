@@ -1,5 +1,5 @@
 -- Laws of the walk over the cells: a step goes from cell to cell, and nothing that was made is taken away.
-use Prim.Native.Nat.{ℕ, zero, suc, _+_, _-_, _≤_, _<_}
+use Prim.Native.Nat.{ℕ, zero, suc, _+_, _-_, _*_, _/_, _%_, _^_, _≤_, _<_}
 use native.Mathlib.Nat.{add-zero, add-suc, le-refl, le-trans}
 use native.Mathlib.Numerals.{add-one}
 use native.Mathlib.Omega.{arith}
@@ -8,10 +8,13 @@ use mathlib.Core.Bool.{Bool, true, false, cond}
 use lib.ListN.{length, length-append}
 use Rattle.model.specs.Steps.{iterate}
 use Rattle.model.specs.Sides.{named}
-use Rattle.model.specs.Points.{Star, subdivisions}
+use Rattle.model.specs.Points.{Star, subdivisions, regularCase, transitionCase}
 use Rattle.model.specs.Mesh.{Cell, Mesh, blank, cellStep, regularCell, regularColumn, regularLayer, regularMesh, transitionCell, transitionRow, transitionSide, meshOf}
 use Rattle.grid.specs.SideLaws.{NextSide}
+use Rattle.cases.specs.Bits.{NextSet}
+use Rattle.cases.specs.Columns.{uncut}
 use Rattle.cells.specs.Steps.{iterate-upto}
+use Rattle.cells.specs.Uncut.{nothing-step, regular-nothing, transition-nothing}
 use Rattle.algorithm.specs.Walk.{regularTo, transitionTo}
 
 -- ---- what a later mesh has at least
@@ -38,7 +41,38 @@ module _ (f : ℕ → Mesh → Mesh) (grows : (k : ℕ) (m : Mesh) → Upto m (f
         triangles = iterate-upto (λ (m : Mesh). length (m .triangles)) f (λ k m. grows k m .triangles) m j k h;
       }
 
+-- steps that change nothing are stepped over
+module _ (f : ℕ → Mesh → Mesh) (m : Mesh) where
+  skip : (from k : ℕ) → ((i : ℕ) → from ≤ i → i < from + k → (m : Mesh) → f i m ≡ m) → iterate f (from + k) m ≡ iterate f from m
+  skip from zero h = rw add-zero
+  skip from (suc k) h =
+      rw add-suc (h (from + k) (omega arith) (omega arith) (iterate f (from + k) m) ∙ skip from k (λ i a b. h i a (omega arith)))
+
+  pub steps-skip : (from next : ℕ) → from ≤ next → ((i : ℕ) → from ≤ i → i < next → (m : Mesh) → f i m ≡ m) → iterate f from m ≡ iterate f next m
+  steps-skip from next l h =
+      let e : next ≡ from + (next - from) = omega arith in
+      rw e (sym (skip from (next - from) (λ i a b. h i a (omega arith))))
+
 module _ (s : Star) where
+  -- ---- cells that are not cut are stepped over
+
+  module _ (n x y bits : ℕ) (clear : (z : ℕ) → z < n → bits / 2 ^ z % 2 ≡ 0 → uncut (regularCase s x y z) 255 ≡ true) where
+    pub cells-skip : (from next : ℕ) → NextSet bits n from next → (m : Mesh)
+        → iterate (λ z. cellStep (regularCell s x y z)) from m ≡ iterate (λ z. cellStep (regularCell s x y z)) next m
+    cells-skip from next step m =
+        steps-skip _ m from next (step .from-le)
+        (λ z a b. nothing-step _ (regular-nothing s x y z (clear z (omega (arith, step .le-end)) (step .none-between z a b))))
+
+  -- a row's cells have every second bit
+  module _ (n side u bits : ℕ) (clear : (v : ℕ) → v < n → bits / 2 ^ (2 * v) % 2 ≡ 0 → uncut (transitionCase s side u v) 511 ≡ true) where
+    pub row-skip : (from bit : ℕ) → NextSet bits (2 * n) (2 * from) bit → (m : Mesh)
+        → iterate (λ v. cellStep (transitionCell s side u v)) from m ≡ iterate (λ v. cellStep (transitionCell s side u v)) (bit / 2) m
+    row-skip from bit step m =
+        steps-skip _ m from (bit / 2) (omega (arith, step .from-le))
+        (λ v a b.
+        nothing-step _
+        (transition-nothing s side u v (clear v (omega (arith, step .le-end)) (step .none-between (2 * v) (omega arith) (omega arith)))))
+
   -- ---- regular cells
 
   pub regular-start : regularTo s 0 0 0 ≡ blank (subdivisions s)
@@ -91,26 +125,28 @@ module _ (s : Star) where
   unfolding transitionTo meshOf
   transition-end side e = rw e
 
-  -- sides that are not named are skipped
-  module _ (m : Mesh) where
-    side-unnamed : (side : ℕ) → named (s .mask) side ≡ false → iterate (transitionSide s) (suc side) m ≡ iterate (transitionSide s) side m
-    unfolding transitionSide
-    side-unnamed side h = rw h
+  -- sides that are not named are stepped over
+  side-unnamed : (side : ℕ) → named (s .mask) side ≡ false → (m : Mesh) → transitionSide s side m ≡ m
+  unfolding transitionSide
+  side-unnamed side h m = rw h
 
-    skip : (side k : ℕ) → ((i : ℕ) → side ≤ i → i < side + k → named (s .mask) i ≡ false)
-        → iterate (transitionSide s) (side + k) m ≡ iterate (transitionSide s) side m
-    skip side zero h = rw add-zero
-    skip side (suc k) h =
-        rw add-suc (side-unnamed (side + k) (h (side + k) (omega arith) (omega arith)) ∙ skip side k (λ i a b. h i a (omega arith)))
-
-    pub sides-skip : (side next : ℕ) → NextSide (s .mask) side next → iterate (transitionSide s) side m ≡ iterate (transitionSide s) next m
-    sides-skip side next step =
-        let e : next ≡ side + (next - side) = omega (arith, step .from-le) in
-        rw e (sym (skip side (next - side) (λ i a b. step .none-between i a (omega (arith, step .from-le)))))
+  pub sides-skip : (m : Mesh) (side next : ℕ) → NextSide (s .mask) side next → iterate (transitionSide s) side m ≡ iterate (transitionSide s) next m
+  sides-skip m side next step =
+      steps-skip (transitionSide s) m side next (step .from-le) (λ i a b. side-unnamed i (step .none-between i a b))
 
   pub transition-skip : (side next : ℕ) → NextSide (s .mask) side next → transitionTo s side 0 0 ≡ transitionTo s next 0 0
   unfolding transitionTo
   transition-skip = sides-skip (regularMesh s)
+
+  pub regular-next : (n x y bits : ℕ) → ((z : ℕ) → z < n → bits / 2 ^ z % 2 ≡ 0 → uncut (regularCase s x y z) 255 ≡ true)
+      → (from next : ℕ) → NextSet bits n from next → regularTo s x y from ≡ regularTo s x y next
+  unfolding regularTo
+  regular-next n x y bits clear from next step = cells-skip n x y bits clear from next step _
+
+  pub transition-next : (n side u bits : ℕ) → ((v : ℕ) → v < n → bits / 2 ^ (2 * v) % 2 ≡ 0 → uncut (transitionCase s side u v) 511 ≡ true)
+      → (from bit : ℕ) → NextSet bits (2 * n) (2 * from) bit → transitionTo s side u from ≡ transitionTo s side u (bit / 2)
+  unfolding transitionTo
+  transition-next n side u bits clear from bit step = row-skip n side u bits clear from bit step _
 
   upto-row : (side u : ℕ) (m : Mesh) → Upto m (transitionRow s side u m)
   unfolding transitionRow

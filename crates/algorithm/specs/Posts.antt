@@ -1,6 +1,7 @@
 -- What extraction's functions ask for and what they leave, by name. One set of names serves both kinds of cell.
 use Prim.Native.Nat.{ℕ, _+_, _*_, _≤_}
 use mathlib.Core.Path.{_≡_}
+use mathlib.Core.Bool.{true}
 use mathlib.Core.List.{List}
 use lib.Ieee.{Float}
 use lib.ListN.{length, take}
@@ -9,10 +10,12 @@ use Rattle.model.specs.declared.Verdict.{Verdict}
 use Rattle.model.specs.declared.Extraction.{Extraction}
 use Rattle.model.specs.Steps.{each}
 use Rattle.model.specs.Refusals.{orElse}
+use Rattle.model.specs.Sides.{named}
 use Rattle.model.specs.Points.{Star, subdivisions}
 use Rattle.model.specs.Mesh.{Mesh, storeLength, meshOf}
 use Rattle.model.specs.Judging.{judgeFaces, judgeStore, judgeRoom}
 use Rattle.model.specs.Extraction.{vertexFloats, triangleIndices, judgeStar, Outcome, outcome}
+use Rattle.cases.specs.Columns.{Columns, FineColumns}
 use Rattle.cells.specs.Posts.{Room}
 
 -- 1 to 9, in that order
@@ -27,6 +30,21 @@ counted s store vertices triangles =
 
 abbrev pub plus : Counts → Counts → Counts
 plus a b = record { vertices = a .vertices + b .vertices; triangles = a .triangles + b .triangles }
+
+-- the columns of inside bits of some block; of one whose mask names a side; of one with this mask
+pub record SomeColumns (n : ℕ) (columns : List ℕ) : Type 0 where
+  pub of : Star
+  pub columns-are : Columns n of columns
+
+pub record SomeSide (n side : ℕ) (columns : List ℕ) : Type 0 where
+  pub of : Star
+  pub columns-are : FineColumns n of columns
+  pub is-named : named (of .mask) side ≡ true
+
+pub record SomeFineColumns (n mask : ℕ) (columns : List ℕ) : Type 0 where
+  pub of : Star
+  pub columns-are : FineColumns n of columns
+  pub mask-is : of .mask ≡ mask
 
 -- what a step of at most so many cells adds, whatever was there before it
 pub record Grows (step : Mesh → Mesh) (cells : ℕ) (counts : Counts) : Type 0 where

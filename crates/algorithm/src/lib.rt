@@ -1,5 +1,5 @@
-// Extraction: the mesh of a block and its finer neighbours. The block is judged, its mesh is counted, and then it is written into the
-// lent buffers, cell by cell.
+// Extraction: the mesh of a block and its finer neighbours. The block is judged, which points are inside is kept as columns of bits, the
+// mesh is counted, and then it is written into the lent buffers, cell by cell.
 ghost use mathlib.Core.Path.{_≡_};
 ghost use Prim.Native.Nat.{_≤_};
 ghost use lib.ListN.{length};
@@ -7,6 +7,7 @@ ghost use Rattle.model.specs.Points.{star};
 ghost use Rattle.model.specs.Mesh.{storeLength};
 ghost use Rattle.model.specs.Extraction.{extract};
 ghost use Rattle.grid.specs.Shape.{Shaped};
+ghost use Rattle.cases.specs.Columns.{Columns, FineColumns};
 ghost use Rattle.cells.specs.Rows.{RegularTables, TransitionTables};
 ghost use Rattle.algorithm.specs.Posts.{judged, counted, Leaves};
 
@@ -70,31 +71,33 @@ fn extract_mesh(
     regular_classes: &[u8; 256],
     regular_cells: &[u8; 256],
     regular_codes: &[u16; 3072],
+    columns: &[u64; 289],
     transition_classes: &[u8; 512],
     transition_cells: &[u8; 2072],
     transition_codes: &[u16; 6144],
+    fine_columns: &[u64; 198],
     store: &mut [u32],
     vertices: &mut [f32],
     triangles: &mut [u32],
 ) -> Extraction
     requires { ⌜ RegularTables (now «regular_classes») (now «regular_cells») (now «regular_codes») ⌝ }
     requires { ⌜ TransitionTables (now «transition_classes») (now «transition_cells») (now «transition_codes») ⌝ }
+    requires { ⌜ Columns (block .subdivisions) (star block mask threshold (now centre) (now neighbours)) (now columns) × FineColumns (block .subdivisions) (star block mask threshold (now centre) (now neighbours)) (now «fine_columns») ⌝ }
     requires { ⌜ Shaped (star block mask threshold (now centre) (now neighbours)) ⌝ }
     requires { ⌜ storeLength (block .subdivisions) ≤ length (now store) ⌝ }
     ensures { λ r. ⌜ Leaves (counted (star block mask threshold (now (centre .entry)) (now (neighbours .entry))) (now (store .entry)) (now (vertices .entry)) (now (triangles .entry))) r (now (store .exit)) (now (vertices .exit)) (now (triangles .exit)) ⌝ }
 {
     let counts = count_mesh(
-        block,
+        block.subdivisions,
         mask,
-        threshold,
-        centre,
-        neighbours,
         regular_classes,
         regular_cells,
         regular_codes,
+        columns,
         transition_classes,
         transition_cells,
         transition_codes,
+        fine_columns,
     );
     let room = judge_room(counts, vertices.len(), triangles.len());
     if let Verdict::Refused(no_room) = room {
@@ -112,9 +115,11 @@ fn extract_mesh(
         regular_classes,
         regular_cells,
         regular_codes,
+        columns,
         transition_classes,
         transition_cells,
         transition_codes,
+        fine_columns,
         &mut store[..places],
         &mut vertices[..floats],
         &mut triangles[..indices],
@@ -147,6 +152,10 @@ pub fn extract(
     let transition_classes = transition_cell_class();
     let transition_cells = transition_cell_data();
     let transition_codes = transition_vertex_data();
+    let mut columns = [0u64; 289];
+    cases::regular::regular_columns(block, threshold, centre, &mut columns);
+    let mut fine_columns = [0u64; 198];
+    cases::transition::fine_columns(block, mask, threshold, neighbours, &mut fine_columns);
     extract_mesh(
         block,
         mask,
@@ -156,9 +165,11 @@ pub fn extract(
         &regular_classes,
         &regular_cells,
         &regular_codes,
+        &columns,
         &transition_classes,
         &transition_cells,
         &transition_codes,
+        &fine_columns,
         store,
         vertices,
         triangles,

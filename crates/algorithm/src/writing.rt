@@ -1,5 +1,5 @@
 // The writing pass: the mesh into the lent buffers, cell by cell in document 01's order. One loop to a function: z, y, x for the
-// regular cells and v, u, side for the transition cells.
+// regular cells and v, u, side for the transition cells. Cells that are not cut are stepped over.
 ghost use mathlib.Core.Path.{_≡_};
 ghost use mathlib.Core.Bool.{true};
 ghost use Prim.Native.Nat.{_+_, _<_};
@@ -8,11 +8,15 @@ ghost use Rattle.model.specs.Sides.{named};
 ghost use Rattle.model.specs.Points.{star};
 ghost use Rattle.model.specs.Mesh.{storeLength, regularMesh, meshOf};
 ghost use Rattle.grid.specs.Shape.{Shaped};
+ghost use Rattle.cases.specs.Columns.{Columns, FineColumns};
 ghost use Rattle.cells.specs.Rows.{RegularTables, TransitionTables};
 ghost use Rattle.algorithm.specs.Walk.{regularTo, transitionTo};
 ghost use Rattle.algorithm.specs.Posts.{Fits, Holds, Exact, Written};
 use crate::NONE;
 use crate::SIDES;
+use cases::bits::next_set;
+use cases::regular::cut_cells;
+use cases::transition::cut_row;
 use cells::regular_cells::write_regular_cell;
 use cells::transition_cells::write_transition_cell;
 use grid::transition_sides::next_side;
@@ -28,6 +32,7 @@ fn write_column(
     classes: &[u8; 256],
     cells: &[u8; 256],
     codes: &[u16; 3072],
+    columns: &[u64; 289],
     x: usize,
     y: usize,
     mut counts: Counts,
@@ -36,6 +41,7 @@ fn write_column(
     triangles: &mut [u32],
 ) -> Counts
     requires { ⌜ RegularTables (now classes) (now cells) (now codes) ⌝ }
+    requires { ⌜ Columns (block .subdivisions) (star block mask threshold (now centre) (now neighbours)) (now columns) ⌝ }
     requires { ⌜ Shaped (star block mask threshold (now centre) (now neighbours)) ⌝ }
     requires { ⌜ (x < block .subdivisions) × (y < block .subdivisions) ⌝ }
     requires { ⌜ Fits (star block mask threshold (now centre) (now neighbours)) (now vertices) (now triangles) (now store) ⌝ }
@@ -43,7 +49,8 @@ fn write_column(
     ensures { λ r. ⌜ Holds (regularTo (star block mask threshold (now (centre .entry)) (now (neighbours .entry))) x (y + 1) 0) r (now (vertices .exit)) (now (triangles .exit)) (now (store .exit)) ⌝ }
 {
     let n = block.subdivisions;
-    let mut z = 0;
+    let cut = cut_cells(n, columns, x, y);
+    let mut z = next_set(cut, n, 0);
     while z < n {
         counts = write_regular_cell(
             block,
@@ -54,6 +61,7 @@ fn write_column(
             classes,
             cells,
             codes,
+            columns,
             x,
             y,
             z,
@@ -62,7 +70,7 @@ fn write_column(
             vertices,
             triangles,
         );
-        z += 1;
+        z = next_set(cut, n, z + 1);
     }
     counts
 }
@@ -76,6 +84,7 @@ fn write_layer(
     classes: &[u8; 256],
     cells: &[u8; 256],
     codes: &[u16; 3072],
+    columns: &[u64; 289],
     x: usize,
     mut counts: Counts,
     store: &mut [u32],
@@ -83,6 +92,7 @@ fn write_layer(
     triangles: &mut [u32],
 ) -> Counts
     requires { ⌜ RegularTables (now classes) (now cells) (now codes) ⌝ }
+    requires { ⌜ Columns (block .subdivisions) (star block mask threshold (now centre) (now neighbours)) (now columns) ⌝ }
     requires { ⌜ Shaped (star block mask threshold (now centre) (now neighbours)) ⌝ }
     requires { ⌜ x < block .subdivisions ⌝ }
     requires { ⌜ Fits (star block mask threshold (now centre) (now neighbours)) (now vertices) (now triangles) (now store) ⌝ }
@@ -101,6 +111,7 @@ fn write_layer(
             classes,
             cells,
             codes,
+            columns,
             x,
             y,
             counts,
@@ -122,11 +133,13 @@ fn write_regular_cells(
     classes: &[u8; 256],
     cells: &[u8; 256],
     codes: &[u16; 3072],
+    columns: &[u64; 289],
     store: &mut [u32],
     vertices: &mut [f32],
     triangles: &mut [u32],
 ) -> Counts
     requires { ⌜ RegularTables (now classes) (now cells) (now codes) ⌝ }
+    requires { ⌜ Columns (block .subdivisions) (star block mask threshold (now centre) (now neighbours)) (now columns) ⌝ }
     requires { ⌜ Shaped (star block mask threshold (now centre) (now neighbours)) ⌝ }
     requires { ⌜ Fits (star block mask threshold (now centre) (now neighbours)) (now vertices) (now triangles) (now store) ⌝ }
     requires { ⌜ now store ≡ replicate (storeLength (block .subdivisions)) 0 ⌝ }
@@ -145,6 +158,7 @@ fn write_regular_cells(
             classes,
             cells,
             codes,
+            columns,
             x,
             counts,
             store,
@@ -165,6 +179,7 @@ fn write_row(
     classes: &[u8; 512],
     cells: &[u8; 2072],
     codes: &[u16; 6144],
+    columns: &[u64; 198],
     side: usize,
     u: usize,
     mut counts: Counts,
@@ -173,6 +188,7 @@ fn write_row(
     triangles: &mut [u32],
 ) -> Counts
     requires { ⌜ TransitionTables (now classes) (now cells) (now codes) ⌝ }
+    requires { ⌜ FineColumns (block .subdivisions) (star block mask threshold (now centre) (now neighbours)) (now columns) ⌝ }
     requires { ⌜ Shaped (star block mask threshold (now centre) (now neighbours)) ⌝ }
     requires { ⌜ (side < 6) × ((named mask side ≡ true) × (u < block .subdivisions)) ⌝ }
     requires { ⌜ Fits (star block mask threshold (now centre) (now neighbours)) (now vertices) (now triangles) (now store) ⌝ }
@@ -180,7 +196,8 @@ fn write_row(
     ensures { λ r. ⌜ Holds (transitionTo (star block mask threshold (now (centre .entry)) (now (neighbours .entry))) side (u + 1) 0) r (now (vertices .exit)) (now (triangles .exit)) (now (store .exit)) ⌝ }
 {
     let n = block.subdivisions;
-    let mut v = 0;
+    let cut = cut_row(n, columns, side, u);
+    let mut v = next_set(cut, 2 * n, 0) / 2;
     while v < n {
         counts = write_transition_cell(
             block,
@@ -191,6 +208,7 @@ fn write_row(
             classes,
             cells,
             codes,
+            columns,
             side,
             u,
             v,
@@ -199,7 +217,7 @@ fn write_row(
             vertices,
             triangles,
         );
-        v += 1;
+        v = next_set(cut, 2 * n, 2 * (v + 1)) / 2;
     }
     counts
 }
@@ -213,6 +231,7 @@ fn write_side(
     classes: &[u8; 512],
     cells: &[u8; 2072],
     codes: &[u16; 6144],
+    columns: &[u64; 198],
     side: usize,
     mut counts: Counts,
     store: &mut [u32],
@@ -220,6 +239,7 @@ fn write_side(
     triangles: &mut [u32],
 ) -> Counts
     requires { ⌜ TransitionTables (now classes) (now cells) (now codes) ⌝ }
+    requires { ⌜ FineColumns (block .subdivisions) (star block mask threshold (now centre) (now neighbours)) (now columns) ⌝ }
     requires { ⌜ Shaped (star block mask threshold (now centre) (now neighbours)) ⌝ }
     requires { ⌜ (side < 6) × (named mask side ≡ true) ⌝ }
     requires { ⌜ Fits (star block mask threshold (now centre) (now neighbours)) (now vertices) (now triangles) (now store) ⌝ }
@@ -238,6 +258,7 @@ fn write_side(
             classes,
             cells,
             codes,
+            columns,
             side,
             u,
             counts,
@@ -259,12 +280,14 @@ fn write_transition_cells(
     classes: &[u8; 512],
     cells: &[u8; 2072],
     codes: &[u16; 6144],
+    columns: &[u64; 198],
     mut counts: Counts,
     store: &mut [u32],
     vertices: &mut [f32],
     triangles: &mut [u32],
 ) -> Counts
     requires { ⌜ TransitionTables (now classes) (now cells) (now codes) ⌝ }
+    requires { ⌜ FineColumns (block .subdivisions) (star block mask threshold (now centre) (now neighbours)) (now columns) ⌝ }
     requires { ⌜ Shaped (star block mask threshold (now centre) (now neighbours)) ⌝ }
     requires { ⌜ Fits (star block mask threshold (now centre) (now neighbours)) (now vertices) (now triangles) (now store) ⌝ }
     requires { ⌜ Holds (regularMesh (star block mask threshold (now centre) (now neighbours))) counts (now vertices) (now triangles) (now store) ⌝ }
@@ -281,6 +304,7 @@ fn write_transition_cells(
             classes,
             cells,
             codes,
+            columns,
             side,
             counts,
             store,
@@ -313,15 +337,18 @@ pub fn write_mesh(
     regular_classes: &[u8; 256],
     regular_cells: &[u8; 256],
     regular_codes: &[u16; 3072],
+    columns: &[u64; 289],
     transition_classes: &[u8; 512],
     transition_cells: &[u8; 2072],
     transition_codes: &[u16; 6144],
+    fine_columns: &[u64; 198],
     store: &mut [u32],
     vertices: &mut [f32],
     triangles: &mut [u32],
 )
     requires { ⌜ RegularTables (now «regular_classes») (now «regular_cells») (now «regular_codes») ⌝ }
     requires { ⌜ TransitionTables (now «transition_classes») (now «transition_cells») (now «transition_codes») ⌝ }
+    requires { ⌜ Columns (block .subdivisions) (star block mask threshold (now centre) (now neighbours)) (now columns) × FineColumns (block .subdivisions) (star block mask threshold (now centre) (now neighbours)) (now «fine_columns») ⌝ }
     requires { ⌜ Shaped (star block mask threshold (now centre) (now neighbours)) ⌝ }
     requires { ⌜ Exact (star block mask threshold (now centre) (now neighbours)) (now vertices) (now triangles) (now store) ⌝ }
     ensures { λ _. ⌜ Written (meshOf (star block mask threshold (now (centre .entry)) (now (neighbours .entry)))) (now (vertices .exit)) (now (triangles .exit)) (now (store .exit)) ⌝ }
@@ -336,6 +363,7 @@ pub fn write_mesh(
         regular_classes,
         regular_cells,
         regular_codes,
+        columns,
         store,
         vertices,
         triangles,
@@ -349,6 +377,7 @@ pub fn write_mesh(
         transition_classes,
         transition_cells,
         transition_codes,
+        fine_columns,
         counts,
         store,
         vertices,

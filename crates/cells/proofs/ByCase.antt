@@ -1,16 +1,11 @@
--- A cell by its case: the rows of the tables describe it, they can be followed, and a cell that is all inside or all outside has
--- nothing.
+-- A cell by its case: the rows of the tables describe it, and they can be followed.
 use Prim.Native.Nat.{ℕ, _+_, _*_, _≤_, _<_}
-use mathlib.Core.Path.{_≡_, refl, sym, _∙_}
-use mathlib.Core.Bool.{Bool, true, false, _||_}
+use mathlib.Core.Path.{_≡_}
+use mathlib.Core.Bool.{Bool, false}
 use mathlib.Core.List.{List}
 use native.Mathlib.Omega.{arith}
-use borrow.Author.Tests.{eqb-true}
-use lib.Dec.{eqb}
 use lib.Ieee.{Float}
 use lib.ListN.{length, getD}
-use Rattle.tables.specs.RegularRows as regular
-use Rattle.tables.specs.TransitionRows as transition
 use Rattle.tables.specs.Arrays.{regular-codes-long, regular-cell-long, transition-codes-long, transition-cell-long}
 use Rattle.tables.specs.Cases.{verticesOf, trianglesOf, cornerOf}
 use Rattle.tables.specs.Cases.{regularClass, regularCodes, regularCode, regularVertices, regularTriangles, regularCorner}
@@ -25,7 +20,7 @@ use Rattle.model.specs.Points.{Star, regularCase, transitionCase}
 use Rattle.model.specs.Mesh.{Cell, fillTo, regularCell, transitionCell}
 use Rattle.cells.specs.declared.CellIndex.{CellIndex}
 use Rattle.cells.specs.declared.CellIndex.the-variants.{Regular, Transition}
-use Rattle.cells.specs.Posts.{Room, CellPut, Adds, Nothing}
+use Rattle.cells.specs.Posts.{Room, CellPut, Adds}
 use Rattle.cells.specs.Rows.{Followed}
 use Rattle.cells.specs.Kinds.{Usable, cellOf, Coded}
 
@@ -65,17 +60,6 @@ coded : (at : CellIndex) (codes : List ℕ) (count : ℕ) → length codes ≡ 1
     → ((i : ℕ) → i < count → Usable at (getD codes i 0)) → Coded at codes count
 coded at codes count long few usable = record { there = omega arith; usable = usable }
 
--- what holds of the case with no point inside and of that with all of them
-uncut-either : (P : ℕ → Type 0) (case all : ℕ) (uncut : Bool) → P 0 → P all → uncut ≡ (eqb case 0 || eqb case all) → uncut ≡ true → P case
-uncut-either P case all uncut none every e t = go (eqb case 0) (eqb case all) refl refl (sym e ∙ t)
-  where
-    go : (x y : Bool) → eqb case 0 ≡ x → eqb case all ≡ y → x || y ≡ true → P case
-    go true y is-none is-all h = rw (eqb-true case 0 is-none) none
-    go false true is-none is-all h = rw (eqb-true case all is-all) every
-    go false false is-none is-all h =
-        let z : _≡_ {A = ℕ} 0 1 = cc in
-        absurd (omega arith)
-
 -- ---- regular cells
 
 module _ (case : ℕ) (small : case < 256) (codes row : List ℕ) (codes-are : codes ≡ regularCodes case) (row-is : row ≡ regularRow case) where
@@ -100,24 +84,6 @@ module _ (case : ℕ) (small : case < 256) (codes row : List ℕ) (codes-are : c
   pub regular-is : (s : Star) (x y z : ℕ) → case ≡ regularCase s x y z → cellOf s (Regular (xyz x y z)) codes row false ≡ regularCell s x y z
   unfolding regularCell regularCode regularVertices regularTriangles regularCorner
   regular-is s x y z e = rw (codes-are, row-is, e)
-
-abbrev RegularNothing : ℕ → Type 0
-RegularNothing case = (regularVertices case ≡ 0) × (regularTriangles case ≡ 0)
-
-regular-outside : RegularNothing 0
-unfolding regular.classes regular.cellRows regularClass regularRow regularVertices regularTriangles
-regular-outside = (refl, refl)
-
-regular-inside : RegularNothing 255
-unfolding regular.classes regular.cellRows regularClass regularRow regularVertices regularTriangles
-regular-inside = (refl, refl)
-
-pub regular-nothing : (s : Star) (x y z case : ℕ) (uncut : Bool) → case ≡ regularCase s x y z
-    → uncut ≡ (eqb case 0 || eqb case 255) → uncut ≡ true → Nothing (regularCell s x y z)
-unfolding regularCell
-regular-nothing s x y z case uncut e u t =
-    let none = uncut-either RegularNothing case 255 uncut regular-outside regular-inside u t in
-    rw (← e) (record { no-vertices = none .0; no-triangles = none .1 })
 
 -- ---- transition cells
 
@@ -145,21 +111,3 @@ module _ (case : ℕ) (small : case < 512) (codes row : List ℕ) (codes-are : c
       → cellOf s (Transition (record { side = side; u = u; v = v })) codes row turned ≡ transitionCell s side u v
   unfolding transitionCell transitionCode transitionVertices transitionTriangles transitionCorner
   transition-is s side u v turned e t = rw (codes-are, row-is, t, e)
-
-abbrev TransitionNothing : ℕ → Type 0
-TransitionNothing case = (transitionVertices case ≡ 0) × (transitionTriangles case ≡ 0)
-
-transition-outside : TransitionNothing 0
-unfolding transition.classes transition.cellRows transitionClass transitionRow transitionVertices transitionTriangles
-transition-outside = (refl, refl)
-
-transition-inside : TransitionNothing 511
-unfolding transition.classes transition.cellRows transitionClass transitionRow transitionVertices transitionTriangles
-transition-inside = (refl, refl)
-
-pub transition-nothing : (s : Star) (side u v case : ℕ) (uncut : Bool) → case ≡ transitionCase s side u v
-    → uncut ≡ (eqb case 0 || eqb case 511) → uncut ≡ true → Nothing (transitionCell s side u v)
-unfolding transitionCell
-transition-nothing s side u v case uncut e c t =
-    let none = uncut-either TransitionNothing case 511 uncut transition-outside transition-inside c t in
-    rw (← e) (record { no-vertices = none .0; no-triangles = none .1 })

@@ -2,5 +2,4 @@ mod Windings
 mod Staying
 mod Turns
 mod Making
-mod Bits
 mod ByCase

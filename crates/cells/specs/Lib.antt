@@ -5,3 +5,4 @@ pub mod Posts
 pub mod Rows
 pub mod Kinds
 pub mod Fills
+pub mod Uncut

@@ -1,20 +1,18 @@
 // Regular cells, written or counted. A cell wholly inside or outside leaves early.
 ghost use mathlib.Core.Path.{_≡_};
-ghost use mathlib.Core.List.{List};
-ghost use Prim.Native.Nat.{ℕ, _+_, _≤_, _<_};
-ghost use lib.Ieee.{Float};
+ghost use Prim.Native.Nat.{_+_, _≤_, _<_};
 ghost use lib.ListN.{length};
-ghost use Rattle.model.specs.Samples.{sampleLength};
-ghost use Rattle.model.specs.Points.{star};
+ghost use Rattle.model.specs.Points.{Star, star};
 ghost use Rattle.model.specs.Mesh.{storeLength, fillTo, regularCell};
 ghost use Rattle.grid.specs.Shape.{Shaped};
+ghost use Rattle.cases.specs.Columns.{Columns};
 ghost use Rattle.cells.specs.Posts.{Room, CellPut, Adds};
 ghost use Rattle.cells.specs.Rows.{RegularTables};
 use crate::CellIndex;
-use crate::cases::is_uncut;
-use crate::cases::regular_case;
 use crate::whole_cells::count_cell;
 use crate::whole_cells::write_cell;
+use cases::bits::is_uncut;
+use cases::regular::regular_case;
 use model::Block;
 use model::Counts;
 use model::Xyz;
@@ -30,6 +28,7 @@ pub fn write_regular_cell(
     classes: &[u8; 256],
     cells: &[u8; 256],
     codes: &[u16; 3072],
+    columns: &[u64; 289],
     x: usize,
     y: usize,
     z: usize,
@@ -39,6 +38,7 @@ pub fn write_regular_cell(
     triangles: &mut [u32],
 ) -> Counts
     requires { ⌜ RegularTables (now classes) (now cells) (now codes) ⌝ }
+    requires { ⌜ Columns (block .subdivisions) (star block mask threshold (now centre) (now neighbours)) (now columns) ⌝ }
     requires { ⌜ Shaped (star block mask threshold (now centre) (now neighbours)) ⌝ }
     requires { ⌜ (x < block .subdivisions) × ((y < block .subdivisions) × (z < block .subdivisions)) ⌝ }
     requires { ⌜ length (now store) ≡ storeLength (block .subdivisions) ⌝ }
@@ -46,7 +46,7 @@ pub fn write_regular_cell(
     requires { ⌜ Room 3 (counts .triangles + regularCell (star block mask threshold (now centre) (now neighbours)) x y z .triangles) (now triangles) ⌝ }
     ensures { λ r. ⌜ CellPut (regularCell (star block mask threshold (now (centre .entry)) (now (neighbours .entry))) x y z) (counts .vertices) (counts .triangles) (now (vertices .entry)) (now (triangles .entry)) (now (store .entry)) (r .vertices) (r .triangles) (now (vertices .exit)) (now (triangles .exit)) (now (store .exit)) ⌝ }
 {
-    let case = regular_case(block, threshold, centre, x, y, z);
+    let case = regular_case(block.subdivisions, columns, x, y, z);
     if is_uncut(case, 255) {
         return counts;
     }
@@ -68,22 +68,20 @@ pub fn write_regular_cell(
 }
 
 pub fn count_regular_cell(
-    block: Block,
-    threshold: f32,
-    centre: &[f32],
+    n: usize,
     classes: &[u8; 256],
     cells: &[u8; 256],
     codes: &[u16; 3072],
+    columns: &[u64; 289],
     x: usize,
     y: usize,
     z: usize,
 ) -> Counts
     requires { ⌜ RegularTables (now classes) (now cells) (now codes) ⌝ }
-    requires { ⌜ (block .subdivisions ≤ 16) × (length (now centre) ≡ sampleLength (block .subdivisions)) ⌝ }
-    requires { ⌜ (x < block .subdivisions) × ((y < block .subdivisions) × (z < block .subdivisions)) ⌝ }
-    ensures { λ r. ⌜ ((mask : ℕ) (ns : List Float) → Adds (regularCell (star block mask threshold (now (centre .entry)) ns) x y z) (r .vertices) (r .triangles)) ⌝ }
+    requires { ⌜ (n ≤ 16) × ((x < n) × ((y < n) × (z < n))) ⌝ }
+    ensures { λ r. ⌜ ((s : Star) → Columns n s (now (columns .entry)) → Adds (regularCell s x y z) (r .vertices) (r .triangles)) ⌝ }
 {
-    let case = regular_case(block, threshold, centre, x, y, z);
+    let case = regular_case(n, columns, x, y, z);
     if is_uncut(case, 255) {
         return Counts {
             vertices: 0,

@@ -1,21 +1,20 @@
 // Transition cells, written or counted. A cell whose fine points are all inside or all outside leaves early.
 ghost use mathlib.Core.Path.{_≡_};
 ghost use mathlib.Core.Bool.{true};
-ghost use mathlib.Core.List.{List};
 ghost use Prim.Native.Nat.{_+_, _≤_, _<_};
-ghost use lib.Ieee.{Float};
 ghost use lib.ListN.{length};
-ghost use Rattle.model.specs.Sides.{named, neighboursLength};
-ghost use Rattle.model.specs.Points.{star};
+ghost use Rattle.model.specs.Sides.{named};
+ghost use Rattle.model.specs.Points.{Star, star};
 ghost use Rattle.model.specs.Mesh.{storeLength, fillTo, transitionCell};
 ghost use Rattle.grid.specs.Shape.{Shaped};
+ghost use Rattle.cases.specs.Columns.{FineColumns};
 ghost use Rattle.cells.specs.Posts.{Room, CellPut, Adds};
 ghost use Rattle.cells.specs.Rows.{TransitionTables};
 use crate::CellIndex;
-use crate::cases::is_uncut;
-use crate::cases::transition_case;
 use crate::whole_cells::count_cell;
 use crate::whole_cells::write_cell;
+use cases::bits::is_uncut;
+use cases::transition::transition_case;
 use model::Block;
 use model::Counts;
 use model::FacePoint;
@@ -32,6 +31,7 @@ pub fn write_transition_cell(
     classes: &[u8; 512],
     cells: &[u8; 2072],
     codes: &[u16; 6144],
+    columns: &[u64; 198],
     side: usize,
     u: usize,
     v: usize,
@@ -41,6 +41,7 @@ pub fn write_transition_cell(
     triangles: &mut [u32],
 ) -> Counts
     requires { ⌜ TransitionTables (now classes) (now cells) (now codes) ⌝ }
+    requires { ⌜ FineColumns (block .subdivisions) (star block mask threshold (now centre) (now neighbours)) (now columns) ⌝ }
     requires { ⌜ Shaped (star block mask threshold (now centre) (now neighbours)) ⌝ }
     requires { ⌜ (side < 6) × ((named mask side ≡ true) × ((u < block .subdivisions) × (v < block .subdivisions))) ⌝ }
     requires { ⌜ length (now store) ≡ storeLength (block .subdivisions) ⌝ }
@@ -48,7 +49,7 @@ pub fn write_transition_cell(
     requires { ⌜ Room 3 (counts .triangles + transitionCell (star block mask threshold (now centre) (now neighbours)) side u v .triangles) (now triangles) ⌝ }
     ensures { λ r. ⌜ CellPut (transitionCell (star block mask threshold (now (centre .entry)) (now (neighbours .entry))) side u v) (counts .vertices) (counts .triangles) (now (vertices .entry)) (now (triangles .entry)) (now (store .entry)) (r .vertices) (r .triangles) (now (vertices .exit)) (now (triangles .exit)) (now (store .exit)) ⌝ }
 {
-    let case = transition_case(block, mask, threshold, neighbours, side, u, v);
+    let case = transition_case(block.subdivisions, columns, side, u, v);
     if is_uncut(case, 511) {
         return counts;
     }
@@ -70,23 +71,20 @@ pub fn write_transition_cell(
 }
 
 pub fn count_transition_cell(
-    block: Block,
-    mask: u8,
-    threshold: f32,
-    neighbours: &[f32],
+    n: usize,
     classes: &[u8; 512],
     cells: &[u8; 2072],
     codes: &[u16; 6144],
+    columns: &[u64; 198],
     side: usize,
     u: usize,
     v: usize,
 ) -> Counts
     requires { ⌜ TransitionTables (now classes) (now cells) (now codes) ⌝ }
-    requires { ⌜ (block .subdivisions ≤ 16) × ((mask ≤ 63) × (length (now neighbours) ≡ neighboursLength (block .subdivisions) mask)) ⌝ }
-    requires { ⌜ (side < 6) × ((named mask side ≡ true) × ((u < block .subdivisions) × (v < block .subdivisions))) ⌝ }
-    ensures { λ r. ⌜ ((centre : List Float) → Adds (transitionCell (star block mask threshold centre (now (neighbours .entry))) side u v) (r .vertices) (r .triangles)) ⌝ }
+    requires { ⌜ (n ≤ 16) × ((side < 6) × ((u < n) × (v < n))) ⌝ }
+    ensures { λ r. ⌜ ((s : Star) → FineColumns n s (now (columns .entry)) → named (s .mask) side ≡ true → Adds (transitionCell s side u v) (r .vertices) (r .triangles)) ⌝ }
 {
-    let case = transition_case(block, mask, threshold, neighbours, side, u, v);
+    let case = transition_case(n, columns, side, u, v);
     if is_uncut(case, 511) {
         return Counts {
             vertices: 0,

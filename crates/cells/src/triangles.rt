@@ -8,7 +8,6 @@ ghost use Rattle.cells.specs.Buffers.{layTriangles};
 ghost use Rattle.cells.specs.Posts.{Room};
 ghost use Rattle.cells.specs.Rows.{Followed, rowTriangle};
 use crate::buffers::put_triangle;
-use model::CellVertices;
 use model::Triangle;
 
 fn wide(byte: u8) -> usize
@@ -32,23 +31,23 @@ pub fn triangle_count(row: &[u8]) -> usize
 }
 
 // The index of the vertex that stands at corner j.
-fn corner_index(row: &[u8], cell: CellVertices, j: usize) -> u32
+fn corner_index(row: &[u8], index: &[u32; 12], j: usize) -> u32
     requires { ⌜ Followed (now row) ⌝ }
     requires { ⌜ j < 3 * trianglesOf (now row) ⌝ }
-    ensures { λ r. ⌜ r ≡ getD (cell .index) (cornerOf (now (row .entry)) j) 0 ⌝ }
+    ensures { λ r. ⌜ r ≡ getD (now (index .entry)) (cornerOf (now (row .entry)) j) 0 ⌝ }
 {
     let at = wide(row[j + 1]);
-    cell.index[at]
+    index[at]
 }
 
-fn triangle(row: &[u8], turned: bool, cell: CellVertices, t: usize) -> Triangle
+fn triangle(row: &[u8], turned: bool, index: &[u32; 12], t: usize) -> Triangle
     requires { ⌜ Followed (now row) ⌝ }
     requires { ⌜ t < trianglesOf (now row) ⌝ }
-    ensures { λ r. ⌜ r ≡ rowTriangle (now (row .entry)) turned (cell .index) t ⌝ }
+    ensures { λ r. ⌜ r ≡ rowTriangle (now (row .entry)) turned (now (index .entry)) t ⌝ }
 {
-    let a = corner_index(row, cell, 3 * t);
-    let b = corner_index(row, cell, 3 * t + 1);
-    let c = corner_index(row, cell, 3 * t + 2);
+    let a = corner_index(row, index, 3 * t);
+    let b = corner_index(row, index, 3 * t + 1);
+    let c = corner_index(row, index, 3 * t + 2);
     if turned {
         return Triangle { a: c, b: b, c: a };
     }
@@ -58,19 +57,19 @@ fn triangle(row: &[u8], turned: bool, cell: CellVertices, t: usize) -> Triangle
 pub fn put_triangles(
     row: &[u8],
     turned: bool,
-    cell: CellVertices,
+    index: &[u32; 12],
     triangles: &mut [u32],
     base: usize,
 ) -> usize
     requires { ⌜ Followed (now row) ⌝ }
     requires { ⌜ Room 3 (base + trianglesOf (now row)) (now triangles) ⌝ }
     ensures { λ r. ⌜ r ≡ base + trianglesOf (now (row .entry)) ⌝ }
-    ensures { λ _. ⌜ now (triangles .exit) ≡ layTriangles (now (triangles .entry)) base (listed (rowTriangle (now (row .entry)) turned (cell .index)) (trianglesOf (now (row .entry)))) ⌝ }
+    ensures { λ _. ⌜ now (triangles .exit) ≡ layTriangles (now (triangles .entry)) base (listed (rowTriangle (now (row .entry)) turned (now (index .entry))) (trianglesOf (now (row .entry)))) ⌝ }
 {
     let count = triangle_count(row);
     let mut t = 0;
     while t < count {
-        put_triangle(triangles, base + t, triangle(row, turned, cell, t));
+        put_triangle(triangles, base + t, triangle(row, turned, index, t));
         t += 1;
     }
     base + count

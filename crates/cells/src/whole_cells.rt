@@ -55,7 +55,7 @@ pub fn write_cell(
         base,
     );
     let cell = filled.cell;
-    let made = put_triangles(row, turned, cell, triangles, counts.triangles);
+    let made = put_triangles(row, turned, &cell.index, triangles, counts.triangles);
     Counts {
         vertices: filled.next,
         triangles: made,

@@ -48,13 +48,28 @@ transition-cell-data-requires c κs = search needs
 transition-vertex-data-requires : tie.Need-transition-vertex-data-requires
 transition-vertex-data-requires c κs = search needs
 
+regular-columns-requires : tie.Need-regular-columns-requires
+regular-columns-requires c κs =
+    let h = shaped _ _ (judged-passed (c .before .before .before .before .before .before .before)) in
+    (h .few, h .centre-is)
+
+fine-columns-requires : tie.Need-fine-columns-requires
+fine-columns-requires c κs =
+    let h = shaped _ _ (judged-passed (c .before .before .before .before .before .before .before .before .before)) in
+    (h .few, (h .sides, h .neighbours-are))
+
 extract-mesh-requires : tie.Need-extract-mesh-requires
 extract-mesh-requires c κs =
-    let e = judged-passed (c .before .before .before .before .before .before .before .before .before .before .before .before .before .before .before) in (
-      record { classes-are = c .before .before .before .before .before .before .before .before .before .before .before .before .before .before .regular-cell-class .ensures; cells-are = c .before .before .before .before .before .before .before .before .before .before .before .before .before .regular-cell-data .ensures; codes-are = c .before .before .before .before .before .before .before .before .before .before .before .before .regular-vertex-data .ensures },
+    let t = c .before .before .before .before .before .before .before .before .before .before .before .before .before .before .before in
+    let a = t .before .before .before .before .before .before .before .before .before .before .before .before .before .before .args in
+    let e = judged-passed (t .before .before .before .before .before .before) in (
+      record { classes-are = t .before .before .before .before .before .regular-cell-class .ensures; cells-are = t .before .before .before .before .regular-cell-data .ensures; codes-are = t .before .before .before .regular-vertex-data .ensures },
       (
-        record { classes-are = c .before .before .before .before .before .before .before .before .before .before .before .transition-cell-class .ensures; cells-are = c .before .before .before .before .before .before .before .before .before .before .transition-cell-data .ensures; codes-are = c .before .before .before .before .before .before .before .before .before .transition-vertex-data .ensures },
-        (shaped _ _ e, store-held _ _ e),
+        record { classes-are = t .before .before .transition-cell-class .ensures; cells-are = t .before .transition-cell-data .ensures; codes-are = t .transition-vertex-data .ensures },
+        (
+          (c .before .before .before .before .before .before .before .before .before .before .before .before .before .regular-columns .ensures (a .mask) (a .neighbours .now), c .before .before .before .before .before .before .before .before .before .before .before .fine-columns2 .ensures (a .centre .now)),
+          (shaped _ _ e, store-held _ _ e),
+        ),
       ),
     )
 
@@ -69,9 +84,9 @@ same-length-3 c = search needs
 
 returns-2 : tie.Need-returns-2
 returns-2 c =
-    let a = c .before .before .before .before .before .before .before .before .before .before .before .before .before .before .before .before .before .before .before .before .before .before .before .before .before .before .before .before .before .before .args in
+    let a = c .before .before .before .before .before .before .before .before .before .before .before .before .before .before .before .before .before .before .before .before .before .before .before .before .before .before .before .before .before .before .before .before .before .before .before .before .args in
     let s = star (a .block) (a .mask) (a .threshold) (a .centre .now) (a .neighbours .now) in
-    rw (passed s (a .store .now) (a .vertices .now) (a .triangles .now) (judged-passed (c .before .before .before .before .before .before .before .before .before .before .before .before .before .before .before .before .before .before .before .before .before .before))) (told (c .before .before .before .before .before .before .extract-mesh .ensures))
+    rw (passed s (a .store .now) (a .vertices .now) (a .triangles .now) (judged-passed (c .before .before .before .before .before .before .before .before .before .before .before .before .before .before .before .before .before .before .before .before .before .before .before .before .before .before .before .before))) (told (c .before .before .before .before .before .before .extract-mesh .ensures))
 
 pub extract-spec : {M : Type 1} → statement M
 extract-spec =
@@ -87,6 +102,8 @@ extract-spec =
     transition-cell-class-requires
     transition-cell-data-requires
     transition-vertex-data-requires
+    regular-columns-requires
+    fine-columns-requires
     extract-mesh-requires
     same-length
     same-length-2

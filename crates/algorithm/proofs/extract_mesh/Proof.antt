@@ -1,7 +1,7 @@
 -- The counts are the mesh's, so 10 is answered by them, and the parts that are lent are just as long as what is written. Assumes nothing.
 use borrow.Author.Needs.{needs}
 use native.Mathlib.Omega.{arith}
-use mathlib.Core.Path.{_≡_, sym}
+use mathlib.Core.Path.{_≡_, refl, sym}
 use Prim.Native.Nat.{_*_, _≤_}
 use lib.ListN.{length, take}
 use lib.Seq.{length-take-le}
@@ -15,7 +15,20 @@ use Rattle.algorithm.proofs.extract_mesh.Statement.{statement}
 use Rattle.algorithm.proofs.extract_mesh.Tie as tie
 
 count-mesh-requires : tie.Need-count-mesh-requires
-count-mesh-requires c κs = search needs
+count-mesh-requires c κs =
+    let b = c .before .before .before .before .before in
+    let a = b .args in
+    let s = star (a .block) (a .mask) (a .threshold) (a .centre .now) (a .neighbours .now) in
+    let p = b .pre .1 .1 in (
+      b .pre .0,
+      (
+        b .pre .1 .0,
+        (
+          (record { of = s; columns-are = p .0 .0 }, record { of = s; columns-are = p .0 .1; mask-is = refl }),
+          (p .1 .0 .few, p .1 .0 .sides),
+        ),
+      ),
+    )
 
 judge-room-requires : tie.Need-judge-room-requires
 judge-room-requires c κs = search needs
@@ -24,16 +37,18 @@ enum-known-room : tie.Need-enum-known-room
 enum-known-room c = search needs
 
 no-room-left : (c : tie.After-known-told) →
-    let a = c .before .before .before .before .before .before .before .before .before .before .args in
+    let b = c .before .before .before .before .before .before .before .before .before .before in
+    let a = b .args in
     let s = star (a .block) (a .mask) (a .threshold) (a .centre .now) (a .neighbours .now) in
     Leaves (counted s (a .store .now) (a .vertices .now) (a .triangles .now)) (Refused (c .before .room .given .0 .0))
     (a .store .now) (a .vertices .now) (a .triangles .now)
 no-room-left c =
-    let a = c .before .before .before .before .before .before .before .before .before .before .args in
+    let b = c .before .before .before .before .before .before .before .before .before .before in
+    let a = b .args in
     let k = c .before .before .before .before .count-mesh in
     let r = c .before .before .before .judge-room in
     let s = star (a .block) (a .mask) (a .threshold) (a .centre .now) (a .neighbours .now) in
-    no-room s (a .store .now) (a .vertices .now) (a .triangles .now) _ (k .result) (k .ensures) (r .result) (r .ensures) _ (cc)
+    no-room s (a .store .now) (a .vertices .now) (a .triangles .now) _ (k .result) (k .ensures s (b .pre .1 .1 .0 .0) (b .pre .1 .1 .0 .1) refl) (r .result) (r .ensures) _ (cc)
 
 returns : tie.Need-returns
 returns c = no-room-left c
@@ -45,27 +60,38 @@ store-length-requires : tie.Need-store-length-requires
 store-length-requires c κs = search needs
 
 mul-floats : tie.Need-mul-floats
-mul-floats c = search needs
+mul-floats c =
+    let b = c .before .before .before .before .before .before .before .before .before .before .before in
+    let a = b .args in
+    let s = star (a .block) (a .mask) (a .threshold) (a .centre .now) (a .neighbours .now) in
+    omega (arith, c .before .before .before .before .before .count-mesh .ensures s (b .pre .1 .1 .0 .0) (b .pre .1 .1 .0 .1) refl .few-vertices)
 
 mul-indices : tie.Need-mul-indices
-mul-indices c = search needs
+mul-indices c =
+    let b = c .before .before .before .before .before .before .before .before .before .before .before .before in
+    let a = b .args in
+    let s = star (a .block) (a .mask) (a .threshold) (a .centre .now) (a .neighbours .now) in
+    omega (arith, c .before .before .before .before .before .before .count-mesh .ensures s (b .pre .1 .1 .0 .0) (b .pre .1 .1 .0 .1) refl .few-triangles)
 
 passed : (c : tie.After-enum-told) → c .before .before .judge-room .result ≡ Passed
 passed c = cc
 
 room : (c : tie.After-enum-told) →
-    let a = c .before .before .before .before .before .before .before .before .before .args in
+    let b = c .before .before .before .before .before .before .before .before .before in
+    let a = b .args in
     let k = c .before .before .before .count-mesh .result in
     (6 * k .vertices ≤ length (a .vertices .now)) × (3 * k .triangles ≤ length (a .triangles .now))
 room c =
-    let a = c .before .before .before .before .before .before .before .before .before .args in
+    let b = c .before .before .before .before .before .before .before .before .before in
+    let a = b .args in
     let k = c .before .before .before .count-mesh in
     let r = c .before .before .judge-room in
     let s = star (a .block) (a .mask) (a .threshold) (a .centre .now) (a .neighbours .now) in
-    has-room s (a .store .now) (a .vertices .now) (a .triangles .now) _ (k .result) (k .ensures) (r .result) (r .ensures) (passed c)
+    has-room s (a .store .now) (a .vertices .now) (a .triangles .now) _ (k .result) (k .ensures s (b .pre .1 .1 .0 .0) (b .pre .1 .1 .0 .1) refl) (r .result) (r .ensures) (passed c)
 
 exact : (c : tie.After-store-length) →
-    let a = c .before .before .before .before .before .before .before .before .before .before .args in
+    let b = c .before .before .before .before .before .before .before .before .before .before in
+    let a = b .args in
     let k = c .before .before .before .before .count-mesh .result in
     let places = c .store-length .result in
     let s = star (a .block) (a .mask) (a .threshold) (a .centre .now) (a .neighbours .now) in
@@ -77,14 +103,14 @@ exact c =
     let r = c .before .before .before .judge-room in
     let places = c .store-length in
     let s = star (a .block) (a .mask) (a .threshold) (a .centre .now) (a .neighbours .now) in
-    parts s (a .store .now) (a .vertices .now) (a .triangles .now) _ (k .result) (k .ensures) (r .result) (r .ensures) (passed (c .before))
-    (places .result) (places .ensures) (omega arith) (b .pre .1 .1 .1)
+    parts s (a .store .now) (a .vertices .now) (a .triangles .now) _ (k .result) (k .ensures s (b .pre .1 .1 .0 .0) (b .pre .1 .1 .0 .1) refl) (r .result) (r .ensures) (passed (c .before))
+    (places .result) (places .ensures) (omega arith) (b .pre .1 .1 .1 .1)
 
 slice-relend-prefix-write-mesh : tie.Need-slice-relend-prefix-write-mesh
-slice-relend-prefix-write-mesh c = search needs
+slice-relend-prefix-write-mesh c = omega (arith, c .before .before .store-length .ensures, c .before .before .before .before .before .before .before .before .before .before .before .before .pre .1 .1 .1 .1)
 
 slice-aggregate-write-mesh : tie.Need-slice-aggregate-write-mesh
-slice-aggregate-write-mesh c = sym (length-take-le _ _ (omega arith))
+slice-aggregate-write-mesh c = sym (length-take-le _ _ (omega (arith, c .before .before .before .store-length .ensures, c .before .before .before .before .before .before .before .before .before .before .before .before .before .pre .1 .1 .1 .1)))
 
 slice-relend-prefix-write-mesh-2 : tie.Need-slice-relend-prefix-write-mesh-2
 slice-relend-prefix-write-mesh-2 c = room (c .before .before .before .before) .0
@@ -101,7 +127,7 @@ slice-aggregate-write-mesh-3 c = sym (length-take-le _ _ (room (c .before .befor
 write-mesh-requires : tie.Need-write-mesh-requires
 write-mesh-requires c κs =
     let b = c .before .before .before .before .before .before .before .before .before .before .before .before .before .before .before in
-    (b .pre .0, (b .pre .1 .0, (b .pre .1 .1 .0, exact (c .before .before .before .before .before))))
+    (b .pre .0, (b .pre .1 .0, (b .pre .1 .1 .0, (b .pre .1 .1 .1 .0, exact (c .before .before .before .before .before)))))
 
 same-length : tie.Need-same-length
 same-length c = search needs
@@ -114,16 +140,17 @@ same-length-3 c = search needs
 
 returns-2 : tie.Need-returns-2
 returns-2 c =
-    let a = c .before .before .before .before .before .before .before .before .before .before .before .before .before .before .before .before .before .before .before .before .before .before .args in
+    let b = c .before .before .before .before .before .before .before .before .before .before .before .before .before .before .before .before .before .before .before .before .before .before in
+    let a = b .args in
     let k = c .before .before .before .before .before .before .before .before .before .before .before .before .before .before .before .before .count-mesh in
     let r = c .before .before .before .before .before .before .before .before .before .before .before .before .before .before .before .judge-room in
     let places = c .before .before .before .before .before .before .before .before .before .before .before .before .store-length in
     let w = c .before .before .before .before .before .before .write-mesh in
     let s = star (a .block) (a .mask) (a .threshold) (a .centre .now) (a .neighbours .now) in
-    done s (a .store .now) (a .vertices .now) (a .triangles .now) _ (k .result) (k .ensures) (r .result) (r .ensures) (passed (c .before .before .before .before .before .before .before .before .before .before .before .before .before))
+    done s (a .store .now) (a .vertices .now) (a .triangles .now) _ (k .result) (k .ensures s (b .pre .1 .1 .0 .0) (b .pre .1 .1 .0 .1) refl) (r .result) (r .ensures) (passed (c .before .before .before .before .before .before .before .before .before .before .before .before .before))
     (places .result) (places .ensures) _ _ _
     (exact-still
-    (record { vertices-same = w .kept .1 .1 .1 .1 .1 .1 .1 .1 .1 .1 .1 .1 .0; triangles-same = w .kept .1 .1 .1 .1 .1 .1 .1 .1 .1 .1 .1 .1 .1 .0; store-same = w .kept .1 .1 .1 .1 .1 .1 .1 .1 .1 .1 .1 .0 })
+    (record { vertices-same = w .kept .1 .1 .1 .1 .1 .1 .1 .1 .1 .1 .1 .1 .1 .1 .0; triangles-same = w .kept .1 .1 .1 .1 .1 .1 .1 .1 .1 .1 .1 .1 .1 .1 .1 .0; store-same = w .kept .1 .1 .1 .1 .1 .1 .1 .1 .1 .1 .1 .1 .1 .0 })
     (exact (c .before .before .before .before .before .before .before .before .before .before .before .before)))
     (w .ensures)
 

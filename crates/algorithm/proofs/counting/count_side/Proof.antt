@@ -2,34 +2,39 @@
 use borrow.Author.Needs.{needs}
 use native.Mathlib.Omega.{arith}
 use Prim.Native.Nat.{_≤_, _*_, _-_}
-use mathlib.Core.List.{List, []}
-use lib.Ieee.{Float}
+use mathlib.Core.Path.{_≡_}
+use mathlib.Core.Bool.{true}
+use Rattle.model.specs.Sides.{named}
 use Rattle.model.specs.Steps.{iterate}
-use Rattle.model.specs.Points.{star}
+use Rattle.model.specs.Points.{Star}
 use Rattle.model.specs.Mesh.{transitionRow}
+use Rattle.cases.specs.Columns.{FineColumns}
 use Rattle.algorithm.specs.Posts.{Grows}
 use Rattle.algorithm.proofs.Growth.{grows-none, grows-more, grows-few, plus-fits, grows-side}
 use Rattle.algorithm.proofs.counting.count_side.Statement.{statement}
 use Rattle.algorithm.proofs.counting.count_side.Tie as tie
 
 abbrev Inv-loop : tie.InvT-loop
-Inv-loop block mask threshold neighbours classes cells codes side counts₀ n u₀ counts u =
-    (u ≤ n) × ((centre : List Float) → Grows (iterate (transitionRow (star block mask threshold centre neighbours) side) u) (16 * u) counts)
+Inv-loop n classes cells codes columns side counts₀ u₀ counts u =
+    (u ≤ n) × ((s : Star) → FineColumns n s columns → named (s .mask) side ≡ true → Grows (iterate (transitionRow s side) u) (16 * u) counts)
 
 abbrev μ-loop : tie.MeasureT-loop
-μ-loop block mask threshold neighbours classes cells codes side counts₀ n u₀ counts u = n - u
+μ-loop n classes cells codes columns side counts₀ u₀ counts u = n - u
 
 loop-holds : tie.Need-loop-holds Inv-loop μ-loop
-loop-holds c = (omega arith, λ centre. grows-none)
+loop-holds c = (omega arith, λ s h nm. grows-none)
 
 count-row-requires : tie.Need-count-row-requires Inv-loop μ-loop
 count-row-requires c κs =
-    let b = c .before .before .before in
+    let b = c .before .before in
     let p = b .pre .1 .1 in
-    (b .pre .0, (b .pre .1 .0, (p .0, (p .1, omega arith))))
+    (b .pre .0, (b .pre .1 .0, (p .0, (p .1, c .loop-test .taken))))
 
 plus-requires : tie.Need-plus-requires Inv-loop μ-loop
-plus-requires c κs = plus-fits (c .before .before .loop .inv .1 []) (c .count-row .ensures []) (omega arith)
+plus-requires c κs =
+    let some = c .before .before .before .pre .1 .0 in
+    plus-fits (c .before .before .loop .inv .1 (some .of) (some .columns-are) (some .is-named))
+    (c .count-row .ensures (some .of) (some .columns-are) (some .is-named)) (omega arith)
 
 add-u : tie.Need-add-u Inv-loop μ-loop
 add-u c = search needs
@@ -41,15 +46,16 @@ loop-again : tie.Need-loop-again Inv-loop μ-loop
 loop-again c =
     let l = c .before .before .before .loop in (
       omega arith,
-      λ centre. rw (c .plus .ensures) (grows-few _ (omega arith) (grows-more _ (l .u) _ _ _ _ (l .inv .1 centre) (c .before .count-row .ensures centre))),
+      λ s h nm. rw (c .plus .ensures) (grows-few _ (omega arith) (grows-more _ (l .u) _ _ _ _ (l .inv .1 s h nm) (c .before .count-row .ensures s h nm))),
     )
 
 returns : tie.Need-returns Inv-loop μ-loop
 returns c =
-    let b = c .before .before .before in
-    let a = b .args in
+    let a = c .before .before .args in
     let l = c .before .loop in
-    λ centre. grows-few 256 (omega arith) (grows-side (star (a .block) (a .mask) (a .threshold) centre (a .neighbours .now)) (a .side) (l .u) _ _ (b .pre .1 .1 .1) (omega arith) (l .inv .1 centre))
+    λ s h nm.
+    let e = h .subdivisions-are in
+    grows-few 256 (omega arith) (grows-side s (a .side) (l .u) _ _ nm (omega arith) (l .inv .1 s h nm))
 
 pub count-side-spec : {M : Type 1} → statement M
 count-side-spec =

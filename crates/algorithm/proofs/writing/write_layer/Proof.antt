@@ -12,30 +12,30 @@ use Rattle.algorithm.proofs.writing.write_layer.Statement.{statement}
 use Rattle.algorithm.proofs.writing.write_layer.Tie as tie
 
 abbrev Inv-loop : tie.InvT-loop
-Inv-loop block mask threshold centre neighbours classes cells codes x counts₀ store₀ vertices₀ triangles₀ n y₀ counts store vertices triangles y =
+Inv-loop block mask threshold centre neighbours classes cells codes columns x counts₀ store₀ vertices₀ triangles₀ n y₀ counts store vertices triangles y =
     (y ≤ n)
     × (SameLengths vertices₀ vertices triangles₀ triangles store₀ store
     × Holds (regularTo (star block mask threshold centre neighbours) x y 0) counts vertices triangles store)
 
 abbrev μ-loop : tie.MeasureT-loop
-μ-loop block mask threshold centre neighbours classes cells codes x counts₀ store₀ vertices₀ triangles₀ n y₀ counts store vertices triangles y = n - y
+μ-loop block mask threshold centre neighbours classes cells codes columns x counts₀ store₀ vertices₀ triangles₀ n y₀ counts store vertices triangles y = n - y
 
 below : (c : tie.In-loop Inv-loop μ-loop) → c .before .loop .y < c .before .before .before .before .before .before .before .args .block .subdivisions
-below c = omega (arith, c .loop-test .taken, c .before .before .before .before .before .before .before .pre .1 .0 .some)
+below c = omega (arith, c .loop-test .taken, c .before .before .before .before .before .before .before .pre .1 .1 .0 .some)
 
 loop-holds : tie.Need-loop-holds Inv-loop μ-loop
-loop-holds c = (omega arith, (record { vertices-same = refl; triangles-same = refl; store-same = refl }, c .before .before .before .before .before .pre .1 .1 .1 .1))
+loop-holds c = (omega arith, (record { vertices-same = refl; triangles-same = refl; store-same = refl }, c .before .before .before .before .before .pre .1 .1 .1 .1 .1))
 
 write-column-requires : tie.Need-write-column-requires Inv-loop μ-loop
 write-column-requires c κs =
     let b = c .before .before .before .before .before .before .before .before .before .before in
     let i = c .before .before .before in
-    let p = b .pre .1 .1 .0 in
+    let p = b .pre .1 .1 .1 .0 in
     let l = i .before .loop in
-    (b .pre .0, (b .pre .1 .0, ((p, below i), (fits-still (l .inv .1 .0) (b .pre .1 .1 .1 .0), l .inv .1 .1))))
+    (b .pre .0, (b .pre .1 .0, (b .pre .1 .1 .0, ((p, below i), (fits-still (l .inv .1 .0) (b .pre .1 .1 .1 .1 .0), l .inv .1 .1)))))
 
 add-y : tie.Need-add-y Inv-loop μ-loop
-add-y c = search needs
+add-y c = omega (arith, below (c .before .before .before .before .before .before .before .before .before .before), c .before .before .before .before .before .before .before .before .before .before .before .before .before .before .before .before .before .pre .1 .1 .0 .few)
 
 loop-less : tie.Need-loop-less Inv-loop μ-loop
 loop-less c = search needs
@@ -48,9 +48,9 @@ loop-again c =
       (
         same-then (i .before .loop .inv .1 .0)
             record {
-              vertices-same = w .kept .1 .1 .1 .1 .1 .1 .1 .1 .1 .1 .1 .1 .0;
-              triangles-same = w .kept .1 .1 .1 .1 .1 .1 .1 .1 .1 .1 .1 .1 .1 .0;
-              store-same = w .kept .1 .1 .1 .1 .1 .1 .1 .1 .1 .1 .1 .0;
+              vertices-same = w .kept .1 .1 .1 .1 .1 .1 .1 .1 .1 .1 .1 .1 .1 .0;
+              triangles-same = w .kept .1 .1 .1 .1 .1 .1 .1 .1 .1 .1 .1 .1 .1 .1 .0;
+              store-same = w .kept .1 .1 .1 .1 .1 .1 .1 .1 .1 .1 .1 .1 .0;
             },
         w .ensures,
       ),

@@ -14,13 +14,16 @@ write-regular-cells-requires : tie.Need-write-regular-cells-requires
 write-regular-cells-requires c κs =
     let b = c .before .before .before .before .before .before .before .before .before .before .before .before in
     let cleared = c .before .before .before .before .before .clear in
-    let exact = b .pre .1 .1 .1 in (
+    let exact = b .pre .1 .1 .1 .1 in (
       b .pre .0,
       (
-        b .pre .1 .1 .0,
+        b .pre .1 .1 .0 .0,
         (
-          fits-still (record { vertices-same = refl; triangles-same = refl; store-same = cleared .kept .0 }) (exact .fits),
-          cleared .ensures ∙ ap (λ (k : ℕ). replicate k 0) (exact .fits .store-fits),
+          b .pre .1 .1 .1 .0,
+          (
+            fits-still (record { vertices-same = refl; triangles-same = refl; store-same = cleared .kept .0 }) (exact .fits),
+            cleared .ensures ∙ ap (λ (k : ℕ). replicate k 0) (exact .fits .store-fits),
+          ),
         ),
       ),
     )
@@ -32,16 +35,19 @@ write-transition-cells-requires c κs =
     let regular = c .before .before .before .before .before .before .before .before .before .write-regular-cells in (
       b .pre .1 .0,
       (
-        b .pre .1 .1 .0,
+        b .pre .1 .1 .0 .1,
         (
-          fits-still
-              (record {
-                vertices-same = regular .kept .1 .1 .1 .1 .1 .1 .1 .1 .1 .0;
-                triangles-same = regular .kept .1 .1 .1 .1 .1 .1 .1 .1 .1 .1 .0;
-                store-same = regular .kept .1 .1 .1 .1 .1 .1 .1 .1 .0 ∙ cleared .kept .0;
-              })
-              (b .pre .1 .1 .1 .fits),
-          regular .ensures,
+          b .pre .1 .1 .1 .0,
+          (
+            fits-still
+                (record {
+                  vertices-same = regular .kept .1 .1 .1 .1 .1 .1 .1 .1 .1 .1 .0;
+                  triangles-same = regular .kept .1 .1 .1 .1 .1 .1 .1 .1 .1 .1 .1 .0;
+                  store-same = regular .kept .1 .1 .1 .1 .1 .1 .1 .1 .1 .0 ∙ cleared .kept .0;
+                })
+                (b .pre .1 .1 .1 .1 .fits),
+            regular .ensures,
+          ),
         ),
       ),
     )
@@ -64,11 +70,11 @@ returns c =
     holds-all _ _ _ _ _
     (exact-still
     (record {
-      vertices-same = transition .kept .1 .1 .1 .1 .1 .1 .1 .1 .1 .1 .0 ∙ regular .kept .1 .1 .1 .1 .1 .1 .1 .1 .1 .0;
-      triangles-same = transition .kept .1 .1 .1 .1 .1 .1 .1 .1 .1 .1 .1 .0 ∙ regular .kept .1 .1 .1 .1 .1 .1 .1 .1 .1 .1 .0;
-      store-same = transition .kept .1 .1 .1 .1 .1 .1 .1 .1 .1 .0 ∙ regular .kept .1 .1 .1 .1 .1 .1 .1 .1 .0 ∙ cleared .kept .0;
+      vertices-same = transition .kept .1 .1 .1 .1 .1 .1 .1 .1 .1 .1 .1 .0 ∙ regular .kept .1 .1 .1 .1 .1 .1 .1 .1 .1 .1 .0;
+      triangles-same = transition .kept .1 .1 .1 .1 .1 .1 .1 .1 .1 .1 .1 .1 .0 ∙ regular .kept .1 .1 .1 .1 .1 .1 .1 .1 .1 .1 .1 .0;
+      store-same = transition .kept .1 .1 .1 .1 .1 .1 .1 .1 .1 .1 .0 ∙ regular .kept .1 .1 .1 .1 .1 .1 .1 .1 .1 .0 ∙ cleared .kept .0;
     })
-    (b .pre .1 .1 .1))
+    (b .pre .1 .1 .1 .1))
     (transition .ensures)
 
 pub write-mesh-spec : {M : Type 1} → statement M

@@ -12,33 +12,33 @@ use Rattle.algorithm.proofs.writing.write_regular_cells.Statement.{stat
 use Rattle.algorithm.proofs.writing.write_regular_cells.Tie as tie
 
 abbrev Inv-loop : tie.InvT-loop
-Inv-loop block mask threshold centre neighbours classes cells codes store₀ vertices₀ triangles₀ n counts₀ x₀ store vertices triangles counts x =
+Inv-loop block mask threshold centre neighbours classes cells codes columns store₀ vertices₀ triangles₀ n counts₀ x₀ store vertices triangles counts x =
     (x ≤ n)
     × (SameLengths vertices₀ vertices triangles₀ triangles store₀ store
     × Holds (regularTo (star block mask threshold centre neighbours) x 0 0) counts vertices triangles store)
 
 abbrev μ-loop : tie.MeasureT-loop
-μ-loop block mask threshold centre neighbours classes cells codes store₀ vertices₀ triangles₀ n counts₀ x₀ store vertices triangles counts x = n - x
+μ-loop block mask threshold centre neighbours classes cells codes columns store₀ vertices₀ triangles₀ n counts₀ x₀ store vertices triangles counts x = n - x
 
 below : (c : tie.In-loop Inv-loop μ-loop) → c .before .loop .x < c .before .before .before .before .before .before .before .args .block .subdivisions
-below c = omega (arith, c .loop-test .taken, c .before .before .before .before .before .before .before .pre .1 .0 .some)
+below c = omega (arith, c .loop-test .taken, c .before .before .before .before .before .before .before .pre .1 .1 .0 .some)
 
 loop-holds : tie.Need-loop-holds Inv-loop μ-loop
 loop-holds c =
     let b = c .before .before .before .before .before in
     let a = b .args in
     let s = star (a .block) (a .mask) (a .threshold) (a .centre .now) (a .neighbours .now) in
-    (omega arith, (record { vertices-same = refl; triangles-same = refl; store-same = refl }, rw (regular-start s, b .pre .1 .1 .1) (holds-none (a .block .subdivisions) (a .vertices .now) (a .triangles .now))))
+    (omega arith, (record { vertices-same = refl; triangles-same = refl; store-same = refl }, rw (regular-start s, b .pre .1 .1 .1 .1) (holds-none (a .block .subdivisions) (a .vertices .now) (a .triangles .now))))
 
 write-layer-requires : tie.Need-write-layer-requires Inv-loop μ-loop
 write-layer-requires c κs =
     let b = c .before .before .before .before .before .before .before .before .before .before in
     let i = c .before .before .before in
     let l = i .before .loop in
-    (b .pre .0, (b .pre .1 .0, (below i, (fits-still (l .inv .1 .0) (b .pre .1 .1 .0), l .inv .1 .1))))
+    (b .pre .0, (b .pre .1 .0, (b .pre .1 .1 .0, (below i, (fits-still (l .inv .1 .0) (b .pre .1 .1 .1 .0), l .inv .1 .1)))))
 
 add-x : tie.Need-add-x Inv-loop μ-loop
-add-x c = search needs
+add-x c = omega (arith, below (c .before .before .before .before .before .before .before .before .before .before), c .before .before .before .before .before .before .before .before .before .before .before .before .before .before .before .before .before .pre .1 .1 .0 .few)
 
 loop-less : tie.Need-loop-less Inv-loop μ-loop
 loop-less c = search needs
@@ -51,9 +51,9 @@ loop-again c =
       (
         same-then (i .before .loop .inv .1 .0)
             record {
-              vertices-same = w .kept .1 .1 .1 .1 .1 .1 .1 .1 .1 .1 .1 .0;
-              triangles-same = w .kept .1 .1 .1 .1 .1 .1 .1 .1 .1 .1 .1 .1 .0;
-              store-same = w .kept .1 .1 .1 .1 .1 .1 .1 .1 .1 .1 .0;
+              vertices-same = w .kept .1 .1 .1 .1 .1 .1 .1 .1 .1 .1 .1 .1 .0;
+              triangles-same = w .kept .1 .1 .1 .1 .1 .1 .1 .1 .1 .1 .1 .1 .1 .0;
+              store-same = w .kept .1 .1 .1 .1 .1 .1 .1 .1 .1 .1 .1 .0;
             },
         w .ensures,
       ),

@@ -12,30 +12,30 @@ use Rattle.algorithm.proofs.writing.write_side.Statement.{statement}
 use Rattle.algorithm.proofs.writing.write_side.Tie as tie
 
 abbrev Inv-loop : tie.InvT-loop
-Inv-loop block mask threshold centre neighbours classes cells codes side counts₀ store₀ vertices₀ triangles₀ n u₀ counts store vertices triangles u =
+Inv-loop block mask threshold centre neighbours classes cells codes columns side counts₀ store₀ vertices₀ triangles₀ n u₀ counts store vertices triangles u =
     (u ≤ n)
     × (SameLengths vertices₀ vertices triangles₀ triangles store₀ store
     × Holds (transitionTo (star block mask threshold centre neighbours) side u 0) counts vertices triangles store)
 
 abbrev μ-loop : tie.MeasureT-loop
-μ-loop block mask threshold centre neighbours classes cells codes side counts₀ store₀ vertices₀ triangles₀ n u₀ counts store vertices triangles u = n - u
+μ-loop block mask threshold centre neighbours classes cells codes columns side counts₀ store₀ vertices₀ triangles₀ n u₀ counts store vertices triangles u = n - u
 
 below : (c : tie.In-loop Inv-loop μ-loop) → c .before .loop .u < c .before .before .before .before .before .before .before .args .block .subdivisions
-below c = omega (arith, c .loop-test .taken, c .before .before .before .before .before .before .before .pre .1 .0 .some)
+below c = omega (arith, c .loop-test .taken, c .before .before .before .before .before .before .before .pre .1 .1 .0 .some)
 
 loop-holds : tie.Need-loop-holds Inv-loop μ-loop
-loop-holds c = (omega arith, (record { vertices-same = refl; triangles-same = refl; store-same = refl }, c .before .before .before .before .before .pre .1 .1 .1 .1))
+loop-holds c = (omega arith, (record { vertices-same = refl; triangles-same = refl; store-same = refl }, c .before .before .before .before .before .pre .1 .1 .1 .1 .1))
 
 write-row-requires : tie.Need-write-row-requires Inv-loop μ-loop
 write-row-requires c κs =
     let b = c .before .before .before .before .before .before .before .before .before .before in
     let i = c .before .before .before in
-    let p = b .pre .1 .1 .0 in
+    let p = b .pre .1 .1 .1 .0 in
     let l = i .before .loop in
-    (b .pre .0, (b .pre .1 .0, ((p .0, (p .1, below i)), (fits-still (l .inv .1 .0) (b .pre .1 .1 .1 .0), l .inv .1 .1))))
+    (b .pre .0, (b .pre .1 .0, (b .pre .1 .1 .0, ((p .0, (p .1, below i)), (fits-still (l .inv .1 .0) (b .pre .1 .1 .1 .1 .0), l .inv .1 .1)))))
 
 add-u : tie.Need-add-u Inv-loop μ-loop
-add-u c = search needs
+add-u c = omega (arith, below (c .before .before .before .before .before .before .before .before .before .before), c .before .before .before .before .before .before .before .before .before .before .before .before .before .before .before .before .before .pre .1 .1 .0 .few)
 
 loop-less : tie.Need-loop-less Inv-loop μ-loop
 loop-less c = search needs
@@ -48,9 +48,9 @@ loop-again c =
       (
         same-then (i .before .loop .inv .1 .0)
             record {
-              vertices-same = w .kept .1 .1 .1 .1 .1 .1 .1 .1 .1 .1 .1 .1 .0;
-              triangles-same = w .kept .1 .1 .1 .1 .1 .1 .1 .1 .1 .1 .1 .1 .1 .0;
-              store-same = w .kept .1 .1 .1 .1 .1 .1 .1 .1 .1 .1 .1 .0;
+              vertices-same = w .kept .1 .1 .1 .1 .1 .1 .1 .1 .1 .1 .1 .1 .1 .0;
+              triangles-same = w .kept .1 .1 .1 .1 .1 .1 .1 .1 .1 .1 .1 .1 .1 .1 .0;
+              store-same = w .kept .1 .1 .1 .1 .1 .1 .1 .1 .1 .1 .1 .1 .0;
             },
         w .ensures,
       ),
@@ -71,7 +71,7 @@ returns c =
     let a = b .args in
     let l = c .before .loop in
     let s = star (a .block) (a .mask) (a .threshold) (a .centre .now) (a .neighbours .now) in
-    rw (← transition-side s (a .side) (l .u) (b .pre .1 .1 .0 .1) (omega arith)) (l .inv .1 .1)
+    rw (← transition-side s (a .side) (l .u) (b .pre .1 .1 .1 .0 .1) (omega arith)) (l .inv .1 .1)
 
 pub write-side-spec : {M : Type 1} → statement M
 write-side-spec =

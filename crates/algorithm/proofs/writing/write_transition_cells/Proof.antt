@@ -14,13 +14,13 @@ use Rattle.algorithm.proofs.writing.write_transition_cells.Statement.{s
 use Rattle.algorithm.proofs.writing.write_transition_cells.Tie as tie
 
 abbrev Inv-loop : tie.InvT-loop
-Inv-loop block mask threshold centre neighbours classes cells codes counts₀ store₀ vertices₀ triangles₀ side₀ counts store vertices triangles side =
+Inv-loop block mask threshold centre neighbours classes cells codes columns counts₀ store₀ vertices₀ triangles₀ side₀ counts store vertices triangles side =
     ((side ≤ 6) × (side < 6 → named mask side ≡ true))
     × (SameLengths vertices₀ vertices triangles₀ triangles store₀ store
     × Holds (transitionTo (star block mask threshold centre neighbours) side 0 0) counts vertices triangles store)
 
 abbrev μ-loop : tie.MeasureT-loop
-μ-loop block mask threshold centre neighbours classes cells codes counts₀ store₀ vertices₀ triangles₀ side₀ counts store vertices triangles side = 6 - side
+μ-loop block mask threshold centre neighbours classes cells codes columns counts₀ store₀ vertices₀ triangles₀ side₀ counts store vertices triangles side = 6 - side
 
 next-side-requires : tie.Need-next-side-requires Inv-loop μ-loop
 next-side-requires c κs = (search needs, omega arith)
@@ -31,7 +31,7 @@ loop-holds c =
     let a = b .args in
     let next = c .next-side in
     let s = star (a .block) (a .mask) (a .threshold) (a .centre .now) (a .neighbours .now) in
-    ((next .ensures .le-six, next .ensures .is-named), (record { vertices-same = refl; triangles-same = refl; store-same = refl }, rw (← transition-skip s 0 (next .result) (next .ensures), transition-start) (b .pre .1 .1 .1)))
+    ((next .ensures .le-six, next .ensures .is-named), (record { vertices-same = refl; triangles-same = refl; store-same = refl }, rw (← transition-skip s 0 (next .result) (next .ensures), transition-start) (b .pre .1 .1 .1 .1)))
 
 write-side-requires : tie.Need-write-side-requires Inv-loop μ-loop
 write-side-requires c κs =
@@ -39,13 +39,13 @@ write-side-requires c κs =
     let i = c .before .before .before in
     let l = i .before .loop in
     let here = i .loop-test .taken in
-    (b .pre .0, (b .pre .1 .0, ((here, l .inv .0 .1 here), (fits-still (l .inv .1 .0) (b .pre .1 .1 .0), l .inv .1 .1))))
+    (b .pre .0, (b .pre .1 .0, (b .pre .1 .1 .0, ((here, l .inv .0 .1 here), (fits-still (l .inv .1 .0) (b .pre .1 .1 .1 .0), l .inv .1 .1)))))
 
 add-next-side : tie.Need-add-next-side Inv-loop μ-loop
 add-next-side c = omega (arith, c .before .before .before .before .before .before .before .before .before .before .loop-test .taken)
 
 next-side-requires-2 : tie.Need-next-side-requires-2 Inv-loop μ-loop
-next-side-requires-2 c κs = (c .before .before .before .before .before .before .before .before .before .before .before .before .before .before .before .before .before .before .pre .1 .0 .sides, omega (arith, c .before .before .before .before .before .before .before .before .before .before .loop-test .taken))
+next-side-requires-2 c κs = (c .before .before .before .before .before .before .before .before .before .before .before .before .before .before .before .before .before .before .pre .1 .1 .0 .sides, omega (arith, c .before .before .before .before .before .before .before .before .before .before .loop-test .taken))
 
 loop-less : tie.Need-loop-less Inv-loop μ-loop
 loop-less c = omega (arith, c .before .before .before .before .before .before .before .before .before .before .before .loop-test .taken, c .next-side2 .ensures .from-le)
@@ -61,9 +61,9 @@ loop-again c =
       (
         same-then (i .before .loop .inv .1 .0)
             record {
-              vertices-same = w .kept .1 .1 .1 .1 .1 .1 .1 .1 .1 .1 .1 .0;
-              triangles-same = w .kept .1 .1 .1 .1 .1 .1 .1 .1 .1 .1 .1 .1 .0;
-              store-same = w .kept .1 .1 .1 .1 .1 .1 .1 .1 .1 .1 .0;
+              vertices-same = w .kept .1 .1 .1 .1 .1 .1 .1 .1 .1 .1 .1 .1 .0;
+              triangles-same = w .kept .1 .1 .1 .1 .1 .1 .1 .1 .1 .1 .1 .1 .1 .0;
+              store-same = w .kept .1 .1 .1 .1 .1 .1 .1 .1 .1 .1 .1 .0;
             },
         rw (← transition-skip s (i .before .loop .side + 1) (next .result) (next .ensures)) (w .ensures),
       ),

@@ -8,7 +8,8 @@ use Rattle.model.specs.Rotations.{xyz}
 use Rattle.cells.specs.Fills.{nothing-put}
 use Rattle.cells.specs.Kinds.{cellOf}
 use Rattle.cells.specs.declared.CellIndex.the-variants.{Regular}
-use Rattle.cells.proofs.ByCase.{vertex-room, triangle-room, put-as, regular-nothing, regular-coded, regular-followed, regular-is}
+use Rattle.cells.specs.Uncut.{regular-nothing}
+use Rattle.cells.proofs.ByCase.{vertex-room, triangle-room, put-as, regular-coded, regular-followed, regular-is}
 use Rattle.cells.proofs.regular_cells.write_regular_cell.Statement.{statement}
 use Rattle.cells.proofs.regular_cells.write_regular_cell.Tie as tie
 
@@ -27,7 +28,7 @@ same r =
     let a = start r .args in
     let case = r .before .before .before .before .regular-case in
     regular-is (case .result) (case .ensures .1) _ _ (r .before .regular-case-codes .ensures) (r .regular-case-cell .ensures) (starOf (start r)) (a .x) (a .y) (a .z)
-    (case .ensures .0 (a .mask) (a .neighbours .now))
+    (case .ensures .0 (starOf (start r)) ((start r) .pre .1 .0))
 
 regular-case-requires : tie.Need-regular-case-requires
 regular-case-requires c κs = search needs
@@ -41,7 +42,7 @@ returns c =
     let a = b .args in
     let case = c .before .before .regular-case in
     nothing-put (regularCell (starOf b) (a .x) (a .y) (a .z)) (a .counts .vertices) (a .counts .triangles) (a .vertices .now) (a .triangles .now) (a .store .now)
-    (regular-nothing (starOf b) (a .x) (a .y) (a .z) (case .result) _ (case .ensures .0 (a .mask) (a .neighbours .now)) (c .before .is-uncut .ensures) (c .if1 .taken))
+    (regular-nothing (starOf b) (a .x) (a .y) (a .z) (rw (← case .ensures .0 (starOf b) (b .pre .1 .0), ← c .before .is-uncut .ensures) (c .if1 .taken)))
 
 regular-case-codes-requires : tie.Need-regular-case-codes-requires
 regular-case-codes-requires c κs = search needs
@@ -53,7 +54,7 @@ write-cell-requires : tie.Need-write-cell-requires
 write-cell-requires c κs =
     let r = c .before .before .before in
     let a = start r .args in
-    let p = start r .pre .1 in
+    let p = start r .pre .1 .1 in
     let case = r .before .before .before .before .regular-case in
     let codes-are = r .before .regular-case-codes .ensures in
     let row-is = r .regular-case-cell .ensures in (

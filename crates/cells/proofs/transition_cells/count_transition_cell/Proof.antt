@@ -3,9 +3,9 @@ use mathlib.Core.Path.{refl}
 use borrow.Author.Needs.{needs}
 use Rattle.tables.specs.Cases.{transitionTurned}
 use Rattle.model.specs.Mesh.{transitionCell}
-use Rattle.model.specs.Points.{star}
 use Rattle.cells.specs.Fills.{nothing-adds}
-use Rattle.cells.proofs.ByCase.{adds-as, transition-nothing, transition-coded, transition-followed, transition-is}
+use Rattle.cells.specs.Uncut.{transition-nothing}
+use Rattle.cells.proofs.ByCase.{adds-as, transition-coded, transition-followed, transition-is}
 use Rattle.cells.proofs.transition_cells.count_transition_cell.Statement.{statement}
 use Rattle.cells.proofs.transition_cells.count_transition_cell.Tie as tie
 
@@ -17,12 +17,11 @@ is-uncut-requires c κs = search needs
 
 returns : tie.Need-returns
 returns c =
-    let a = c .before .before .before .before .args in
+    let a = c .before .before .before .args in
     let case = c .before .before .transition-case in
-    λ centre.
-    let s = star (a .block) (a .mask) (a .threshold) centre (a .neighbours .now) in
+    λ s columns named-is.
     nothing-adds (transitionCell s (a .side) (a .u) (a .v))
-    (transition-nothing s (a .side) (a .u) (a .v) (case .result) _ (case .ensures .0 centre) (c .before .is-uncut .ensures) (c .if1 .taken))
+    (transition-nothing s (a .side) (a .u) (a .v) (rw (← case .ensures .0 s columns named-is, ← c .before .is-uncut .ensures) (c .if1 .taken)))
 
 transition-case-codes-requires : tie.Need-transition-case-codes-requires
 transition-case-codes-requires c κs = search needs
@@ -32,7 +31,7 @@ transition-case-cell-requires c κs = search needs
 
 count-cell-requires : tie.Need-count-cell-requires
 count-cell-requires c κs =
-    let a = c .before .before .before .before .before .before .args in
+    let a = c .before .before .before .before .before .args in
     let case = c .before .before .before .before .transition-case in
     let codes-are = c .before .transition-case-codes .ensures in
     let row-is = c .transition-case-cell .ensures in (
@@ -42,13 +41,12 @@ count-cell-requires c κs =
 
 returns-2 : tie.Need-returns-2
 returns-2 c =
-    let a = c .before .before .before .before .before .before .before .args in
+    let a = c .before .before .before .before .before .before .args in
     let case = c .before .before .before .before .before .transition-case in
     let codes-are = c .before .before .transition-case-codes .ensures in
     let row-is = c .before .transition-case-cell .ensures in
-    λ centre.
-    let s = star (a .block) (a .mask) (a .threshold) centre (a .neighbours .now) in
-    adds-as (transition-is (case .result) (case .ensures .1) _ _ codes-are row-is s (a .side) (a .u) (a .v) (transitionTurned (case .result)) (case .ensures .0 centre) refl)
+    λ s columns named-is.
+    adds-as (transition-is (case .result) (case .ensures .1) _ _ codes-are row-is s (a .side) (a .u) (a .v) (transitionTurned (case .result)) (case .ensures .0 s columns named-is) refl)
     (c .count-cell .ensures s (transitionTurned (case .result)))
 
 pub count-transition-cell-spec : {M : Type 1} → statement M

@@ -7,7 +7,8 @@ use Rattle.points.specs.TransitionPoints.{bordered}
 use Rattle.cells.specs.Fills.{nothing-put}
 use Rattle.cells.specs.Kinds.{cellOf}
 use Rattle.cells.specs.declared.CellIndex.the-variants.{Transition}
-use Rattle.cells.proofs.ByCase.{vertex-room, triangle-room, put-as, transition-nothing, transition-coded, transition-followed, transition-is}
+use Rattle.cells.specs.Uncut.{transition-nothing}
+use Rattle.cells.proofs.ByCase.{vertex-room, triangle-room, put-as, transition-coded, transition-followed, transition-is}
 use Rattle.cells.proofs.transition_cells.write_transition_cell.Statement.{statement}
 use Rattle.cells.proofs.transition_cells.write_transition_cell.Tie as tie
 
@@ -26,7 +27,7 @@ same r =
     let a = start r .args in
     let case = r .before .before .before .before .before .transition-case in
     transition-is (case .result) (case .ensures .1) _ _ (r .before .before .transition-case-codes .ensures) (r .before .transition-case-cell .ensures) (starOf (start r)) (a .side) (a .u) (a .v) _
-    (case .ensures .0 (a .centre .now)) (r .transition-turned .ensures)
+    (case .ensures .0 (starOf (start r)) ((start r) .pre .1 .0) ((start r) .pre .1 .1 .1 .0 .1 .0)) (r .transition-turned .ensures)
 
 transition-case-requires : tie.Need-transition-case-requires
 transition-case-requires c κs = search needs
@@ -40,7 +41,7 @@ returns c =
     let a = b .args in
     let case = c .before .before .transition-case in
     nothing-put (transitionCell (starOf b) (a .side) (a .u) (a .v)) (a .counts .vertices) (a .counts .triangles) (a .vertices .now) (a .triangles .now) (a .store .now)
-    (transition-nothing (starOf b) (a .side) (a .u) (a .v) (case .result) _ (case .ensures .0 (a .centre .now)) (c .before .is-uncut .ensures) (c .if1 .taken))
+    (transition-nothing (starOf b) (a .side) (a .u) (a .v) (rw (← case .ensures .0 (starOf b) (b .pre .1 .0) (b .pre .1 .1 .1 .0 .1 .0), ← c .before .is-uncut .ensures) (c .if1 .taken)))
 
 transition-case-codes-requires : tie.Need-transition-case-codes-requires
 transition-case-codes-requires c κs = search needs
@@ -55,7 +56,7 @@ write-cell-requires : tie.Need-write-cell-requires
 write-cell-requires c κs =
     let r = c .before .before .before in
     let a = start r .args in
-    let p = start r .pre .1 in
+    let p = start r .pre .1 .1 in
     let s = starOf (start r) in
     let case = r .before .before .before .before .before .transition-case in
     let codes-are = r .before .before .transition-case-codes .ensures in

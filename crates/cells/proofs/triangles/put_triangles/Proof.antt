@@ -15,11 +15,11 @@ use Rattle.cells.proofs.triangles.put_triangles.Statement.{statement}
 use Rattle.cells.proofs.triangles.put_triangles.Tie as tie
 
 abbrev Inv-loop : tie.InvT-loop
-Inv-loop row turned cell triangles₀ base count t₀ triangles t =
-    (t ≤ count) × (triangles ≡ layTriangles triangles₀ base (listed (rowTriangle row turned (cell .index)) t))
+Inv-loop row turned index triangles₀ base count t₀ triangles t =
+    (t ≤ count) × (triangles ≡ layTriangles triangles₀ base (listed (rowTriangle row turned index) t))
 
 abbrev μ-loop : tie.MeasureT-loop
-μ-loop row turned cell triangles₀ base count t₀ triangles t = count - t
+μ-loop row turned index triangles₀ base count t₀ triangles t = count - t
 
 triangle-count-requires : tie.Need-triangle-count-requires Inv-loop μ-loop
 triangle-count-requires c κs = search needs
@@ -50,7 +50,7 @@ loop-again c =
     let l = c .before .before .before .before .before .before .loop in
     let a = c .before .before .before .before .before .before .before .before .before .before .args in (
       search needs,
-      triangles-more (rowTriangle (a .row .now) (a .turned) (a .cell .index)) (a .base) (l .t) _ (a .triangles .now) _ _
+      triangles-more (rowTriangle (a .row .now) (a .turned) (a .index .now)) (a .base) (l .t) _ (a .triangles .now) _ _
           (c .before .before .before .triangle .ensures) (l .inv .1) (c .before .before .put-triangle .ensures),
     )
 

@@ -34,7 +34,7 @@ returns c =
     let b = c .before in
     let a = b .before .before .before .before .args in
     rw (c .if1 .taken)
-    (sym (turned-round (a .row .now) (a .cell .index) (a .t) _ _ _ (b .before .before .corner-index .ensures)
+    (sym (turned-round (a .row .now) (a .index .now) (a .t) _ _ _ (b .before .before .corner-index .ensures)
     (b .before .corner-index2 .ensures) (b .corner-index3 .ensures)))
 
 returns-2 : tie.Need-returns-2
@@ -42,7 +42,7 @@ returns-2 c =
     let b = c .before in
     let a = b .before .before .before .before .args in
     rw (c .if1 .left)
-    (sym (in-order (a .row .now) (a .cell .index) (a .t) _ _ _ (b .before .before .corner-index .ensures)
+    (sym (in-order (a .row .now) (a .index .now) (a .t) _ _ _ (b .before .before .corner-index .ensures)
     (b .before .corner-index2 .ensures) (b .corner-index3 .ensures)))
 
 pub triangle-spec : {M : Type 1} → statement M

@@ -17,7 +17,9 @@ fill-cell-requires c κs =
     (p .0, ((omega (arith, p .1 .0 .1), (p .1 .0 .1 .few-vertices, p .1 .0 .0)), (p .1 .1 .0, p .1 .1 .1 .0)))
 
 put-triangles-requires : tie.Need-put-triangles-requires
-put-triangles-requires c κs = search needs
+put-triangles-requires c κs =
+    let p = c .before .before .before .before .before .before .before .before .before .before .before .before .before .before .before .before .before .before .pre in
+    (p .1 .0 .1, p .1 .1 .1 .1)
 
 same-length : tie.Need-same-length
 same-length c = search needs
@@ -31,10 +33,10 @@ same-length-3 c = search needs
 returns : tie.Need-returns
 unfolding fillTo triangleOf rowTriangle
 returns c =
-    let a = c .before .before .before .before .before .before .before .before .before .before .before .before .before .before .before .before .before .before .before .args in
+    let a = c .before .before .before .before .before .before .before .before .before .before .before .before .before .before .before .before .before .before .before .before .before .args in
     cell-put (cellOf (star (a .block) (a .mask) (a .threshold) (a .centre .now) (a .neighbours .now)) (a .at) (a .codes .now) (a .row .now) (a .turned)) (a .counts .vertices) (a .counts .triangles)
     (a .vertices .now) (a .triangles .now) (a .store .now) _ _ _ _ _ _ _
-    (c .before .before .before .before .before .before .before .before .before .fill-cell .ensures) (c .before .before .put-triangles .ensures .0) (c .before .before .put-triangles .ensures .1)
+    (c .before .before .before .before .before .before .before .before .before .before .before .fill-cell .ensures) (c .before .before .put-triangles .ensures .0) (c .before .before .put-triangles .ensures .1)
 
 pub write-cell-spec : {M : Type 1} → statement M
 write-cell-spec =

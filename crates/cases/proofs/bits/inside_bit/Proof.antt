@@ -1,8 +1,8 @@
--- `cases::inside_bit` meets its contract by what `inside` ensures. Assumes nothing.
+-- `bits::inside_bit` meets its contract by what `inside` ensures. Assumes nothing.
 use native.Mathlib.Omega.{arith}
 use borrow.Author.Needs.{needs}
-use Rattle.cells.proofs.cases.inside_bit.Statement.{statement}
-use Rattle.cells.proofs.cases.inside_bit.Tie as tie
+use Rattle.cases.proofs.bits.inside_bit.Statement.{statement}
+use Rattle.cases.proofs.bits.inside_bit.Tie as tie
 
 inside-requires : tie.Need-inside-requires
 inside-requires c κs = search needs

@@ -1,0 +1,4 @@
+mod Corners
+mod Filling
+mod FineBits
+mod FineCases

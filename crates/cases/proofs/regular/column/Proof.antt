@@ -1,0 +1,79 @@
+-- `regular::column` meets its contract. The loop's invariant: the word so far holds the points passed. Assumes nothing.
+use Prim.Native.Nat.{suc, _+_, _-_, _≤_}
+use mathlib.Core.Path.{_≡_, refl, ap, _∙_}
+use native.Mathlib.Numerals.{add-one}
+use native.Mathlib.Omega.{arith}
+use borrow.Author.Needs.{needs}
+use lib.Ieee.{Float}
+use Rattle.model.specs.Formulas.{insideBit}
+use Rattle.cases.specs.Layers.{columnTo}
+use Rattle.cases.proofs.Filling.{one-more-bit, word-fits}
+use Rattle.cases.proofs.regular.column.Statement.{statement}
+use Rattle.cases.proofs.regular.column.Tie as tie
+
+abbrev Inv-loop : tie.InvT-loop
+Inv-loop n threshold centre x y m bits₀ z₀ bits z = (m ≡ n + 1) × ((z ≤ m) × (bits ≡ columnTo n threshold centre x y z))
+
+abbrev μ-loop : tie.MeasureT-loop
+μ-loop n threshold centre x y m bits₀ z₀ bits z = m - z
+
+add-m : tie.Need-add-m Inv-loop μ-loop
+add-m c = search needs
+
+loop-holds : tie.Need-loop-holds Inv-loop μ-loop
+loop-holds c = (refl, (omega arith, refl))
+
+sample-requires : tie.Need-sample-requires Inv-loop μ-loop
+sample-requires c κs = search needs
+
+inside-bit-requires : tie.Need-inside-bit-requires Inv-loop μ-loop
+inside-bit-requires c κs = search needs
+
+shl-bits : tie.Need-shl-bits Inv-loop μ-loop
+shl-bits c = search needs
+
+add-bits : tie.Need-add-bits Inv-loop μ-loop
+add-bits c =
+    let l = c .before .before .before .loop in
+    let a = c .before .before .before .before .before .args in
+    let bit = c .inside-bit .ensures .0 ∙ ap (λ (v : Float). insideBit (a .threshold) v) (c .before .sample .ensures) in
+    let more = one-more-bit (a .n) (a .threshold) (a .centre .now) (a .x) (a .y) (l .z) (c .inside-bit .result) (omega arith) bit in
+    omega (arith, l .inv .1 .1, more, word-fits (a .n) (a .threshold) (a .centre .now) (a .x) (a .y) (suc (l .z)) (omega arith))
+
+add-z : tie.Need-add-z Inv-loop μ-loop
+add-z c = search needs
+
+loop-less : tie.Need-loop-less Inv-loop μ-loop
+loop-less c = search needs
+
+loop-again : tie.Need-loop-again Inv-loop μ-loop
+loop-again c =
+    let l = c .before .before .before .loop in
+    let a = c .before .before .before .before .before .args in
+    let bit = c .inside-bit .ensures .0 ∙ ap (λ (v : Float). insideBit (a .threshold) v) (c .before .sample .ensures) in
+    let more = one-more-bit (a .n) (a .threshold) (a .centre .now) (a .x) (a .y) (l .z) (c .inside-bit .result) (omega arith) bit in
+    (l .inv .0, (omega arith, rw (add-one, l .inv .1 .1) more))
+
+returns : tie.Need-returns Inv-loop μ-loop
+returns c =
+    let l = c .before .loop in
+    let a = c .before .before .before .args in
+    let e : l .z ≡ a .n + 1 = omega arith in
+    rw e at (l .inv .1 .1)
+
+pub column-spec : {M : Type 1} → statement M
+column-spec =
+    tie.close
+    (tie.spec
+    Inv-loop
+    μ-loop
+    add-m
+    loop-holds
+    sample-requires
+    inside-bit-requires
+    shl-bits
+    add-bits
+    add-z
+    loop-less
+    loop-again
+    returns)

@@ -1,0 +1,69 @@
+-- `regular::cut_cells` meets its contract: where its bit is clear, the bits of the eight corners are alike. Assumes nothing.
+use native.Mathlib.Omega.{arith}
+use borrow.Author.Needs.{needs}
+use Rattle.cases.proofs.Corners.{uncut-where-clear}
+use Rattle.cases.proofs.regular.cut_cells.Statement.{statement}
+use Rattle.cases.proofs.regular.cut_cells.Tie as tie
+
+mul-at : tie.Need-mul-at
+mul-at c = search needs
+
+add-at : tie.Need-add-at
+add-at c = search needs
+
+mul-a : tie.Need-mul-a
+mul-a c = search needs
+
+element-copy-out-a : tie.Need-element-copy-out-a
+element-copy-out-a c = search needs
+
+add-b : tie.Need-add-b
+add-b c = search needs
+
+mul-b : tie.Need-mul-b
+mul-b c = search needs
+
+element-copy-out-b : tie.Need-element-copy-out-b
+element-copy-out-b c = search needs
+
+add-c : tie.Need-add-c
+add-c c = search needs
+
+mul-c : tie.Need-mul-c
+mul-c c = search needs
+
+element-copy-out-c : tie.Need-element-copy-out-c
+element-copy-out-c c = search needs
+
+add-d : tie.Need-add-d
+add-d c = search needs
+
+mul-d : tie.Need-mul-d
+mul-d c = search needs
+
+element-copy-out-d : tie.Need-element-copy-out-d
+element-copy-out-d c = search needs
+
+returns : tie.Need-returns
+returns c =
+    let a = c .before .before .before .before .args in
+    λ s held z hz clear. uncut-where-clear (a .n) s (a .columns .now) held (a .x) (a .y) (omega arith) (omega arith) z hz clear
+
+pub cut-cells-spec : {M : Type 1} → statement M
+cut-cells-spec =
+    tie.close
+    (tie.spec
+    mul-at
+    add-at
+    mul-a
+    element-copy-out-a
+    add-b
+    mul-b
+    element-copy-out-b
+    add-c
+    mul-c
+    element-copy-out-c
+    add-d
+    mul-d
+    element-copy-out-d
+    returns)

@@ -1,0 +1,4 @@
+pub mod Bits
+pub mod Columns
+pub mod Layers
+pub mod Faces

@@ -1,0 +1,112 @@
+// Transition cells: the columns of a side's fine points along v, the cells of a row that are cut, and a cell's case number.
+ghost use mathlib.Core.Path.{_≡_};
+ghost use mathlib.Core.Bool.{true};
+ghost use mathlib.Core.List.{List};
+ghost use Prim.Native.Nat.{ℕ, _+_, _*_, _/_, _%_, _^_, _≤_, _<_};
+ghost use lib.Ieee.{Float};
+ghost use lib.ListN.{length};
+ghost use Rattle.model.specs.Sides.{named, neighboursLength};
+ghost use Rattle.model.specs.Points.{Star, star, transitionCase};
+ghost use Rattle.grid.specs.SideLaws.{NeighbourThere};
+ghost use Rattle.cases.specs.Columns.{FineColumns, uncut};
+ghost use Rattle.cases.specs.Faces.{FaceTo, wholeColumn};
+use crate::bits::bit_at;
+use crate::bits::inside_bit;
+use grid::transition_sides::next_side;
+use model::Block;
+use points::grid_point::fine_sample;
+
+const SIDES: usize = 6;
+
+// Bit v2 tells whether the fine point (u2, v2) of a side is inside.
+fn column(block: Block, mask: u8, threshold: f32, neighbours: &[f32], side: usize, u2: usize) -> u64
+    requires { ⌜ (NeighbourThere (block .subdivisions) mask (now neighbours) side) × (u2 ≤ 2 * block .subdivisions) ⌝ }
+    ensures { λ r. ⌜ ((centre : List Float) → r ≡ wholeColumn (star block mask threshold centre (now (neighbours .entry))) side u2) ⌝ }
+{
+    let end = 2 * block.subdivisions;
+    let mut bits = 0u64;
+    let mut v2 = 0;
+    while v2 <= end {
+        let sample = fine_sample(block, mask, neighbours, side, u2, v2);
+        bits += inside_bit(threshold, sample) << v2;
+        v2 += 1;
+    }
+    bits
+}
+
+fn face(
+    block: Block,
+    mask: u8,
+    threshold: f32,
+    neighbours: &[f32],
+    side: usize,
+    columns: &mut [u64],
+)
+    requires { ⌜ NeighbourThere (block .subdivisions) mask (now neighbours) side ⌝ }
+    requires { ⌜ length (now columns) ≡ 198 ⌝ }
+    ensures { λ _. ⌜ ((centre : List Float) → FaceTo (star block mask threshold centre (now (neighbours .entry))) side (2 * block .subdivisions + 1) (now (columns .entry)) (now (columns .exit))) ⌝ }
+{
+    let end = 2 * block.subdivisions;
+    let mut u2 = 0;
+    while u2 <= end {
+        columns[33 * side + u2] = column(block, mask, threshold, neighbours, side, u2);
+        u2 += 1;
+    }
+}
+
+// The column at u2 of a side stands at 33 side + u2.
+pub fn fine_columns(
+    block: Block,
+    mask: u8,
+    threshold: f32,
+    neighbours: &[f32],
+    columns: &mut [u64; 198],
+)
+    requires { ⌜ (block .subdivisions ≤ 16) × ((mask ≤ 63) × (length (now neighbours) ≡ neighboursLength (block .subdivisions) mask)) ⌝ }
+    ensures { λ _. ⌜ ((centre : List Float) → FineColumns (block .subdivisions) (star block mask threshold centre (now (neighbours .entry))) (now (columns .exit))) ⌝ }
+{
+    let mut side = next_side(mask, 0);
+    while side < SIDES {
+        face(block, mask, threshold, neighbours, side, columns);
+        side = next_side(mask, side + 1);
+    }
+}
+
+// Bit 2 v is clear only if the cell (u, v) of the side is not cut.
+pub fn cut_row(n: usize, columns: &[u64; 198], side: usize, u: usize) -> u64
+    requires { ⌜ (n ≤ 16) × ((side < 6) × (u < n)) ⌝ }
+    ensures { λ r. ⌜ ((s : Star) → FineColumns n s (now (columns .entry)) → named (s .mask) side ≡ true → (v : ℕ) → v < n → r / 2 ^ (2 * v) % 2 ≡ 0 → uncut (transitionCase s side u v) 511 ≡ true) ⌝ }
+{
+    let at = 33 * side + 2 * u;
+    let a = columns[at];
+    let b = columns[at + 1];
+    let c = columns[at + 2];
+    let any = a | (b | c);
+    let all = a & (b & c);
+    (any | ((any >> 1) | (any >> 2))) ^ (all & ((all >> 1) & (all >> 2)))
+}
+
+// The bits of three columns at one v2, each with its weight.
+fn three_bits(a: u64, b: u64, c: u64, v2: usize, wa: usize, wb: usize, wc: usize) -> usize
+    requires { ⌜ (v2 < 64) × ((wa ≤ 256) × ((wb ≤ 256) × (wc ≤ 256))) ⌝ }
+    ensures { λ r. ⌜ (r ≡ wa * (a / 2 ^ v2 % 2) + wb * (b / 2 ^ v2 % 2) + wc * (c / 2 ^ v2 % 2)) × (r ≤ wa + wb + wc) ⌝ }
+{
+    wa * bit_at(a, v2) + wb * bit_at(b, v2) + wc * bit_at(c, v2)
+}
+
+// The contributions of the nine fine points, as document 01 lists them.
+pub fn transition_case(n: usize, columns: &[u64; 198], side: usize, u: usize, v: usize) -> usize
+    requires { ⌜ (n ≤ 16) × ((side < 6) × ((u < n) × (v < n))) ⌝ }
+    ensures { λ r. ⌜ ((s : Star) → FineColumns n s (now (columns .entry)) → named (s .mask) side ≡ true → r ≡ transitionCase s side u v) ⌝ }
+    ensures { λ r. ⌜ r < 512 ⌝ }
+{
+    let at = 33 * side + 2 * u;
+    let a = columns[at];
+    let b = columns[at + 1];
+    let c = columns[at + 2];
+    let v2 = 2 * v;
+    let low = three_bits(a, b, c, v2, 0x01, 0x02, 0x04);
+    let middle = three_bits(a, b, c, v2 + 1, 0x80, 0x100, 0x08);
+    let high = three_bits(a, b, c, v2 + 2, 0x40, 0x20, 0x10);
+    low + middle + high
+}
