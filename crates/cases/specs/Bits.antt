@@ -2,7 +2,7 @@
 use Prim.Native.Nat.{ℕ, zero, suc, _+_, _-_, _*_, _/_, _%_, _^_, _≤_, _<_, zero-le, suc-le-suc, min, max}
 use mathlib.Core.Path.{_≡_, refl, sym, ap, ap₂, _∙_}
 use mathlib.Core.Logic.{_⊎_, inl, inr}
-use native.Mathlib.Nat.{le-of-eq, le-max-left, max-eq-right, add-comm, mul-comm, mul-assoc, mod-eq-of-lt, le-of-suc-le-suc, not-suc-le-zero, add-mul-div-right, mul-le-mul-left, mul-one, pow-suc, mod-lt, div-one, eq-or-lt-of-le, zero-lt-suc, lt-of-le-of-lt, max-le, min-le-left}
+use native.Mathlib.Nat.{le-of-eq, le-max-left, max-eq-right, max-zero, zero-div, add-comm, mul-comm, mul-assoc, mod-eq-of-lt, le-of-suc-le-suc, not-suc-le-zero, add-mul-div-right, mul-le-mul-left, mul-one, pow-suc, mod-lt, div-one, eq-or-lt-of-le, zero-lt-suc, lt-of-le-of-lt, max-le, min-le-left}
 use native.Mathlib.Numerals.{one-add}
 use native.Mathlib.Omega.{arith}
 use lib.Arith.{digits-div, digits-mod}
@@ -12,11 +12,12 @@ use lib.Bits.{bitAnd, bitOr, bitXor, differ, and-step, or-step, xor-step}
 use lib.Count.{trailingZeros, under}
 use Rattle.model.specs.Steps.{total}
 
--- the first set bit at or after from, or end: no bit between is set
+-- the first set bit at or after from, or end
 pub record NextSet (bits end from r : ℕ) : Type 0 where
   pub from-le : from ≤ r
   pub le-end : r ≤ end
   pub none-between : (k : ℕ) → from ≤ k → k < r → bits / 2 ^ k % 2 ≡ 0
+  pub is-set : r < end → bits / 2 ^ r % 2 ≡ 1
 
 -- the bits above the lowest
 half-of : (a k : ℕ) → a / 2 ^ suc k ≡ a / 2 / 2 ^ k
@@ -111,6 +112,17 @@ trailing-stops (suc width) a (suc k) h = under-le (a % 2) (trailing-stops width 
     under-le zero l = suc-le-suc l
     under-le (suc d) l = zero-le
 
+-- the bit at which the count stops is set
+pub trailing-set : (width a : ℕ) → trailingZeros width a < width → a / 2 ^ trailingZeros width a % 2 ≡ 1
+unfolding trailingZeros
+trailing-set zero a h = absurd (not-suc-le-zero h)
+trailing-set (suc width) a h = go (trailing-set width (a / 2)) (a % 2) refl h
+  where
+    go : (trailingZeros width (a / 2) < width → a / 2 / 2 ^ trailingZeros width (a / 2) % 2 ≡ 1) → (d : ℕ) → a % 2 ≡ d
+        → under d (trailingZeros width (a / 2)) < suc width → a / 2 ^ under d (trailingZeros width (a / 2)) % 2 ≡ 1
+    go rest zero e l = ap (λ (x : ℕ). x % 2) (half-of a (trailingZeros width (a / 2))) ∙ rest (le-of-suc-le-suc l)
+    go rest (suc d) e l = rw div-one (omega (arith, e, mod-lt a (zero-lt-suc 1)))
+
 -- ---- the search for the next set bit
 
 clear-left : (x y : ℕ) → max x y ≡ 0 → x ≡ 0
@@ -132,8 +144,23 @@ module _ (bits end from : ℕ) (hf : from ≤ end) (he : end < 64) where
       let e : from + (k - from) ≡ k = omega arith in
       shift-bit ended from (k - from) ∙ ap (λ (x : ℕ). ended / 2 ^ x % 2) e
 
+  -- below end the word is as it was
+  below-end : (k : ℕ) → k < end → ended / 2 ^ k % 2 ≡ bits / 2 ^ k % 2
+  unfolding ended
+  below-end k l =
+      let e : suc k + (end - suc k) ≡ end = omega arith in
+      let none : 1 * 2 ^ end % 2 ^ 64 / 2 ^ k % 2 ≡ 0 =
+      ap (λ (x : ℕ). x / 2 ^ k % 2) (shl-exact 1 end 64 (lit< tt) (omega arith) ∙ omega arith)
+      ∙ (rw e at (above-drops 0 1 k (end - suc k))) ∙ ap (λ (x : ℕ). x % 2) (zero-div (2 ^ k)) in
+      or-bit bits (1 * 2 ^ end % 2 ^ 64) k ∙ ap (λ (x : ℕ). max (bits / 2 ^ k % 2) x) none ∙ max-zero (bits / 2 ^ k % 2)
+
   stops : trailingZeros 64 (ended / 2 ^ from) ≤ end - from
   stops = trailing-stops 64 (ended / 2 ^ from) (end - from) (at-shifted end hf ∙ end-set)
+
+  found : from + trailingZeros 64 (ended / 2 ^ from) < end → bits / 2 ^ (from + trailingZeros 64 (ended / 2 ^ from)) % 2 ≡ 1
+  found l =
+      let t = trailingZeros 64 (ended / 2 ^ from) in
+      sym (below-end (from + t) l) ∙ sym (shift-bit ended from t) ∙ trailing-set 64 (ended / 2 ^ from) (omega (arith, stops))
 
   -- the bit at end, set for it, ends the search
   pub search-ended : NextSet bits end from (from + trailingZeros 64 (bitOr bits (1 * 2 ^ end % 2 ^ 64) / 2 ^ from))
@@ -143,4 +170,5 @@ module _ (bits end from : ℕ) (hf : from ≤ end) (he : end < 64) where
         from-le = omega arith;
         le-end = omega (arith, stops);
         none-between = λ k l h. clear-left _ _ (sym (or-bit bits (1 * 2 ^ end % 2 ^ 64) k) ∙ sym (at-shifted k l) ∙ trailing-clear 64 (ended / 2 ^ from) (k - from) (omega arith));
+        is-set = found;
       }

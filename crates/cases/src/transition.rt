@@ -94,7 +94,7 @@ fn three_bits(a: u64, b: u64, c: u64, v2: usize, wa: usize, wb: usize, wc: usize
     wa * bit_at(a, v2) + wb * bit_at(b, v2) + wc * bit_at(c, v2)
 }
 
-// The contributions of the nine fine points, as document 01 lists them.
+// What each of the nine fine points adds if it is inside: the Rust's TRANSITION_HIGH_RES_FACE_CASE_CONTRIBUTIONS.
 pub fn transition_case(n: usize, columns: &[u64; 198], side: usize, u: usize, v: usize) -> usize
     requires { ⌜ (n ≤ 16) × ((side < 6) × ((u < n) × (v < n))) ⌝ }
     ensures { λ r. ⌜ ((s : Star) → FineColumns n s (now (columns .entry)) → named (s .mask) side ≡ true → r ≡ transitionCase s side u v) ⌝ }

@@ -1,8 +1,7 @@
-// The points of a transition cell, as the Rust's `aux_tables` has them: where each of the thirteen lies, and what each of the nine fine ones
-// adds to the case number.
+// The points of a transition cell, as the Rust's `aux_tables` has them: where each of the thirteen lies.
 ghost use mathlib.Core.Path.{_≡_};
 ghost use Prim.Native.Nat.{_<_};
-ghost use Rattle.tables.specs.Points.{cellPoint, contributionOf};
+ghost use Rattle.tables.specs.Points.{cellPoint};
 
 // A point of the fine face, in fine steps from the cell's corner.
 pub struct Offset {
@@ -42,23 +41,4 @@ pub fn cell_point(i: usize) -> CellPoint
     ensures { λ r. ⌜ r ≡ cellPoint i ⌝ }
 {
     TRANSITION_CELL_GRID_POINTS[i]
-}
-
-// What the fine point i adds to the case number if it is inside: the Rust's TRANSITION_HIGH_RES_FACE_CASE_CONTRIBUTIONS, as a `match`, which is
-// compiled to read-only data where a `const` array would be written to the stack at each call.
-pub fn contribution(i: usize) -> usize
-    requires { ⌜ i < 9 ⌝ }
-    ensures { λ r. ⌜ r ≡ contributionOf i ⌝ }
-{
-    match i {
-        0 => 0x01,
-        1 => 0x02,
-        2 => 0x04,
-        3 => 0x80,
-        4 => 0x100,
-        5 => 0x08,
-        6 => 0x40,
-        7 => 0x20,
-        _ => 0x10,
-    }
 }
