@@ -1,4 +1,6 @@
+mod Words
 mod Corners
 mod Filling
 mod FineBits
 mod FineCases
+mod FineLines

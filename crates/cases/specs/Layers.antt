@@ -1,23 +1,17 @@
--- What the columns of one x hold once they are filled, and the four bits of a cell's corners at one z. Definitions only.
-use Prim.Native.Nat.{ℕ, _+_, _*_, _/_, _%_, _^_, _≤_, _<_}
-use mathlib.Core.Path.{_≡_}
+-- The word of the points at (x, y), and the four bits of a cell's corners at one z. Definitions only.
+use Prim.Native.Nat.{ℕ, _+_, _*_, _/_, _%_, _^_}
 use mathlib.Core.List.{List}
 use lib.Ieee.{Float}
-use lib.ListN.{getD}
-use Rattle.model.specs.Steps.{total}
 use Rattle.model.specs.Samples.{sampleOf}
 use Rattle.model.specs.Rotations.{xyz}
-use Rattle.model.specs.Formulas.{insideBit}
+use Rattle.cases.specs.Words.{wordOf}
 
--- the first m points at (x, y), as a word
-abbrev pub columnTo : ℕ → Float → List Float → ℕ → ℕ → ℕ → ℕ
-columnTo n threshold centre x y m = total (λ z. 2 ^ z * insideBit threshold (sampleOf n centre (xyz x y z))) m
+-- the samples of the points (x, y, 0), (x, y, 1), ..
+abbrev pub lineAt : ℕ → List Float → ℕ → ℕ → ℕ → Float
+lineAt n centre x y z = sampleOf n centre (xyz x y z)
 
--- the first m columns at x are filled, and every other place is as it was
-pub record LayerPut (n : ℕ) (threshold : Float) (centre : List Float) (x m : ℕ) (before after : List ℕ) : Type 0 where
-  pub filled : (y : ℕ) → y < m → getD after (17 * x + y) 0 ≡ columnTo n threshold centre x y (n + 1)
-  pub kept-below : (i : ℕ) → i < 17 * x → getD after i 0 ≡ getD before i 0
-  pub kept-above : (i : ℕ) → 17 * x + m ≤ i → getD after i 0 ≡ getD before i 0
+abbrev pub columnAt : ℕ → Float → List Float → ℕ → ℕ → ℕ
+columnAt n threshold centre x y = wordOf threshold (lineAt n centre x y) (n + 1)
 
 -- bit z of four columns, as the Rust numbers the corners
 abbrev pub fourBits : ℕ → ℕ → ℕ → ℕ → ℕ → ℕ

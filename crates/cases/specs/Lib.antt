@@ -1,4 +1,6 @@
 pub mod Bits
 pub mod Columns
+pub mod Words
 pub mod Layers
 pub mod Faces
+pub mod Lines

@@ -2,13 +2,14 @@
 ghost use mathlib.Core.Path.{_≡_};
 ghost use mathlib.Core.Bool.{true};
 ghost use mathlib.Core.List.{List};
-ghost use Prim.Native.Nat.{ℕ, _/_, _%_, _^_, _+_, _≤_, _<_};
+ghost use Prim.Native.Nat.{ℕ, _+_, _*_, _/_, _%_, _^_, _≤_, _<_};
 ghost use lib.Ieee.{Float};
 ghost use lib.ListN.{length};
 ghost use Rattle.model.specs.Samples.{sampleLength};
 ghost use Rattle.model.specs.Points.{Star, star, regularCase};
 ghost use Rattle.cases.specs.Columns.{Columns, uncut};
-ghost use Rattle.cases.specs.Layers.{columnTo, LayerPut, fourBits};
+ghost use Rattle.cases.specs.Layers.{columnAt, fourBits};
+ghost use Rattle.cases.specs.Words.{WordsPut};
 use crate::bits::bit_at;
 use crate::bits::inside_bit;
 use grid::voxel_blocks::sample;
@@ -19,7 +20,7 @@ use model::Xyz;
 fn column(n: usize, threshold: f32, centre: &[f32], x: usize, y: usize) -> u64
     requires { ⌜ (n ≤ 16) × (length (now centre) ≡ sampleLength n) ⌝ }
     requires { ⌜ (x ≤ n) × (y ≤ n) ⌝ }
-    ensures { λ r. ⌜ r ≡ columnTo n threshold (now (centre .entry)) x y (n + 1) ⌝ }
+    ensures { λ r. ⌜ r ≡ columnAt n threshold (now (centre .entry)) x y ⌝ }
 {
     let m = n + 1;
     let mut bits = 0u64;
@@ -34,7 +35,7 @@ fn column(n: usize, threshold: f32, centre: &[f32], x: usize, y: usize) -> u64
 fn layer(n: usize, threshold: f32, centre: &[f32], x: usize, columns: &mut [u64])
     requires { ⌜ (n ≤ 16) × (length (now centre) ≡ sampleLength n) ⌝ }
     requires { ⌜ (x ≤ n) × (length (now columns) ≡ 289) ⌝ }
-    ensures { λ _. ⌜ LayerPut n threshold (now (centre .entry)) x (n + 1) (now (columns .entry)) (now (columns .exit)) ⌝ }
+    ensures { λ _. ⌜ WordsPut (columnAt n threshold (now (centre .entry)) x) (17 * x) (n + 1) (now (columns .entry)) (now (columns .exit)) ⌝ }
 {
     let m = n + 1;
     let mut y = 0;

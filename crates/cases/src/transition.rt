@@ -5,30 +5,71 @@ ghost use mathlib.Core.List.{List};
 ghost use Prim.Native.Nat.{ℕ, _+_, _*_, _/_, _%_, _^_, _≤_, _<_};
 ghost use lib.Ieee.{Float};
 ghost use lib.ListN.{length};
-ghost use Rattle.model.specs.Sides.{named, neighboursLength};
+ghost use Rattle.model.specs.Sides.{named, neighbourLength, neighboursLength};
 ghost use Rattle.model.specs.Points.{Star, star, transitionCase};
 ghost use Rattle.grid.specs.SideLaws.{NeighbourThere};
+ghost use Rattle.grid.specs.RotationLaws.{OnFineFace};
 ghost use Rattle.cases.specs.Columns.{FineColumns, uncut};
-ghost use Rattle.cases.specs.Faces.{FaceTo, wholeColumn};
+ghost use Rattle.cases.specs.Faces.{wholeColumn};
+ghost use Rattle.cases.specs.Lines.{lineOf, finePlace, stepUp, stepDown};
+ghost use Rattle.cases.specs.Words.{wordOf, WordsPut};
 use crate::bits::bit_at;
 use crate::bits::inside_bit;
+use grid::rotation::neighbour_point;
+use grid::transition_sides::neighbour;
 use grid::transition_sides::next_side;
 use model::Block;
-use points::grid_point::fine_sample;
 
 const SIDES: usize = 6;
 
-// Bit v2 tells whether the fine point (u2, v2) of a side is inside.
-fn column(block: Block, mask: u8, threshold: f32, neighbours: &[f32], side: usize, u2: usize) -> u64
-    requires { ⌜ (NeighbourThere (block .subdivisions) mask (now neighbours) side) × (u2 ≤ 2 * block .subdivisions) ⌝ }
-    ensures { λ r. ⌜ ((centre : List Float) → r ≡ wholeColumn (star block mask threshold centre (now (neighbours .entry))) side u2) ⌝ }
+// The place of the fine point (u2, 0) of a side among the neighbour's samples.
+fn first_place(n: usize, side: usize, u2: usize) -> usize
+    requires { ⌜ OnFineFace n side u2 0 ⌝ }
+    ensures { λ r. ⌜ r ≡ finePlace n side u2 0 ⌝ }
 {
-    let end = 2 * block.subdivisions;
+    let p = neighbour_point(n, side, u2, 0);
+    let m = 2 * n + 1;
+    m * m * p.x + m * p.y + p.z
+}
+
+// How far a step along v leads up among the neighbour's samples: on side 2 it leads down, as V is -Z there.
+fn step_up(n: usize, side: usize) -> usize
+    requires { ⌜ (n ≤ 16) × (side < 6) ⌝ }
+    ensures { λ r. ⌜ r ≡ stepUp n side ⌝ }
+{
+    match side {
+        2 => 0,
+        3 => 1,
+        _ => 2 * n + 1,
+    }
+}
+
+// How far it leads down.
+fn step_down(side: usize) -> usize
+    requires { ⌜ side < 6 ⌝ }
+    ensures { λ r. ⌜ ((n : ℕ) → r ≡ stepDown n side) × (r ≤ 1) ⌝ }
+{
+    match side {
+        2 => 1,
+        _ => 0,
+    }
+}
+
+// Bit v2 tells whether the fine point (u2, v2) of a side is inside.
+fn column(n: usize, threshold: f32, fine: &[f32], side: usize, u2: usize) -> u64
+    requires { ⌜ OnFineFace n side u2 0 ⌝ }
+    requires { ⌜ length (now fine) ≡ neighbourLength n ⌝ }
+    ensures { λ r. ⌜ r ≡ wordOf threshold (lineOf n (now (fine .entry)) side u2) (2 * n + 1) ⌝ }
+{
+    let end = 2 * n;
+    let first = first_place(n, side, u2);
+    let up = step_up(n, side);
+    let down = step_down(side);
     let mut bits = 0u64;
     let mut v2 = 0;
     while v2 <= end {
-        let sample = fine_sample(block, mask, neighbours, side, u2, v2);
-        bits += inside_bit(threshold, sample) << v2;
+        let at = first + v2 * up - v2 * down;
+        bits += inside_bit(threshold, fine[at]) << v2;
         v2 += 1;
     }
     bits
@@ -44,12 +85,13 @@ fn face(
 )
     requires { ⌜ NeighbourThere (block .subdivisions) mask (now neighbours) side ⌝ }
     requires { ⌜ length (now columns) ≡ 198 ⌝ }
-    ensures { λ _. ⌜ ((centre : List Float) → FaceTo (star block mask threshold centre (now (neighbours .entry))) side (2 * block .subdivisions + 1) (now (columns .entry)) (now (columns .exit))) ⌝ }
+    ensures { λ _. ⌜ ((centre : List Float) → WordsPut (wholeColumn (star block mask threshold centre (now (neighbours .entry))) side) (33 * side) (2 * block .subdivisions + 1) (now (columns .entry)) (now (columns .exit))) ⌝ }
 {
     let end = 2 * block.subdivisions;
+    let fine = neighbour(block.subdivisions, mask, neighbours, side);
     let mut u2 = 0;
     while u2 <= end {
-        columns[33 * side + u2] = column(block, mask, threshold, neighbours, side, u2);
+        columns[33 * side + u2] = column(block.subdivisions, threshold, fine, side, u2);
         u2 += 1;
     }
 }

@@ -1,5 +1,5 @@
 -- The vertex of a code, put together from what the functions over its two points ensure.
-use Prim.Native.Nat.{ℕ, _+_, _≤_}
+use Prim.Native.Nat.{ℕ}
 use mathlib.Core.Path.{_≡_}
 use native.Mathlib.Omega.{arith}
 use Rattle.tables.specs.Codes.{pointA, pointB}

@@ -1,6 +1,6 @@
 -- Laws of a cell's vertices and triangles, whatever cell it is: how many there are, what the buffers hold after one more, and what
 -- a whole cell leaves.
-use Prim.Native.Nat.{ℕ, zero, suc, _+_, _-_, _*_, _≤_, _<_}
+use Prim.Native.Nat.{ℕ, zero, suc, _+_, _-_, _≤_, _<_}
 use mathlib.Core.Path.{_≡_, refl, sym, ap, _∙_}
 use mathlib.Core.Bool.{Bool, true, false, cond}
 use mathlib.Core.List.{List, [], _∷_, _++_, append-assoc}
@@ -11,10 +11,10 @@ use lib.Ieee.{Float}
 use lib.ListN.{length, getD, set, replicate, length-append, length-set}
 use lib.Seq.{set-at}
 use Rattle.model.specs.declared.Triangle.{Triangle}
-use Rattle.model.specs.Steps.{iterate, listed, total}
-use Rattle.model.specs.Mesh.{Turn, Cell, Fill, Made, madeBy, fillStep, fillTo, triangleOf}
+use Rattle.model.specs.Steps.{listed, total}
+use Rattle.model.specs.Mesh.{Turn, Cell, Fill, madeBy, fillStep, fillTo, triangleOf}
 use Rattle.model.specs.Extraction.{vertexFloats, triangleIndices}
-use Rattle.cells.specs.Buffers.{layVertices, layTriangles, pad}
+use Rattle.cells.specs.Buffers.{layTriangles, pad}
 use Rattle.cells.specs.Steps.{iterate-upto, iterate-keeps, length-listed, listed-same}
 use Rattle.cells.specs.Laying.{lay-none, lay-append, length-lay}
 use Rattle.cells.specs.Posts.{Room, TurnPut, FillPut, CellPut, Adds, Nothing}

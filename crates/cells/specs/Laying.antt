@@ -1,10 +1,10 @@
 -- Laws of items laid into a lent buffer, whatever the items are and however many places each takes.
-use Prim.Native.Nat.{ℕ, zero, suc, _+_, _*_, _≤_}
+use Prim.Native.Nat.{ℕ, suc, _+_, _*_, _≤_}
 use mathlib.Core.Path.{_≡_, refl, sym, ap, _∙_}
 use mathlib.Core.List.{List, [], _∷_, _++_, append-assoc, append-nil}
 use native.Mathlib.Nat.{add-zero, add-suc, suc-add, mul-add, mul-suc, mul-zero}
 use native.Mathlib.Omega.{arith}
-use lib.ListN.{length, set, drop, length-append, drop-of-length-le}
+use lib.ListN.{length, set, length-append, drop-of-length-le}
 use lib.Seq.{sets, length-sets, sets-eq}
 use Rattle.model.specs.Steps.{each}
 use Rattle.cells.specs.Buffers.{lay}

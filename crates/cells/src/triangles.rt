@@ -1,6 +1,6 @@
 // A cell's triangles, from its class's row of cell data and the indices of its vertices. Both kinds of cell have such a row.
 ghost use mathlib.Core.Path.{_≡_};
-ghost use Prim.Native.Nat.{ℕ, _+_, _*_, _≤_, _<_};
+ghost use Prim.Native.Nat.{_+_, _*_, _<_};
 ghost use lib.ListN.{length, getD};
 ghost use Rattle.tables.specs.Cases.{verticesOf, trianglesOf, cornerOf};
 ghost use Rattle.model.specs.Steps.{listed};

@@ -2,14 +2,13 @@
 ghost use mathlib.Core.Path.{_≡_};
 ghost use mathlib.Core.Bool.{false};
 ghost use mathlib.Core.List.{List};
-ghost use Prim.Native.Nat.{ℕ, _+_, _*_, _≤_, _<_};
+ghost use Prim.Native.Nat.{_+_, _≤_, _<_};
 ghost use lib.Ieee.{Float};
 ghost use lib.ListN.{length};
 ghost use Rattle.tables.specs.Cases.{verticesOf};
 ghost use Rattle.model.specs.Samples.{sampleLength};
 ghost use Rattle.model.specs.Points.{star, cornerPoint};
 ghost use Rattle.model.specs.Mesh.{storeLength, madeBy, fillTo, regularVertex, transitionVertex};
-ghost use Rattle.grid.specs.Places.{Within};
 ghost use Rattle.cells.specs.Kinds.{turnAt, placeAt, InBlock, Placed, slots, Ready, Usable, cellOf, Coded};
 ghost use Rattle.cells.specs.Posts.{Room, TurnPut, FillPut};
 use crate::CellIndex;

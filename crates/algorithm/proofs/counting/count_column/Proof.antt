@@ -1,7 +1,7 @@
 -- What a cell that is cut adds is added up, whatever was there before; the cells between add nothing. Assumes nothing.
 use borrow.Author.Needs.{needs}
 use native.Mathlib.Omega.{arith}
-use Prim.Native.Nat.{ℕ, _≤_, _-_}
+use Prim.Native.Nat.{_≤_, _-_}
 use Rattle.model.specs.Steps.{iterate}
 use Rattle.model.specs.Points.{Star}
 use Rattle.model.specs.Mesh.{cellStep, regularCell}

@@ -1,7 +1,7 @@
 -- What a column adds is added up, whatever was there before. Assumes nothing.
 use borrow.Author.Needs.{needs}
 use native.Mathlib.Omega.{arith}
-use Prim.Native.Nat.{ℕ, _≤_, _*_, _-_}
+use Prim.Native.Nat.{_≤_, _*_, _-_}
 use Rattle.model.specs.Steps.{iterate}
 use Rattle.model.specs.Points.{Star}
 use Rattle.model.specs.Mesh.{regularColumn}

@@ -1,18 +1,16 @@
 -- `regular::column` meets its contract. The loop's invariant: the word so far holds the points passed. Assumes nothing.
-use Prim.Native.Nat.{suc, _+_, _-_, _≤_}
-use mathlib.Core.Path.{_≡_, refl, ap, _∙_}
-use native.Mathlib.Numerals.{add-one}
+use Prim.Native.Nat.{_+_, _-_, _≤_}
+use mathlib.Core.Path.{_≡_, refl}
 use native.Mathlib.Omega.{arith}
 use borrow.Author.Needs.{needs}
-use lib.Ieee.{Float}
-use Rattle.model.specs.Formulas.{insideBit}
-use Rattle.cases.specs.Layers.{columnTo}
-use Rattle.cases.proofs.Filling.{one-more-bit, word-fits}
+use Rattle.cases.specs.Layers.{lineAt}
+use Rattle.cases.specs.Words.{wordOf}
+use Rattle.cases.proofs.Words.{word-next, word-room}
 use Rattle.cases.proofs.regular.column.Statement.{statement}
 use Rattle.cases.proofs.regular.column.Tie as tie
 
 abbrev Inv-loop : tie.InvT-loop
-Inv-loop n threshold centre x y m bits₀ z₀ bits z = (m ≡ n + 1) × ((z ≤ m) × (bits ≡ columnTo n threshold centre x y z))
+Inv-loop n threshold centre x y m bits₀ z₀ bits z = (m ≡ n + 1) × ((z ≤ m) × (bits ≡ wordOf threshold (lineAt n centre x y) z))
 
 abbrev μ-loop : tie.MeasureT-loop
 μ-loop n threshold centre x y m bits₀ z₀ bits z = m - z
@@ -36,9 +34,9 @@ add-bits : tie.Need-add-bits Inv-loop μ-loop
 add-bits c =
     let l = c .before .before .before .loop in
     let a = c .before .before .before .before .before .args in
-    let bit = c .inside-bit .ensures .0 ∙ ap (λ (v : Float). insideBit (a .threshold) v) (c .before .sample .ensures) in
-    let more = one-more-bit (a .n) (a .threshold) (a .centre .now) (a .x) (a .y) (l .z) (c .inside-bit .result) (omega arith) bit in
-    omega (arith, l .inv .1 .1, more, word-fits (a .n) (a .threshold) (a .centre .now) (a .x) (a .y) (suc (l .z)) (omega arith))
+    let room = word-room (a .threshold) (lineAt (a .n) (a .centre .now) (a .x) (a .y)) (l .bits) (c .inside-bit .result) (l .z) _ (omega arith)
+    (l .inv .1 .1) (c .inside-bit .ensures .0) (c .before .sample .ensures) in
+    omega (arith, room)
 
 add-z : tie.Need-add-z Inv-loop μ-loop
 add-z c = search needs
@@ -49,10 +47,14 @@ loop-less c = search needs
 loop-again : tie.Need-loop-again Inv-loop μ-loop
 loop-again c =
     let l = c .before .before .before .loop in
-    let a = c .before .before .before .before .before .args in
-    let bit = c .inside-bit .ensures .0 ∙ ap (λ (v : Float). insideBit (a .threshold) v) (c .before .sample .ensures) in
-    let more = one-more-bit (a .n) (a .threshold) (a .centre .now) (a .x) (a .y) (l .z) (c .inside-bit .result) (omega arith) bit in
-    (l .inv .0, (omega arith, rw (add-one, l .inv .1 .1) more))
+    let a = c .before .before .before .before .before .args in (
+      l .inv .0,
+      (
+        omega arith,
+        word-next (a .threshold) (lineAt (a .n) (a .centre .now) (a .x) (a .y)) (l .bits) (c .inside-bit .result) (l .z) _ (omega arith)
+            (l .inv .1 .1) (c .inside-bit .ensures .0) (c .before .sample .ensures),
+      ),
+    )
 
 returns : tie.Need-returns Inv-loop μ-loop
 returns c =

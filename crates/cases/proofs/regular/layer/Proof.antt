@@ -1,18 +1,18 @@
 -- `regular::layer` meets its contract. The loop's invariant: the columns passed are filled, and every other place is as it was. Assumes nothing.
-use Prim.Native.Nat.{_+_, _-_, _≤_}
+use Prim.Native.Nat.{_*_, _+_, _-_, _≤_}
 use mathlib.Core.Path.{_≡_, refl}
-use native.Mathlib.Numerals.{add-one}
 use native.Mathlib.Omega.{arith}
 use borrow.Author.Needs.{needs}
 use lib.ListN.{length, length-set}
-use Rattle.cases.specs.Layers.{LayerPut}
-use Rattle.cases.proofs.Filling.{none-put, one-more-column}
+use Rattle.cases.specs.Layers.{columnAt}
+use Rattle.cases.specs.Words.{WordsPut}
+use Rattle.cases.proofs.Words.{none-put, one-more}
 use Rattle.cases.proofs.regular.layer.Statement.{statement}
 use Rattle.cases.proofs.regular.layer.Tie as tie
 
 abbrev Inv-loop : tie.InvT-loop
 Inv-loop n threshold centre x columns₀ m y₀ columns y =
-    (m ≡ n + 1) × ((y ≤ m) × ((length columns ≡ 289) × LayerPut n threshold centre x y columns₀ columns))
+    (m ≡ n + 1) × ((y ≤ m) × ((length columns ≡ 289) × WordsPut (columnAt n threshold centre x) (17 * x) y columns₀ columns))
 
 abbrev μ-loop : tie.MeasureT-loop
 μ-loop n threshold centre x columns₀ m y₀ columns y = m - y
@@ -23,7 +23,7 @@ add-m c = search needs
 loop-holds : tie.Need-loop-holds Inv-loop μ-loop
 loop-holds c =
     let a = c .before .before .args in
-    (refl, (omega arith, (omega arith, none-put (a .n) (a .threshold) (a .centre .now) (a .x) (a .columns .now))))
+    (refl, (omega arith, (omega arith, none-put (columnAt (a .n) (a .threshold) (a .centre .now) (a .x)) (17 * a .x) (a .columns .now))))
 
 column-requires : tie.Need-column-requires Inv-loop μ-loop
 column-requires c κs = search needs
@@ -50,8 +50,8 @@ loop-again : tie.Need-loop-again Inv-loop μ-loop
 loop-again c =
     let l = c .before .before .loop in
     let a = c .before .before .before .before .before .args in
-    let more = one-more-column (a .n) (a .threshold) (a .centre .now) (a .x) (l .y) (c .column .result) (a .columns .now) (l .columns) (l .inv .1 .1 .1) (omega arith) (c .column .ensures) in
-    (l .inv .0, (omega arith, (rw length-set (omega arith), rw add-one more)))
+    let more = one-more (columnAt (a .n) (a .threshold) (a .centre .now) (a .x)) (17 * a .x) (l .y) (c .column .result) (a .columns .now) (l .columns) (l .inv .1 .1 .1) (omega arith) (c .column .ensures) in
+    (l .inv .0, (omega arith, (rw length-set (omega arith), more)))
 
 same-length : tie.Need-same-length Inv-loop μ-loop
 same-length c = omega arith

@@ -1,5 +1,5 @@
 -- `judge::samples::all_usable` meets its contract. The invariant: the flag tells whether the samples before this place can be used.
-use Prim.Native.Nat.{_+_, _≤_, _-_}
+use Prim.Native.Nat.{_≤_, _-_}
 use mathlib.Core.Path.{_≡_}
 use borrow.Author.Needs.{needs}
 use native.Mathlib.Omega.{arith}
