@@ -1,7 +1,8 @@
 //! Ours against the Rust, same blocks, same process: microseconds a block, judging included.
 //!
-//! `bench` prints a table. `bench ours TIMES N MASK smooth` (or `rust`, or `noisy`) meshes one such
-//! block that often and prints nothing: `instructions` takes two such runs apart.
+//! `bench` prints a table. `bench parts` prints where our time goes. `bench ours TIMES N MASK smooth`
+//! (or `rust`, or `noisy`) meshes one such block that often and prints nothing: `instructions` takes
+//! two such runs apart.
 
 use oracle::record::{block_length, Block};
 use oracle::Star;
@@ -86,7 +87,13 @@ impl Ours {
         }
     }
 
-    fn mesh(&mut self, block: &Block) -> sirveshan::Counts {
+    /// With the first places of the store and of the vertices lent, so many of each.
+    fn extract(
+        &mut self,
+        block: &Block,
+        places: usize,
+        floats: usize,
+    ) -> Result<sirveshan::Counts, sirveshan::Refusal> {
         let Block { base, size, n, .. } = *block;
         sirveshan::extract(
             &sirveshan::Block { base, size, subdivisions: n },
@@ -94,11 +101,15 @@ impl Ours {
             block.threshold,
             &block.centre,
             &block.neighbours,
-            &mut self.store,
-            &mut self.vertices,
+            &mut self.store[..places],
+            &mut self.vertices[..floats],
             &mut self.triangles,
         )
-        .expect("a block that is accepted")
+    }
+
+    fn mesh(&mut self, block: &Block) -> sirveshan::Counts {
+        self.extract(block, self.store.len(), self.vertices.len())
+            .expect("a block that is accepted")
     }
 }
 
@@ -127,7 +138,10 @@ fn table() {
                 let star = Star::new(&block);
                 let counts = ours.mesh(&block);
                 let mesh = star.extract();
-                assert_eq!((counts.vertices, counts.triangles), (mesh.vertices.len(), mesh.triangles.len()));
+                assert_eq!(
+                    (counts.vertices, counts.triangles),
+                    (mesh.vertices.len(), mesh.triangles.len())
+                );
                 let our_time = best(|| {
                     black_box(ours.mesh(black_box(&block)));
                 });
@@ -141,6 +155,30 @@ fn table() {
                     rust_time / our_time
                 );
             }
+        }
+    }
+}
+
+/// A call without a store is refused once all is judged, and one without room once all is counted.
+fn parts() {
+    println!("| face | mask | judging | tables, columns, counting | clearing, writing |");
+    println!("|---|---|---|---|---|");
+    let mut ours = Ours::new();
+    let (places, floats) = (ours.store.len(), ours.vertices.len());
+    for shape in SHAPES {
+        for mask in [0, 63] {
+            let block = block(16, mask, shape);
+            let mut time = |places, floats| {
+                best(|| {
+                    let _ = black_box(ours.extract(black_box(&block), places, floats));
+                })
+            };
+            let (judged, counted, all) = (time(0, floats), time(places, 0), time(places, floats));
+            println!(
+                "| {shape} | {mask} | {judged:.1} | {:.1} | {:.1} |",
+                counted - judged,
+                all - counted
+            );
         }
     }
 }
@@ -171,8 +209,10 @@ fn main() {
     let words: Vec<String> = std::env::args().skip(1).collect();
     if words.is_empty() {
         table();
+    } else if words == ["parts"] {
+        parts();
     } else if many(&words).is_none() {
-        eprintln!("bench | bench ours|rust TIMES N MASK smooth|noisy");
+        eprintln!("bench | bench parts | bench ours|rust TIMES N MASK smooth|noisy");
         std::process::exit(1);
     }
 }
