@@ -3,3 +3,4 @@ mod Staying
 mod Turns
 mod Making
 mod ByCase
+mod Inside

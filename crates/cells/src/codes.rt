@@ -1,8 +1,9 @@
 // What a vertex code comes to in its cell: whether it makes a vertex, the cell that it steps back to, and its place in the index store.
 ghost use mathlib.Core.Path.{_≡_};
 ghost use mathlib.Core.Bool.{false, cond};
-ghost use Prim.Native.Nat.{_≤_};
+ghost use Prim.Native.Nat.{_≤_, _<_};
 ghost use lib.ListN.{length, getD};
+ghost use Rattle.tables.specs.RulesSlots.{crossedAtTop};
 ghost use Rattle.model.specs.Steps.{total};
 ghost use Rattle.model.specs.Mesh.{regularLeaves, transitionLeaves};
 ghost use Rattle.cells.specs.Kinds.{makesAt, regularBack, transitionBack, backFrom};
@@ -90,4 +91,14 @@ fn made_by(at: CellIndex, code: u16) -> usize
     ensures { λ r. ⌜ (r ≡ cond (makesAt at code) 1 0) × (r ≤ 1) ⌝ }
 {
     if makes(at, code) { 1 } else { 0 }
+}
+
+// The same of a regular cell that touches no low face of the block: one vertex on each crossed edge at its corner 7, since the others are in
+// the store.
+pub fn count_made_inside(case: usize) -> usize
+    requires { ⌜ case < 256 ⌝ }
+    ensures { λ r. ⌜ (r ≡ crossedAtTop case) × (r ≤ 3) ⌝ }
+{
+    let top = case / 128;
+    (top + case / 8) % 2 + (top + case / 32) % 2 + (top + case / 64) % 2
 }

@@ -9,6 +9,8 @@ ghost use Rattle.cases.specs.Columns.{Columns};
 ghost use Rattle.cells.specs.Posts.{Room, CellPut, Adds};
 ghost use Rattle.cells.specs.Rows.{RegularTables};
 use crate::CellIndex;
+use crate::codes::count_made_inside;
+use crate::triangles::triangle_count;
 use crate::whole_cells::count_cell;
 use crate::whole_cells::write_cell;
 use cases::bits::is_uncut;
@@ -88,9 +90,16 @@ pub fn count_regular_cell(
             triangles: 0,
         };
     }
+    let row = regular_case_cell(classes, cells, case);
+    if (0 < x) & ((0 < y) & (0 < z)) {
+        return Counts {
+            vertices: count_made_inside(case),
+            triangles: triangle_count(row),
+        };
+    }
     count_cell(
         CellIndex::Regular(Xyz { x, y, z }),
         regular_case_codes(codes, case),
-        regular_case_cell(classes, cells, case),
+        row,
     )
 }

@@ -1,17 +1,18 @@
 -- What the mesher needs of a used regular code: its points, its edge and where the edge is stored. A code that steps back stands for the same
--- edge as the new code of the cell that it steps to, with the same index; a new code stands for its own.
+-- edge as the new code of the cell that it steps to, with the same index; a new code stands for its own. And how many of a case's codes are new.
 use mathlib.Core.Path.{_≡_, ap}
 use mathlib.Core.Bool.{Bool}
 use mathlib.Core.List.{[], _∷_}
-use Prim.Native.Nat.{ℕ, _+_, _*_, _≤_, _<_}
+use Prim.Native.Nat.{ℕ, _+_, _*_, _/_, _%_, _≤_, _<_}
 use native.Mathlib.Omega.{arith}
 use lib.Dec.{T, eqb, leb, ltb, eqb→eq, leb→le, le→leb, ltb→lt}
 use lib.ListN.{getD}
 use Rattle.tables.specs.Codes.{pointA, pointB, stepX, stepY, stepZ, isNew, reuseIndex}
 use Rattle.tables.specs.Corners.{cornerX, cornerY, cornerZ, axisOf, regularUsed}
 use Rattle.tables.specs.Each.{both, both-left, both-right, then, then-holds, below, all}
-use Rattle.tables.specs.Counting.{one, has, every, every-item}
-use Rattle.tables.specs.Cases.{regularCode, regularVertices}
+use Rattle.tables.specs.Counting.{one, howMany, has, every, every-item}
+use Rattle.tables.specs.RegularRows as regular
+use Rattle.tables.specs.Cases.{regularClass, regularCell, regularCodes, regularCode, regularVertices}
 use Rattle.tables.specs.RulesEdges.{regular-lists}
 
 -- the new code of each reuse index, 1 to 3: its edge is the one that a cell stores at that index
@@ -131,3 +132,20 @@ back-to-new code new c n fresh same =
       y = omega (arith, c .slot-y, n .slot-y, n .not-both, ap (λ (k : ℕ). cornerY (pointA k)) slot);
       z = omega (arith, c .slot-z, n .slot-z, n .not-both, ap (λ (k : ℕ). cornerZ (pointA k)) slot);
     }
+
+-- ---- how many of a case's codes are new
+
+-- one for each crossed edge at corner 7, whose edges no cell before this one has
+abbrev pub crossedAtTop : ℕ → ℕ
+crossedAtTop case = (case / 128 + case / 8) % 2 + (case / 128 + case / 32) % 2 + (case / 128 + case / 64) % 2
+
+unfoldable newTest : ℕ → Bool
+newTest case = eqb (howMany (λ i. eqb (isNew (regularCode case i)) 1) (regularVertices case)) (crossedAtTop case)
+
+new-right : T (below newTest 256)
+unfolding regular.classes regular.cellRows regular.vertexRows regularClass regularCell regularCodes regularCode regularVertices both newTest
+new-right = tt
+
+pub new-codes : (case : ℕ) → case < 256 → howMany (λ i. eqb (isNew (regularCode case i)) 1) (regularVertices case) ≡ crossedAtTop case
+unfolding newTest
+new-codes case h = eqb→eq _ _ (all newTest 256 new-right case h)
