@@ -11,12 +11,12 @@ ghost use Rattle.cases.specs.Columns.{Columns, FineColumns};
 ghost use Rattle.cells.specs.Rows.{RegularTables, TransitionTables};
 ghost use Rattle.algorithm.specs.Posts.{plus, Grows, Counted, SomeColumns, SomeSide, SomeFineColumns};
 use crate::NONE;
-use crate::SIDES;
 use cases::bits::next_set;
 use cases::regular::cut_cells;
 use cases::transition::cut_row;
 use cells::regular_cells::count_regular_cell;
 use cells::transition_cells::count_transition_cell;
+use grid::transition_sides::SIDES;
 use grid::transition_sides::next_side;
 use model::Counts;
 

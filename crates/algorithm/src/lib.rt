@@ -32,8 +32,6 @@ use tables::transition_cell_data;
 use tables::transition_vertex_data;
 use writing::write_mesh;
 
-const SIDES: usize = 6;
-
 const NONE: Counts = Counts {
     vertices: 0,
     triangles: 0,

@@ -16,11 +16,11 @@ ghost use Rattle.cases.specs.Words.{wordOf, WordsPut};
 use crate::bits::bit_at;
 use crate::bits::inside_bit;
 use grid::rotation::neighbour_point;
+use grid::transition_sides::SIDES;
 use grid::transition_sides::neighbour;
 use grid::transition_sides::next_side;
+use grid::voxel_blocks::in_block;
 use model::Block;
-
-const SIDES: usize = 6;
 
 // The place of the fine point (u2, 0) of a side among the neighbour's samples.
 fn first_place(n: usize, side: usize, u2: usize) -> usize
@@ -28,8 +28,7 @@ fn first_place(n: usize, side: usize, u2: usize) -> usize
     ensures { λ r. ⌜ r ≡ finePlace n side u2 0 ⌝ }
 {
     let p = neighbour_point(n, side, u2, 0);
-    let m = 2 * n + 1;
-    m * m * p.x + m * p.y + p.z
+    in_block(2 * n, p.x, p.y, p.z)
 }
 
 // How far a step along v leads up among the neighbour's samples: on side 2 it leads down, as V is -Z there.

@@ -8,6 +8,8 @@ ghost use Rattle.model.specs.Sides.{named, namedBelow, neighbourLength, neighbo
 ghost use Rattle.grid.specs.SideLaws.{NextSide, NeighbourThere};
 use crate::voxel_blocks::sample_length;
 
+pub const SIDES: usize = 6;
+
 pub fn is_named(mask: u8, side: usize) -> bool
     requires { ⌜ side < 6 ⌝ }
     ensures { λ r. ⌜ r ≡ named mask side ⌝ }

@@ -27,7 +27,7 @@ pub fn sample_length(n: usize) -> usize
     square * m + 6 * square
 }
 
-fn in_block(n: usize, x: usize, y: usize, z: usize) -> usize
+pub fn in_block(n: usize, x: usize, y: usize, z: usize) -> usize
     requires { ⌜ (n ≤ 32) × ((x ≤ n) × ((y ≤ n) × (z ≤ n))) ⌝ }
     ensures { λ r. ⌜ (r ≡ inBlock n x y z) × (r < sampleLength n) ⌝ }
 {

@@ -12,6 +12,7 @@ pub mod faces;
 mod lengths;
 mod samples;
 
+use grid::voxel_blocks::MOST_SUBDIVISIONS;
 use lengths::judge_lengths;
 use model::Block;
 use model::Counts;
@@ -21,13 +22,9 @@ use model::Vector;
 use model::Verdict;
 use samples::judge_samples;
 
-const MOST_SUBDIVISIONS: usize = 16;
-
 const LIMIT: f32 = 1048576.0;
 
 const LEAST_SIZE: f32 = 0.0009765625;
-
-const SIDES: usize = 6;
 
 // The number of a refusal, and its three numbers.
 pub fn numbers_of(refusal: Refusal) -> Numbers

@@ -105,14 +105,7 @@ pub fn regular_point(block: Block, mask: u8, centre: &[f32], p: Xyz) -> GridPoin
 }
 
 // The fine point (u2, v2) of a named side has the neighbour's sample.
-pub fn fine_sample(
-    block: Block,
-    mask: u8,
-    neighbours: &[f32],
-    side: usize,
-    u2: usize,
-    v2: usize,
-) -> f32
+fn fine_sample(block: Block, mask: u8, neighbours: &[f32], side: usize, u2: usize, v2: usize) -> f32
     requires { ⌜ NeighbourThere (block .subdivisions) mask (now neighbours) side ⌝ }
     requires { ⌜ OnFineFace (block .subdivisions) side u2 v2 ⌝ }
     ensures { λ r. ⌜ ((t : Float) (centre : List Float) → r ≡ fineSample (star block mask t centre (now (neighbours .entry))) side u2 v2) ⌝ }
