@@ -36,7 +36,7 @@ count-regular-cell-requires : tie.Need-count-regular-cell-requires Inv-loop μ-l
 count-regular-cell-requires c κs =
     let b = c .before .before .before .before in
     let p = b .pre .1 .1 in
-    (b .pre .0, (p .0, (p .1 .0, (p .1 .1, c .loop-test .taken))))
+    (b .pre .0, (p .0, (p .1 .0, (p .1 .1, omega (arith, c .loop-test .taken)))))
 
 plus-requires : tie.Need-plus-requires Inv-loop μ-loop
 plus-requires c κs =

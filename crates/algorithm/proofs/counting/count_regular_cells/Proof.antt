@@ -24,7 +24,7 @@ loop-holds c = (omega arith, λ s h. grows-none)
 count-layer-requires : tie.Need-count-layer-requires Inv-loop μ-loop
 count-layer-requires c κs =
     let b = c .before .before in
-    (b .pre .0, (b .pre .1 .0, (b .pre .1 .1, c .loop-test .taken)))
+    (b .pre .0, (b .pre .1 .0, (b .pre .1 .1, omega (arith, c .loop-test .taken))))
 
 plus-requires : tie.Need-plus-requires Inv-loop μ-loop
 plus-requires c κs =

@@ -28,7 +28,7 @@ count-row-requires : tie.Need-count-row-requires Inv-loop μ-loop
 count-row-requires c κs =
     let b = c .before .before in
     let p = b .pre .1 .1 in
-    (b .pre .0, (b .pre .1 .0, (p .0, (p .1, c .loop-test .taken))))
+    (b .pre .0, (b .pre .1 .0, (p .0, (p .1, omega (arith, c .loop-test .taken)))))
 
 plus-requires : tie.Need-plus-requires Inv-loop μ-loop
 plus-requires c κs =

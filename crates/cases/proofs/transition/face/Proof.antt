@@ -37,7 +37,7 @@ loop-holds c =
 column-requires : tie.Need-column-requires Inv-loop μ-loop
 column-requires c κs =
     let there = c .before .before .before .before .before .before .pre .0 in (
-      record { few = there .few; side-is = there .side-is; u-in = c .loop-test .taken; v-in = omega arith },
+      record { few = there .few; side-is = there .side-is; u-in = omega (arith, c .loop-test .taken); v-in = omega arith },
       c .before .before .neighbour .ensures .1,
     )
 
