@@ -4,7 +4,8 @@
 //! (or `rust`, or `noisy`) meshes one such block that often and prints nothing: `instructions` takes
 //! two such runs apart.
 
-use oracle::record::{block_length, Block};
+use blocks::points;
+use oracle::record::Block;
 use oracle::Star;
 use std::hint::black_box;
 use std::time::{Duration, Instant};
@@ -35,37 +36,14 @@ fn value(shape: &str, point: [i64; 3], n: usize) -> f32 {
     }
 }
 
-/// The points of a block in the order of their places.
-fn points(n: i64) -> Vec<[i64; 3]> {
-    let mut all = Vec::new();
-    for x in 0..=n {
-        for y in 0..=n {
-            all.extend((0..=n).map(|z| [x, y, z]));
-        }
-    }
-    for axis in 0..3 {
-        for across in [-1, n + 1] {
-            for i in 0..=n {
-                all.extend((0..=n).map(|j| match axis {
-                    0 => [across, i, j],
-                    1 => [i, across, j],
-                    _ => [i, j, across],
-                }));
-            }
-        }
-    }
-    assert_eq!(all.len(), block_length(n as usize));
-    all
-}
-
 fn block(n: usize, mask: u8, shape: &str) -> Block {
-    let centre = points(n as i64).iter().map(|p| value(shape, p.map(|k| 2 * k), n)).collect();
+    let centre = points(n as i64).map(|p| value(shape, p.map(|k| 2 * k), n)).collect();
     let mut neighbours = Vec::new();
     for side in (0..6).filter(|side| mask >> side & 1 == 1) {
         let mut origin = [0; 3];
         origin[side / 2] = if side % 2 == 0 { -2 * n as i64 } else { 2 * n as i64 };
-        let at = |p: &[i64; 3]| value(shape, std::array::from_fn(|k| p[k] + origin[k]), n);
-        neighbours.extend(points(2 * n as i64).iter().map(at));
+        let at = |p: [i64; 3]| value(shape, std::array::from_fn(|k| p[k] + origin[k]), n);
+        neighbours.extend(points(2 * n as i64).map(at));
     }
     Block { n, mask, threshold: 0.0, base: [10.0, 20.0, 30.0], size: 8.0, centre, neighbours }
 }

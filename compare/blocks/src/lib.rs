@@ -9,7 +9,7 @@ use oracle::record::Block;
 use random::Random;
 
 /// The points of a block of `n` subdivisions, in the order of their places.
-fn points(n: i64) -> impl Iterator<Item = Point> {
+pub fn points(n: i64) -> impl Iterator<Item = [i64; 3]> {
     let in_block =
         (0..=n).flat_map(move |x| (0..=n).flat_map(move |y| (0..=n).map(move |z| [x, y, z])));
     let faces = (0..6).flat_map(move |side| {
