@@ -11,12 +11,12 @@ use Rattle.laws.specs.Counting.{one}
 use Rattle.model.specs.declared.Xyz.{Xyz}
 use Rattle.model.specs.declared.Vertex.{Vertex}
 use Rattle.model.specs.declared.Triangle.{Triangle}
-use Rattle.laws.specs.Steps.{iterate, total}
+use Rattle.laws.specs.Steps.{total}
 use Rattle.model.specs.Samples.{inBlock, sampleOf}
 use Rattle.model.specs.Rotations.{xyz}
 use Rattle.model.specs.Formulas.{vector, insideBit}
 use Rattle.model.specs.Star.{Star, subdivisions}
-use Rattle.model.specs.Mesh.{Made, Mesh, noEdge, emptyMesh, cellStep, regularCell, regularColumn, regularLayer}
+use Rattle.model.specs.Mesh.{Made, Mesh, noEdge, regularTo}
 
 -- ---- grid edges
 
@@ -106,13 +106,6 @@ abbrev pub Carried : Star → Mesh → Type 0
 Carried s m = (e : Edge) → OfBlock s e → ((i : ℕ) × Names (m .made) i (number s e)) ↔ Crossed s e
 
 -- ---- 2: every triangle corner names a vertex that was already made, on an edge of the triangle's own cell
-
--- the mesh of the cells before the cell (x, y, z)
-unfoldable pub regularTo : Star → ℕ → ℕ → ℕ → Mesh
-regularTo s x y z =
-    iterate (λ w. cellStep (regularCell s x y w)) z
-    (iterate (regularColumn s x) y
-    (iterate (regularLayer s) x (emptyMesh (subdivisions s))))
 
 pub record IsCell (s : Star) (x y z : ℕ) : Type 0 where
   pub x-in : x < subdivisions s

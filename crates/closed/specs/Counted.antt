@@ -12,8 +12,8 @@ use Rattle.tables.specs.Sides.{side, sidesOf, regular-sides}
 use Rattle.laws.specs.Steps.{total}
 use Rattle.model.specs.Star.{Star, subdivisions}
 use Rattle.model.specs.Points.{regularCase}
-use Rattle.model.specs.Mesh.{Made, Mesh, triangleOf, emptyMesh, regularMesh}
-use Rattle.closed.specs.Clauses.{Edge, number, noVertex, edgeAt, run, sides, runs, regularTo, IsCell, OwnVertex}
+use Rattle.model.specs.Mesh.{Made, Mesh, triangleOf, emptyMesh, regularMesh, regularTo}
+use Rattle.closed.specs.Clauses.{Edge, number, noVertex, edgeAt, run, sides, runs, IsCell, OwnVertex}
 use Rattle.laws.specs.Sums.{total-same, total-more, weighed-gather, square, cube}
 use Rattle.closed.specs.Places.{rank}
 use Rattle.closed.specs.Cells.{codeEdge, codeAt, byte-edge}

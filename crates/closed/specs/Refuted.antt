@@ -19,8 +19,8 @@ use Rattle.model.specs.Samples.{sampleLength, placeOf, valueAt}
 use Rattle.model.specs.Formulas.{vector}
 use Rattle.model.specs.Star.{Star, starFrom, subdivisions}
 use Rattle.model.specs.Points.{regularCase}
-use Rattle.model.specs.Mesh.{Made, Mesh, fillStep, fillTo, triangleOf, emptyMesh, cellStep, regularPlace, regularEdge, regularLeaves, regularUse, regularCell, regularColumn, regularLayer, regularMesh}
-use Rattle.closed.specs.Clauses.{Edge, edge, high, number, OfBlock, OfCell, Crossed, edgeAt, Names, triangleAt, run, sides, runs, Carried, regularTo, Corners, InnerPair, Balanced}
+use Rattle.model.specs.Mesh.{Made, Mesh, fillStep, fillTo, triangleOf, emptyMesh, cellStep, regularPlace, regularEdge, regularLeaves, regularUse, regularCell, regularColumn, regularLayer, regularMesh, regularTo}
+use Rattle.closed.specs.Clauses.{Edge, edge, high, number, OfBlock, OfCell, Crossed, edgeAt, Names, triangleAt, run, sides, runs, Carried, Corners, InnerPair, Balanced}
 use Rattle.closed.specs.Wrong.{emptied, firstOnly, lastDropped, firstTurned, slipped}
 
 -- ---- small blocks

@@ -14,10 +14,11 @@ use Rattle.tables.specs.RulesCorners.{regular-cell-right}
 use Rattle.tables.specs.RulesSlots.{regular-slot}
 use Rattle.model.specs.declared.Triangle.{Triangle}
 use Rattle.laws.specs.Steps.{listed}
+use Rattle.laws.specs.Lists.{length-listed, getD-listed}
 use Rattle.model.specs.Star.{Star, subdivisions}
 use Rattle.model.specs.Points.{regularCase}
-use Rattle.model.specs.Mesh.{Fill, Mesh, filled, cornerIndex, triangleOf, cellStep, emptyMesh, storeLength, regularCell, regularColumn, regularLayer, regularMesh}
-use Rattle.closed.specs.Clauses.{number, Crossed, Names, triangleAt, regularTo, IsCell, OwnVertex, OwnTriangle, Corners}
+use Rattle.model.specs.Mesh.{Fill, Mesh, filled, cornerIndex, triangleOf, cellStep, emptyMesh, storeLength, regularCell, regularColumn, regularLayer, regularMesh, regularTo}
+use Rattle.closed.specs.Clauses.{number, Crossed, Names, triangleAt, IsCell, OwnVertex, OwnTriangle, Corners}
 use Rattle.closed.specs.Places.{rank, cells-up-to}
 use Rattle.closed.specs.Cells.{codeEdge, codes, codeAt, slotEdge, code-own, case-small, code-right, crossed-slot}
 use Rattle.closed.specs.Stored.{Holds, Stored, AllCrossed, names-more, Filled, cell-filled}
@@ -62,7 +63,7 @@ module _ (s : Star) (x y z : ℕ) where
   pub triangle-sent : (j : ℕ) → j < regularTriangles (regularCase s x y z)
       → triangleAt (regularTo s x y (suc z)) (length (regularTo s x y z .triangles) + j) ≡ triangleOf (regularCell s x y z) (fill .index) j
   triangle-sent j h =
-      rw triangles-after (getD-append-add (regularTo s x y z .triangles) cellTriangles j _ ∙ listed-at _ _ (regularTriangles (regularCase s x y z)) j h)
+      rw triangles-after (getD-append-add (regularTo s x y z .triangles) cellTriangles j _ ∙ getD-listed _ (regularTriangles (regularCase s x y z)) j _ h)
 
   corner-below : (k : ℕ) → k < 3 * regularTriangles (regularCase s x y z)
       → regularCorner (regularCase s x y z) k < codes s x y z
