@@ -1,6 +1,2 @@
-pub mod Bits
-pub mod Columns
-pub mod Words
-pub mod Layers
-pub mod Faces
-pub mod Lines
+pub mod Sheets
+pub mod Scans
