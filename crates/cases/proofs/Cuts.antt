@@ -1,5 +1,5 @@
 -- Cells that are not cut: one after another, and eight at a time.
-use Prim.Native.Nat.{ℕ, zero, suc, _+_, _-_, _%_, _≤_, _<_}
+use Prim.Native.Nat.{ℕ, zero, suc, _+_, _-_, _*_, _%_, _≤_, _<_}
 use mathlib.Core.Path.{_≡_, refl, ap, _∙_}
 use mathlib.Core.Bool.{Bool, true, false, _||_}
 use mathlib.Core.Logic.{_⊎_, inl, inr}
@@ -10,7 +10,7 @@ use lib.Dec.{eqb}
 use lib.ListN.{getD}
 use borrow.Author.Tests.{eqb-true}
 use Rattle.cases.specs.Sheets.{rowWidth}
-use Rattle.cases.specs.Scans.{allRegular, uncut, eightOf, Uncut}
+use Rattle.cases.specs.Scans.{allRegular, uncut, eightOf, Uncut, Passed, NextCut}
 
 -- ---- one after another
 
@@ -32,6 +32,13 @@ module _ {n all : ℕ} {cases : List ℕ} where
   -- the places from one beyond a row's cells on to the next row are no cells
   pub row-ends : (i : ℕ) → n ≤ i % rowWidth → Uncut n all cases i (i + (rowWidth - i % rowWidth))
   row-ends i h = record { ordered = omega arith; none-cut = λ k l u c. absurd (let x : ⊥ = omega arith in x) }
+
+  -- a scan ends at a cell, or where the rows do
+  pub stop-here : {from i count : ℕ} → Uncut n all cases from i → Passed n all cases i count → count ≡ 0 → NextCut n all cases from i
+  stop-here so-far at none = record { between = so-far; within = omega (arith, at .within); is-cell = λ h. at .is-cell none }
+
+  pub stop-at-end : {from i : ℕ} → Uncut n all cases from i → i ≤ rowWidth * n → rowWidth * n ≤ i → NextCut n all cases from i
+  stop-at-end so-far low high = record { between = so-far; within = low; is-cell = λ h. absurd (let x : ⊥ = omega arith in x) }
 
 -- ---- eight at a time
 

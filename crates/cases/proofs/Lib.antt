@@ -1,3 +1,4 @@
 mod Rows
 mod Lines
 mod Cuts
+mod Fine

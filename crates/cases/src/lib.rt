@@ -2,3 +2,4 @@
 // the first n are cells. Each cell reads its own samples; a scan steps over the cells that are not cut.
 pub mod regular;
 pub mod scan;
+pub mod transition;

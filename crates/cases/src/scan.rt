@@ -78,3 +78,36 @@ pub fn next_cut(n: usize, cases: &[u8], from: usize) -> usize
     }
     i
 }
+
+fn is_uncut_fine(case: u16) -> bool
+    ensures { λ r. ⌜ r ≡ uncut case allTransition ⌝ }
+{
+    (case == 0) | (case == 511)
+}
+
+// How many places of a side's sheet can be passed over: to the next row, one, or none.
+fn passed_fine(n: usize, cases: &[u16], i: usize) -> usize
+    requires { ⌜ (n ≤ mostSubdivisions) × ((length (now cases) ≡ sheetPlaces) × (i < rowWidth * n)) ⌝ }
+    ensures { λ r. ⌜ Passed n allTransition (now (cases .entry)) i r ⌝ }
+{
+    if i % ROW >= n {
+        return ROW - i % ROW;
+    }
+    if is_uncut_fine(cases[i]) { 1 } else { 0 }
+}
+
+pub fn next_cut_fine(n: usize, cases: &[u16], from: usize) -> usize
+    requires { ⌜ (n ≤ mostSubdivisions) × ((length (now cases) ≡ sheetPlaces) × (from ≤ rowWidth * n)) ⌝ }
+    ensures { λ r. ⌜ NextCut n allTransition (now (cases .entry)) from r ⌝ }
+{
+    let end = ROW * n;
+    let mut i = from;
+    while i < end {
+        let count = passed_fine(n, cases, i);
+        if count == 0 {
+            return i;
+        }
+        i += count;
+    }
+    i
+}

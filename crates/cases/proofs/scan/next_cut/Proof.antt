@@ -4,7 +4,7 @@ use borrow.Author.Needs.{needs}
 use Prim.Native.Nat.{_-_, _*_, _≤_}
 use Rattle.cases.specs.Sheets.{rowWidth}
 use Rattle.cases.specs.Scans.{allRegular, Uncut}
-use Rattle.cases.proofs.Cuts.{no-cells, more-cells}
+use Rattle.cases.proofs.Cuts.{no-cells, more-cells, stop-here, stop-at-end}
 use Rattle.cases.proofs.scan.next_cut.Statement.{statement}
 use Rattle.cases.proofs.scan.next_cut.Tie as tie
 
@@ -24,10 +24,7 @@ passed-requires : tie.Need-passed-requires Inv-loop μ-loop
 passed-requires c κs = search needs
 
 returns : tie.Need-returns Inv-loop μ-loop
-returns c =
-    let here = c .before .before .before .loop .inv in
-    let cell = c .before .passed .ensures .is-cell (c .if1 .taken) in
-    record { between = here .1; within = here .0; is-cell = λ h. cell }
+returns c = stop-here (c .before .before .before .loop .inv .1) (c .before .passed .ensures) (c .if1 .taken)
 
 add-i : tie.Need-add-i Inv-loop μ-loop
 add-i c = search needs
@@ -37,13 +34,11 @@ loop-less c = search needs
 
 loop-again : tie.Need-loop-again Inv-loop μ-loop
 loop-again c =
-      let count = c .before .passed .ensures in
-      (omega (arith, count .within), more-cells (c .before .before .before .loop .inv .1) (count .between))
+    let count = c .before .passed .ensures in
+    (omega (arith, count .within), more-cells (c .before .before .before .loop .inv .1) (count .between))
 
 returns-2 : tie.Need-returns-2 Inv-loop μ-loop
-returns-2 c =
-    let here = c .before .loop .inv in
-    record { between = here .1; within = here .0; is-cell = λ h. absurd (let x : ⊥ = omega arith in x) }
+returns-2 c = stop-at-end (c .before .loop .inv .1) (c .before .loop .inv .0) (omega arith)
 
 pub next-cut-spec : {M : Type 1} → statement M
 next-cut-spec =

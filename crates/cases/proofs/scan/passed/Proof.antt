@@ -12,16 +12,16 @@ sub-result c = search needs
 
 returns : tie.Need-returns
 returns c =
-      let a = c .before .before .args in
-      record { between = row-ends (a .i) (omega arith); within = omega arith; is-cell = λ e. omega arith }
+    let a = c .before .before .args in
+    record { between = row-ends (a .i) (omega arith); within = omega arith; is-cell = λ e. omega arith }
 
 eight-uncut-requires : tie.Need-eight-uncut-requires
 eight-uncut-requires c κs = search needs
 
 returns-2 : tie.Need-returns-2
 returns-2 c =
-      let i = c .before .before .before .before .before .args .i in
-      record { between = c .before .eight-uncut .ensures (c .if3 .taken) _; within = omega arith; is-cell = λ e. omega arith }
+    let i = c .before .before .before .before .before .args .i in
+    record { between = c .before .eight-uncut .ensures (c .if3 .taken) _; within = omega arith; is-cell = λ e. omega arith }
 
 shared-slice-read-is-uncut : tie.Need-shared-slice-read-is-uncut
 shared-slice-read-is-uncut c = search needs

@@ -1,0 +1,121 @@
+// The sheet of a side's transition cells: each cell reads its own nine fine samples, from three lines along v. The side's first place and
+// its steps along u and v are found once.
+ghost use mathlib.Core.Path.{_≡_};
+ghost use mathlib.Core.List.{List};
+ghost use Prim.Native.Nat.{ℕ, _+_, _*_, _≤_, _<_};
+ghost use lib.Ieee.{Float};
+ghost use lib.ListN.{length};
+ghost use Rattle.model.specs.Limits.{mostSubdivisions, sideCount};
+ghost use Rattle.model.specs.Sides.{neighbourLength, neighbourOf};
+ghost use Rattle.model.specs.Star.{star};
+ghost use Rattle.model.specs.Points.{transitionCase};
+ghost use Rattle.grid.specs.SideLaws.{NeighbourThere};
+ghost use Rattle.grid.specs.Walks.{walkOf, alongBy, Leads};
+ghost use Rattle.cases.specs.Sheets.{rowWidth, sheetPlaces, Sheet, RowPut};
+ghost use Rattle.cases.specs.Faces.{Spot, Lined, weighedAt, threeInside, nineInside};
+use crate::scan::ROW;
+use grid::face_walk::FaceWalk;
+use grid::face_walk::Stride;
+use grid::face_walk::along;
+use grid::face_walk::face_walk;
+use grid::transition_sides::neighbour;
+use grid::voxel_blocks::inside;
+use model::Header;
+
+// The first places of the three lines that a row of cells lies on, and their step.
+struct Lines {
+    a: usize,
+    b: usize,
+    c: usize,
+    step: Stride,
+}
+
+// The weight of the point v2 steps along a line, if it is inside.
+fn weighed(threshold: f32, fine: &[f32], first: usize, step: Stride, v2: usize, w: u16) -> u16
+    requires { ⌜ Spot (length (now fine)) first step v2 ⌝ }
+    ensures { λ r. ⌜ (r ≡ weighedAt threshold (now (fine .entry)) first step v2 w) × (r ≤ w) ⌝ }
+{
+    let i = along(first, step, v2);
+    if inside(threshold, fine[i]) { w } else { 0 }
+}
+
+fn three(threshold: f32, fine: &[f32], lines: Lines, v2: usize, wa: u16, wb: u16, wc: u16) -> u16
+    requires { ⌜ Lined (length (now fine)) lines v2 × ((wa ≤ 256) × ((wb ≤ 256) × (wc ≤ 256))) ⌝ }
+    ensures { λ r. ⌜ (r ≡ threeInside threshold (now (fine .entry)) lines v2 wa wb wc) × (r ≤ wa + wb + wc) ⌝ }
+{
+    weighed(threshold, fine, lines.a, lines.step, v2, wa)
+        + weighed(threshold, fine, lines.b, lines.step, v2, wb)
+        + weighed(threshold, fine, lines.c, lines.step, v2, wc)
+}
+
+// What each of the nine fine points adds if it is inside: the Rust's TRANSITION_HIGH_RES_FACE_CASE_CONTRIBUTIONS.
+fn nine(threshold: f32, fine: &[f32], lines: Lines, v: usize) -> u16
+    requires { ⌜ (v < mostSubdivisions) × (Lined (length (now fine)) lines (2 * v) × (Lined (length (now fine)) lines (2 * v + 1) × Lined (length (now fine)) lines (2 * v + 2))) ⌝ }
+    ensures { λ r. ⌜ r ≡ nineInside threshold (now (fine .entry)) lines v ⌝ }
+{
+    let v2 = 2 * v;
+    let low = three(threshold, fine, lines, v2, 0x01, 0x02, 0x04);
+    let middle = three(threshold, fine, lines, v2 + 1, 0x80, 0x100, 0x08);
+    let high = three(threshold, fine, lines, v2 + 2, 0x40, 0x20, 0x10);
+    low + middle + high
+}
+
+// The cells on three lines, their numbers from start on.
+fn row_on(n: usize, threshold: f32, fine: &[f32], lines: Lines, cases: &mut [u16], start: usize)
+    requires { ⌜ (n ≤ mostSubdivisions) × (start + n ≤ length (now cases)) ⌝ }
+    requires { ⌜ ((v2 : ℕ) → v2 ≤ 2 * n → Lined (length (now fine)) lines v2) ⌝ }
+    ensures { λ _. ⌜ RowPut (nineInside threshold (now (fine .entry)) lines) start n (now (cases .entry)) (now (cases .exit)) ⌝ }
+{
+    let mut v = 0;
+    while v < n {
+        cases[start + v] = nine(threshold, fine, lines, v);
+        v += 1;
+    }
+}
+
+fn lines_at(walk: FaceWalk, u: usize) -> Lines
+    requires { ⌜ (u < mostSubdivisions) × (Leads (walk .first) (walk .u) (2 * u) × (Leads (walk .first) (walk .u) (2 * u + 1) × Leads (walk .first) (walk .u) (2 * u + 2))) ⌝ }
+    ensures { λ r. ⌜ r ≡ record { a = alongBy (walk .first) (walk .u) (2 * u); b = alongBy (walk .first) (walk .u) (2 * u + 1); c = alongBy (walk .first) (walk .u) (2 * u + 2); step = walk .v } ⌝ }
+{
+    let u2 = 2 * u;
+    let step = walk.v;
+    Lines {
+        a: along(walk.first, walk.u, u2),
+        b: along(walk.first, walk.u, u2 + 1),
+        c: along(walk.first, walk.u, u2 + 2),
+        step,
+    }
+}
+
+fn row(header: Header, fine: &[f32], walk: FaceWalk, side: usize, u: usize, cases: &mut [u16])
+    requires { ⌜ (header .block .subdivisions ≤ mostSubdivisions) × (length (now fine) ≡ neighbourLength (header .block .subdivisions)) ⌝ }
+    requires { ⌜ (side < sideCount) × (walk ≡ walkOf (2 * header .block .subdivisions) side (2 * header .block .subdivisions)) ⌝ }
+    requires { ⌜ (u < header .block .subdivisions) × (length (now cases) ≡ sheetPlaces) ⌝ }
+    ensures { λ _. ⌜ ((centre ns : List Float) → now (fine .entry) ≡ neighbourOf (header .block .subdivisions) (header .mask) ns side → RowPut (transitionCase (star header centre ns) side u) (rowWidth * u) (header .block .subdivisions) (now (cases .entry)) (now (cases .exit))) ⌝ }
+{
+    let lines = lines_at(walk, u);
+    row_on(
+        header.block.subdivisions,
+        header.threshold,
+        fine,
+        lines,
+        cases,
+        ROW * u,
+    );
+}
+
+// The case numbers of the cells of a named side.
+pub fn face_cases(header: Header, neighbours: &[f32], side: usize, cases: &mut [u16])
+    requires { ⌜ NeighbourThere (header .block .subdivisions) (header .mask) (now neighbours) side ⌝ }
+    requires { ⌜ (1 ≤ header .block .subdivisions) × (length (now cases) ≡ sheetPlaces) ⌝ }
+    ensures { λ _. ⌜ ((centre : List Float) → Sheet (transitionCase (star header centre (now (neighbours .entry))) side) (header .block .subdivisions) (header .block .subdivisions) (now (cases .exit))) ⌝ }
+{
+    let n = header.block.subdivisions;
+    let fine = neighbour(n, header.mask, neighbours, side);
+    let walk = face_walk(2 * n, side, 2 * n);
+    let mut u = 0;
+    while u < n {
+        row(header, fine, walk, side, u, cases);
+        u += 1;
+    }
+}
