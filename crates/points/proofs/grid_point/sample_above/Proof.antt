@@ -1,10 +1,10 @@
--- `grid_point::one_up` meets its contract: its test is that of `upFrom`.
+-- `grid_point::sample_above` meets its contract: its test is that of `upFrom`.
 use Prim.Native.Nat.{_+_, _<_}
 use native.Mathlib.Omega.{arith}
 use borrow.Author.Tests.{lt-ltb, le-ltb}
 use lib.ListN.{length}
-use Rattle.points.proofs.grid_point.one_up.Statement.{statement}
-use Rattle.points.proofs.grid_point.one_up.Tie as tie
+use Rattle.points.proofs.grid_point.sample_above.Statement.{statement}
+use Rattle.points.proofs.grid_point.sample_above.Tie as tie
 
 near-in : (c : tie.Then1) → let a = c .before .args in a .at + a .stride < length (a .samples .now)
 near-in c = rw (lt-ltb (c .before .args .index) (c .before .args .n) (c .if1 .taken)) at (c .before .pre)
@@ -33,8 +33,8 @@ shared-slice-read-result-2 c = far-in (c .before)
 returns-2 : tie.Need-returns-2
 returns-2 c = rw (le-ltb (c .before .before .args .index) (c .before .before .args .n) (c .before .if1 .left))
 
-pub one-up-spec : {M : Type 1} → statement M
-one-up-spec =
+pub sample-above-spec : {M : Type 1} → statement M
+sample-above-spec =
     tie.close
     (tie.spec
     add-result

@@ -1,8 +1,8 @@
--- Document 01, 'Transition cells': what is asked where a point of a transition cell is made, that a block whose shape was judged and the
--- table of the thirteen points meet it, and a fine point's gradient by itself.
+-- Document 01, 'Regular cells' and 'Transition cells': what is asked where a point of a cell is made, that a block whose shape was judged
+-- and the table of the thirteen points meet it, and a fine point's gradient by itself.
 use Prim.Native.Nat.{ℕ, zero, suc, _*_, _/_, _%_, _≤_, _<_}
 use mathlib.Core.Path.{_≡_}
-use mathlib.Core.Bool.{true, cond, _&&_}
+use mathlib.Core.Bool.{cond, _&&_}
 use mathlib.Core.List.{List, [], _∷_}
 use lib.Dec.{eqb, lit≤}
 use lib.Ieee.{Float}
@@ -10,27 +10,31 @@ use lib.ListN.{length, getD}
 use Rattle.tables.specs.Points.{cellPoints, cellPoint, fine}
 use Rattle.tables.specs.declared.aux_tables.CellPoint.{CellPoint}
 use Rattle.tables.specs.declared.aux_tables.CellPoint.the-variants.{Fine, Coarse}
+use Rattle.model.specs.Limits.{sideCount}
+use Rattle.model.specs.declared.FacePoint.{FacePoint}
 use Rattle.model.specs.declared.Vector.{Vector}
 use Rattle.model.specs.Samples.{sampleLength}
-use Rattle.model.specs.Sides.{named}
+use Rattle.model.specs.Sides.{neighbourLength}
 use Rattle.model.specs.Rotations.{facePoint, neighbourPoint}
 use Rattle.model.specs.Formulas.{gradientAt}
 use Rattle.model.specs.Star.{Star, subdivisions}
 use Rattle.grid.specs.Shape.{Shaped}
-use Rattle.grid.specs.SideLaws.{NeighbourThere}
+use Rattle.points.specs.Fractions.{Fractions}
 
--- the centre's samples and those of the neighbour at a named side are all there
-pub record Bordered (n mask : ℕ) (centre neighbours : List Float) (side : ℕ) : Type 0 where
+-- the centre's samples are all there, and so are its fractions
+pub record Centred (n : ℕ) (fractions centre : List Float) : Type 0 where
+  pub parts : Fractions n fractions
   pub centre-is : length centre ≡ sampleLength n
-  pub there : NeighbourThere n mask neighbours side
 
-pub bordered : (s : Star) (side : ℕ) → Shaped s → side < 6 → named (s .mask) side ≡ true
-    → Bordered (subdivisions s) (s .mask) (s .centre) (s .neighbours) side
-bordered s side h l e =
-    record {
-      centre-is = h .centre-is;
-      there = record { few = h .few; sides = h .sides; side-is = l; is-named = e; neighbours-are = h .neighbours-are };
-    }
+-- a transition cell of a side, and the samples of the neighbour there
+pub record Bordered (n : ℕ) (fine : List Float) (cell : FacePoint) : Type 0 where
+  pub side-is : cell .side < sideCount
+  pub u-in : cell .u < n
+  pub v-in : cell .v < n
+  pub fine-is : length fine ≡ neighbourLength n
+
+pub centred : (s : Star) (fractions : List Float) → Shaped s → Fractions (subdivisions s) fractions → Centred (subdivisions s) fractions (s .centre)
+centred s fractions h parts = record { parts = parts; centre-is = h .centre-is }
 
 -- the point lies in its cell: two fine steps, or one of the block's own, at most
 abbrev pub InCell : CellPoint → Type 0

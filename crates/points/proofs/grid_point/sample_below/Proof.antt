@@ -1,10 +1,10 @@
--- `grid_point::one_down` meets its contract: its test is that of `downFrom`.
+-- `grid_point::sample_below` meets its contract: its test is that of `downFrom`.
 use Prim.Native.Nat.{_-_, _<_}
 use native.Mathlib.Omega.{arith}
 use borrow.Author.Tests.{lt-ltb, le-ltb}
 use lib.ListN.{length}
-use Rattle.points.proofs.grid_point.one_down.Statement.{statement}
-use Rattle.points.proofs.grid_point.one_down.Tie as tie
+use Rattle.points.proofs.grid_point.sample_below.Statement.{statement}
+use Rattle.points.proofs.grid_point.sample_below.Tie as tie
 
 near-in : (c : tie.Then1) → let a = c .before .args in a .at - a .stride < length (a .samples .now)
 near-in c = rw (lt-ltb 0 (c .before .args .index) (c .if1 .taken)) at (c .before .pre .1)
@@ -33,8 +33,8 @@ shared-slice-read-result-2 c = far-in (c .before)
 returns-2 : tie.Need-returns-2
 returns-2 c = rw (le-ltb 0 (c .before .before .args .index) (c .before .if1 .left))
 
-pub one-down-spec : {M : Type 1} → statement M
-one-down-spec =
+pub sample-below-spec : {M : Type 1} → statement M
+sample-below-spec =
     tie.close
     (tie.spec
     sub-result
