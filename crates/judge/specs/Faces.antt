@@ -1,6 +1,6 @@
 -- Document 01, 'Answers by number': 8 over one face, with the neighbour's samples at hand, and over the faces of the named sides.
 use Prim.Native.Nat.{ℕ, _+_, _*_}
-use mathlib.Core.Path.{_≡_, refl}
+use mathlib.Core.Path.{_≡_, refl, _∙_}
 use mathlib.Core.Bool.{Bool, Bool·beq}
 use mathlib.Core.List.{List}
 use native.Mathlib.Omega.{arith}
@@ -35,13 +35,15 @@ module _ (n : ℕ) (threshold : Float) (centre neighbour : List Float) (side : �
       (inside threshold (sampleOf (2 * n) neighbour (neighbourPoint n side (2 * u) (2 * v))))
 
   -- it goes by the samples at the two places
-  pub places-agree : {u v : ℕ} → OnFace n side u v
-      → Bool·beq (inside threshold (getD centre (sidePlace n side 0 u v) nan))
-      (inside threshold (getD neighbour (sidePlace (2 * n) side (2 * n) (2 * u) (2 * v)) nan))
-      ≡ pairAgrees u v
-  places-agree {u} {v} on =
-      rw
-      (spot-read n side 0 u v (coarse-on on) centre, spot-read (2 * n) side (2 * n) (2 * u) (2 * v) (fine-on on) neighbour)
+  abbrev agreeAt : ℕ → ℕ → Bool
+  agreeAt here there = Bool·beq (inside threshold (getD centre here nan)) (inside threshold (getD neighbour there nan))
+
+  pub places-agree : {u v here there : ℕ} {r : Bool} → OnFace n side u v → here ≡ sidePlace n side 0 u v
+      → there ≡ sidePlace (2 * n) side (2 * n) (2 * u) (2 * v) → r ≡ agreeAt here there → r ≡ pairAgrees u v
+  places-agree {u} {v} on here-is there-is e =
+      let coarse = spot-read n side 0 u v (coarse-on on) centre in
+      let fine = spot-read (2 * n) side (2 * n) (2 * u) (2 * v) (fine-on on) neighbour in
+      e ∙ (λ i. agreeAt (here-is i) (there-is i)) ∙ (λ i. Bool·beq (inside threshold (coarse i)) (inside threshold (fine i)))
 
   -- a point, the first places of a row, and the first rows of a face
   abbrev pub pairSpot : ℕ → ℕ → Verdict

@@ -20,13 +20,7 @@ use model::Refusal;
 use model::Verdict;
 
 // The centre's sample and the neighbour's, each at its place, lie on the same side of the threshold.
-fn samples_agree(
-    threshold: f32,
-    centre: &[f32],
-    here: usize,
-    fine: &[f32],
-    there: usize,
-) -> bool
+fn samples_agree(threshold: f32, centre: &[f32], here: usize, fine: &[f32], there: usize) -> bool
     requires { ⌜ (here < length (now centre)) × (there < length (now fine)) ⌝ }
     ensures { λ r. ⌜ r ≡ Bool·beq (Formulas.inside threshold (getD (now (centre .entry)) here nan)) (Formulas.inside threshold (getD (now (fine .entry)) there nan)) ⌝ }
 {
