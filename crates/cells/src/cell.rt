@@ -1,0 +1,73 @@
+// A cell of either kind, written or counted, from where it lies and its rows.
+ghost use mathlib.Core.Path.{_≡_};
+ghost use mathlib.Core.Bool.{Bool};
+ghost use Prim.Native.Nat.{_+_};
+ghost use lib.ListN.{length};
+ghost use Rattle.tables.specs.Cases.{verticesOf, trianglesOf};
+ghost use Rattle.model.specs.Star.{Star, star};
+ghost use Rattle.model.specs.Mesh.{storeLength, fillTo};
+ghost use Rattle.cells.specs.Puts.{Room, CellPut, Adds};
+ghost use Rattle.cells.specs.Rows.{Followed};
+ghost use Rattle.cells.specs.Kinds.{Ready, Coded, cellOf};
+use crate::CellIndex;
+use crate::codes::count_made;
+use crate::triangles::put_triangles;
+use crate::triangles::triangle_count;
+use crate::triangles::vertex_count;
+use crate::vertices::fill_cell;
+use model::Counts;
+use model::Header;
+use points::fractions::FRACTIONS;
+
+pub fn write_cell(
+    header: Header,
+    fractions: &[f32; FRACTIONS],
+    centre: &[f32],
+    neighbours: &[f32],
+    at: CellIndex,
+    codes: &[u16],
+    row: &[u8],
+    turned: bool,
+    counts: Counts,
+    store: &mut [u32],
+    vertices: &mut [f32],
+    triangles: &mut [u32],
+) -> Counts
+    requires { ⌜ Ready (star header (now centre) (now neighbours)) (now fractions) at ⌝ }
+    requires { ⌜ Coded at (now codes) (verticesOf (now row)) × Followed (now row) ⌝ }
+    requires { ⌜ length (now store) ≡ storeLength (header .block .subdivisions) ⌝ }
+    requires { ⌜ Room 6 (counts .vertices + length (fillTo (cellOf (star header (now centre) (now neighbours)) at (now codes) (now row) turned) (counts .vertices) (now store) (verticesOf (now row)) .made)) (now vertices) ⌝ }
+    requires { ⌜ Room 3 (counts .triangles + trianglesOf (now row)) (now triangles) ⌝ }
+    ensures { λ r. ⌜ CellPut (cellOf (star header (now (centre .entry)) (now (neighbours .entry))) at (now (codes .entry)) (now (row .entry)) turned) (counts .vertices) (counts .triangles) (now (vertices .entry)) (now (triangles .entry)) (now (store .entry)) (r .vertices) (r .triangles) (now (vertices .exit)) (now (triangles .exit)) (now (store .exit)) ⌝ }
+{
+    let base = counts.vertices;
+    let filled = fill_cell(
+        header,
+        fractions,
+        centre,
+        neighbours,
+        at,
+        codes,
+        row,
+        store,
+        vertices,
+        base,
+    );
+    let cell = filled.cell;
+    let made = put_triangles(row, turned, &cell.index, triangles, counts.triangles);
+    Counts {
+        vertices: filled.next,
+        triangles: made,
+    }
+}
+
+pub fn count_cell(at: CellIndex, codes: &[u16], row: &[u8]) -> Counts
+    requires { ⌜ Coded at (now codes) (verticesOf (now row)) × Followed (now row) ⌝ }
+    ensures { λ r. ⌜ ((s : Star) (turned : Bool) → Adds (cellOf s at (now (codes .entry)) (now (row .entry)) turned) (r .vertices) (r .triangles)) ⌝ }
+{
+    let count = vertex_count(row);
+    Counts {
+        vertices: count_made(at, codes, count),
+        triangles: triangle_count(row),
+    }
+}
