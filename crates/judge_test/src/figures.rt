@@ -25,7 +25,7 @@ fn position(n: usize, x: usize, y: usize, z: usize) -> Vector
         mask: LOW_X,
         threshold: 0.5,
     };
-    let fractions = fractions_of(n);
+    let fractions = fractions_of(header.block.subdivisions);
     regular_position(header, &fractions, Xyz { x, y, z })
 }
 

@@ -1,6 +1,7 @@
 -- `judge_test::given::judged` meets what it calls: a block that passes 1 to 7 has the shape that 8 asks for.
 use borrow.Author.Needs.{needs}
 use mathlib.Core.Path.{sym, _∙_}
+use Rattle.model.specs.declared.Header.{Header}
 use Rattle.model.specs.Star.{star}
 use Rattle.judge.specs.Passing.{star-shaped}
 use Rattle.judge_test.proofs.given.judged.Statement.{statement}
@@ -21,7 +22,7 @@ enum-told c = search needs
 judge-faces-requires : tie.Need-judge-faces-requires
 judge-faces-requires c κs =
     let args = c .before .before .before .before .before .args in
-    let header = record { block = args .block; mask = args .mask; threshold = args .threshold } in
+    let header : Header = record { block = args .block; mask = args .mask; threshold = args .threshold } in
     star-shaped (star header (args .centre .now) (args .neighbours .now))
     (sym (c .before .before .judge-star .ensures) ∙ c .enum-told .given .1)
 
