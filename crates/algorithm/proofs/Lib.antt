@@ -1,3 +1,5 @@
 pub mod Walk
 pub mod Holding
 pub mod Growth
+pub mod Answers
+pub mod Pinned

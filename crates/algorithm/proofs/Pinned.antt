@@ -1,0 +1,15 @@
+-- What extraction's statement allows is one outcome: of two that it allows for the same inputs, the answers are equal, and so is what
+-- each lent buffer holds.
+use mathlib.Core.Path.{_≡_}
+use contract.Lifetimes.{Lfts}
+use denote.Ref.{now}
+use Rattle.model.specs.Pinned.{pinned}
+use Rattle.algorithm.proofs.extract.Reads as extract
+
+pub extract-pinned : (κs : Lfts 5) (a : _) (r r′ : _) (e e′ : _) → extract.Learnt κs a r e → extract.Learnt κs a r′ e′
+    → (r ≡ r′)
+    × ((now (e .1 .1 .1 .0) ≡ now (e′ .1 .1 .1 .0))
+    × ((now (e .1 .1 .1 .1 .0) ≡ now (e′ .1 .1 .1 .1 .0))
+    × (now (e .1 .1 .1 .1 .1 .0) ≡ now (e′ .1 .1 .1 .1 .1 .0))))
+extract-pinned κs a r r′ e e′ h k =
+    (pinned (h .0) (k .0), (pinned (h .1 .0) (k .1 .0), (pinned (h .1 .1 .0) (k .1 .1 .0), pinned (h .1 .1 .1) (k .1 .1 .1))))
