@@ -5,4 +5,5 @@ pub mod Accepted
 pub mod Parts
 pub mod Bytes
 pub mod Writable
+pub mod Reading
 pub mod RoundTrip

@@ -24,14 +24,15 @@ use Rattle.model.specs.Refusals.{unless, orElse}
 use Rattle.model.specs.Points.{star}
 use Rattle.model.specs.Judging.{judgeMeasures, judgeMissing, sideThere, usable, judgeSamples, judgeBuffer}
 use Rattle.model.specs.Extraction.{judgeStar}
-use Rattle.model.specs.Record.{sampleCount, countOf, headerOf, samplesOf, recordOf, judgeRecord, readAnswer, readRecord, writeAnswer, writeRecord}
+use Rattle.model.specs.Record.{sampleFrom, sampleCount, countOf, headerOf, samplesOf, recordOf, judgeRecord, readAnswer, readRecord, writeAnswer, writeRecord}
 use Rattle.grid.specs.Shape.{Shaped}
 use Rattle.grid.specs.SideLaws.{named-below}
 use Rattle.judge.specs.First.{both-passed, passed-over}
 use Rattle.judge.specs.Passing.{star-shaped}
 use Rattle.record.specs.Words.{Bytes, Fit}
 use Rattle.record.specs.Writable.{star-parts}
-use Rattle.record.specs.Accepted.{Accepted, accepted, passes, length-samples, sample-is, samples-pass, samples-usable, count-small}
+use Rattle.record.specs.Accepted.{Accepted, passes, length-samples, sample-is, samples-pass, samples-usable, count-small}
+use Rattle.record.specs.Reading.{was-read}
 use Rattle.record.specs.Bytes.{measuresOf, length-record, length-told, version-told, header-back, samples-back, record-back}
 
 -- ---- reading then writing
@@ -51,10 +52,10 @@ none-missing n mask held sides h = passed-over (sideThere n mask held) 0 6 refl 
 
 module _ (bytes : List ℕ) (a : Accepted bytes) where
   abbrev n : ℕ
-  n = getD bytes 5 0
+  n = headerOf bytes .block .subdivisions
 
   abbrev mask : ℕ
-  mask = getD bytes 6 0
+  mask = headerOf bytes .mask
 
   star-passes : (centre neighbours : List Float) → centre ++ neighbours ≡ samplesOf bytes → length centre ≡ sampleLength n
       → judgeStar (star (headerOf bytes .block) mask (headerOf bytes .threshold) centre neighbours) ≡ Passed
@@ -94,21 +95,15 @@ module _ (bytes : List ℕ) (a : Accepted bytes) where
       let centre = take (sampleLength n) (samplesOf bytes) in
       let neighbours = drop (sampleLength n) (samplesOf bytes) in
       let whole : centre ++ neighbours ≡ samplesOf bytes = take-append-drop (sampleLength n) (samplesOf bytes) in
-      let long : 27 + 4 * length (samplesOf bytes) ≡ length bytes = rw (length-samples bytes) (sym (a .counted)) in
+      let long : sampleFrom (length (samplesOf bytes)) ≡ length bytes = rw (length-samples bytes) (sym (a .counted)) in
       let centre-is : length centre ≡ sampleLength n = length-take-le (sampleLength n) (samplesOf bytes) (rw (length-samples bytes) (omega arith)) in
       rw (
         star-passes centre neighbours whole centre-is,
         whole,
-        le-leb (27 + 4 * length (samplesOf bytes)) (length out) (omega arith),
+        le-leb (sampleFrom (length (samplesOf bytes))) (length out) (omega arith),
         record-back bytes small a,
         long,
       )
-
--- a block is answered only by a record that passes
-answered : (bytes : List ℕ) (samples : List Float) (h : Header) (v : Verdict) → readAnswer bytes samples v .answer ≡ RecordRead.Block h
-    → (v ≡ Passed) × (headerOf bytes ≡ h)
-answered bytes samples h Passed e = (refl, cc)
-answered bytes samples h (Refused r) e = (cc, cc)
 
 pub read-write : (bytes : List ℕ) (samples : List Float) (out : List ℕ) (h : Header)
     → Bytes bytes → readRecord bytes samples .answer ≡ RecordRead.Block h → length bytes ≤ length out
@@ -116,23 +111,21 @@ pub read-write : (bytes : List ℕ) (samples : List Float) (out : List ℕ) (h :
     let read = readRecord bytes samples .samples in
     writeRecord h (take (sampleLength n) read) (take (neighboursLength n (h .mask)) (drop (sampleLength n) read)) out
     ≡ record { answer = RecordWritten.Bytes (length bytes); bytes = laid bytes out }
-unfolding readRecord headerOf
 read-write bytes samples out h small e room =
-    let passed = answered bytes samples h (orElse (judgeRecord bytes) (judgeBuffer (countOf bytes) (length samples))) e in
-    let a = accepted bytes (both-passed _ _ (passed .0) .0) in
+    let was = was-read bytes samples h e in
+    let a = was .whole in
     let beyond = drop (length (samplesOf bytes)) samples in
     let read = readRecord bytes samples .samples in
-    let read-is : read ≡ samplesOf bytes ++ beyond = ap (λ (v : Verdict). readAnswer bytes samples v .samples) (passed .0) in
-    let c = sampleLength (getD bytes 5 0) in
-    let k = neighboursLength (getD bytes 5 0) (getD bytes 6 0) in
+    let c = sampleLength (headerOf bytes .block .subdivisions) in
+    let k = neighboursLength (headerOf bytes .block .subdivisions) (headerOf bytes .mask) in
     subst
     (λ (h : Header).
     writeRecord h (take (sampleLength (h .block .subdivisions)) read)
     (take (neighboursLength (h .block .subdivisions) (h .mask)) (drop (sampleLength (h .block .subdivisions)) read)) out
     ≡ record { answer = RecordWritten.Bytes (length bytes); bytes = laid bytes out })
-    (passed .1)
+    (was .header-is)
     (ap₂ (λ (centre neighbours : List Float). writeRecord (headerOf bytes) centre neighbours out)
-    (ap (take c) read-is ∙ centre-part bytes a beyond) (ap (λ (r : List Float). take k (drop c r)) read-is ∙ neighbours-part bytes a beyond)
+    (ap (take c) (was .filled) ∙ centre-part bytes a beyond) (ap (λ (r : List Float). take k (drop c r)) (was .filled) ∙ neighbours-part bytes a beyond)
     ∙ written bytes a small out room)
 
 -- ---- writing then reading
@@ -148,11 +141,11 @@ module _ (h : Header) (centre neighbours : List Float) (fit-measures : Fit (meas
   header-is : headerOf bytes ≡ h
   header-is = header-back h samples fit-measures fit
 
-  n-is : getD bytes 5 0 ≡ h .block .subdivisions
+  n-is : headerOf bytes .block .subdivisions ≡ h .block .subdivisions
   unfolding headerOf
   n-is = ap (λ (k : Header). k .block .subdivisions) header-is
 
-  mask-is : getD bytes 6 0 ≡ h .mask
+  mask-is : headerOf bytes .mask ≡ h .mask
   unfolding headerOf
   mask-is = ap (λ (k : Header). k .mask) header-is
 
@@ -185,7 +178,7 @@ module _ (h : Header) (centre neighbours : List Float) (fit-measures : Fit (meas
 
 -- bytes are answered only for a block that passes
 wrote : (h : Header) (samples : List Float) (out : List ℕ) (k : ℕ) (v : Verdict) → writeAnswer h samples out v .answer ≡ RecordWritten.Bytes k
-    → (v ≡ Passed) × (27 + 4 * length samples ≡ k)
+    → (v ≡ Passed) × (sampleFrom (length samples) ≡ k)
 wrote h samples out k Passed e = (refl, cc)
 wrote h samples out k (Refused r) e = (cc, cc)
 
@@ -197,7 +190,7 @@ pub write-read : (h : Header) (centre neighbours : List Float) (out : List ℕ) 
 unfolding readRecord writeRecord
 write-read h centre neighbours out samples k fit-measures fit e room =
     let s = star (h .block) (h .mask) (h .threshold) centre neighbours in
-    let written = wrote h (centre ++ neighbours) out k (orElse (judgeStar s) (judgeBuffer (27 + 4 * length (centre ++ neighbours)) (length out))) e in
+    let written = wrote h (centre ++ neighbours) out k (orElse (judgeStar s) (judgeBuffer (sampleFrom (length (centre ++ neighbours))) (length out))) e in
     let passed = both-passed (judgeStar s) _ (written .0) .0 in
     let shaped = star-shaped s passed in
     let bytes = recordOf h (centre ++ neighbours) in

@@ -1,3 +1,4 @@
+-- `read_record` meets its contract: a refusal leaves the samples; otherwise they are filled and the header is answered.
 use Prim.Native.Nat.{ℕ, _≤_}
 use mathlib.Core.Path.{_≡_, sym, ap, _∙_}
 use mathlib.Core.List.{List}

@@ -1,0 +1,68 @@
+-- What the C calls answer and leave, from what the model says: a refusal as its four numbers beside zeros, or zeros beside the answer.
+-- Definitions only.
+use Prim.Native.Nat.{ℕ}
+use mathlib.Core.List.{List}
+use lib.Ieee.{Float}
+use Rattle.model.specs.declared.Header.{Header}
+use Rattle.model.specs.declared.Numbers.{Numbers}
+use Rattle.model.specs.declared.Extraction.{Extraction}
+use Rattle.model.specs.declared.Extraction.the-variants as Extraction
+use Rattle.model.specs.declared.RecordRead.{RecordRead}
+use Rattle.model.specs.declared.RecordRead.the-variants as RecordRead
+use Rattle.model.specs.declared.RecordWritten.{RecordWritten}
+use Rattle.model.specs.declared.RecordWritten.the-variants as RecordWritten
+use Rattle.model.specs.Formulas.{whole, vector}
+use Rattle.model.specs.Refusals.{numbers, numbersOf}
+use Rattle.model.specs.Extraction.{Outcome}
+use Rattle.model.specs.Record.{ReadOutcome, WriteOutcome}
+use Rattle.sirveshan.specs.declared.Extracted.{Extracted}
+use Rattle.sirveshan.specs.declared.HeaderRead.{HeaderRead}
+use Rattle.sirveshan.specs.declared.Written.{Written}
+
+abbrev pub notRefused : Numbers
+notRefused = numbers 0 0 0 0
+
+abbrev pub noHeader : Header
+noHeader =
+    record {
+      block = record { base = vector (whole 0) (whole 0) (whole 0); size = whole 0; subdivisions = 0 };
+      mask = 0;
+      threshold = whole 0;
+    }
+
+abbrev pub extractAnswer : Extraction → Extracted
+extractAnswer (Extraction.Mesh counts) = record { refused = notRefused; counts = counts }
+extractAnswer (Extraction.Refused r) = record { refused = numbersOf r; counts = record { vertices = 0; triangles = 0 } }
+
+abbrev pub readAnswer : RecordRead → HeaderRead
+readAnswer (RecordRead.Block header) = record { refused = notRefused; header = header }
+readAnswer (RecordRead.Refused r) = record { refused = numbersOf r; header = noHeader }
+
+abbrev pub writeAnswer : RecordWritten → Written
+writeAnswer (RecordWritten.Bytes length) = record { refused = notRefused; length = length }
+writeAnswer (RecordWritten.Refused r) = record { refused = numbersOf r; length = 0 }
+
+-- ---- the answer, and every buffer that is lent to be written
+
+pub record ExtractCall : Type 0 where
+  pub answer : Extracted
+  pub store : List ℕ
+  pub vertices : List Float
+  pub triangles : List ℕ
+
+abbrev pub extractCall : Outcome → ExtractCall
+extractCall o = record { answer = extractAnswer (o .answer); store = o .store; vertices = o .vertices; triangles = o .triangles }
+
+pub record ReadCall : Type 0 where
+  pub answer : HeaderRead
+  pub samples : List Float
+
+abbrev pub readCall : ReadOutcome → ReadCall
+readCall o = record { answer = readAnswer (o .answer); samples = o .samples }
+
+pub record WriteCall : Type 0 where
+  pub answer : Written
+  pub bytes : List ℕ
+
+abbrev pub writeCall : WriteOutcome → WriteCall
+writeCall o = record { answer = writeAnswer (o .answer); bytes = o .bytes }
