@@ -113,8 +113,7 @@ fn points_agree(vector: &[u8], from: usize, points: usize, src: &[u8]) -> bool
 }
 
 fn calls_agree(vector: &[u8], src: &[u8]) -> bool {
-    subdivisions(src) == word(vector, 56) as u64
-        && blank(src) == word(vector, 60) as u64
+    subdivisions(src) == word(vector, 56) as u64 && blank(src) == word(vector, 60) as u64
 }
 
 fn read_agrees(vector: &[u8], samples: &mut [f32]) -> bool

@@ -2,7 +2,7 @@
 -- Definitions only.
 use Prim.Native.Nat.{ℕ}
 use mathlib.Core.List.{List}
-use lib.Ieee.{Float}
+use lib.Ieee.{Float, binary32, ofBits}
 use Rattle.model.specs.declared.Header.{Header}
 use Rattle.model.specs.declared.Numbers.{Numbers}
 use Rattle.model.specs.declared.Extraction.{Extraction}
@@ -11,7 +11,7 @@ use Rattle.model.specs.declared.RecordRead.{RecordRead}
 use Rattle.model.specs.declared.RecordRead.the-variants as RecordRead
 use Rattle.model.specs.declared.RecordWritten.{RecordWritten}
 use Rattle.model.specs.declared.RecordWritten.the-variants as RecordWritten
-use Rattle.model.specs.Formulas.{whole, vector}
+use Rattle.model.specs.Formulas.{vector}
 use Rattle.model.specs.Refusals.{numbers, numbersOf}
 use Rattle.model.specs.Extraction.{Outcome}
 use Rattle.model.specs.Record.{ReadOutcome, WriteOutcome}
@@ -22,12 +22,16 @@ use Rattle.sirveshan.specs.declared.Written.{Written}
 abbrev pub notRefused : Numbers
 notRefused = numbers 0 0 0 0
 
+-- the f32 whose bits are all 0
+abbrev pub zero : Float
+zero = ofBits binary32 0
+
 abbrev pub noHeader : Header
 noHeader =
     record {
-      block = record { base = vector (whole 0) (whole 0) (whole 0); size = whole 0; subdivisions = 0 };
+      block = record { base = vector zero zero zero; size = zero; subdivisions = 0 };
       mask = 0;
-      threshold = whole 0;
+      threshold = zero;
     }
 
 abbrev pub extractAnswer : Extraction → Extracted

@@ -119,18 +119,16 @@ pub extern "C" fn sirveshan_extract(
     ensures { λ r. ⌜ record { answer = r; store = now (store .exit); vertices = now (vertices .exit); triangles = now (triangles .exit) }
         ≡ extractCall (extract (star (header .block) (header .mask) (header .threshold) (now (centre .entry)) (now (neighbours .entry))) (now (store .entry)) (now (vertices .entry)) (now (triangles .entry))) ⌝ }
 {
-    extract_answer(
-        algorithm::extract(
-            header.block,
-            header.mask,
-            header.threshold,
-            centre,
-            neighbours,
-            store,
-            vertices,
-            triangles,
-        ),
-    )
+    extract_answer(algorithm::extract(
+        header.block,
+        header.mask,
+        header.threshold,
+        centre,
+        neighbours,
+        store,
+        vertices,
+        triangles,
+    ))
 }
 
 // The block that a record tells, and its samples, the centre's and then the neighbours', in the first places of a lent list.
@@ -143,7 +141,12 @@ pub extern "C" fn sirveshan_read(src: &[u8], samples: &mut [f32]) -> HeaderRead
 
 // A block and its samples as a record, in the first places of a lent buffer.
 #[no_mangle]
-pub extern "C" fn sirveshan_write(header: Header, centre: &[f32], neighbours: &[f32], bytes: &mut [u8]) -> Written
+pub extern "C" fn sirveshan_write(
+    header: Header,
+    centre: &[f32],
+    neighbours: &[f32],
+    bytes: &mut [u8],
+) -> Written
     ensures { λ r. ⌜ record { answer = r; bytes = now (bytes .exit) } ≡ writeCall (writeRecord header (now (centre .entry)) (now (neighbours .entry)) (now (bytes .entry))) ⌝ }
 {
     write_answer(write_record(header, centre, neighbours, bytes))

@@ -1,5 +1,5 @@
 -- The viewer's packed numbers, by what the record's judges find. Assumes nothing.
-use Prim.Native.Nat.{ℕ, _+_, _*_, _^_, _≤_, _<_}
+use Prim.Native.Nat.{ℕ, _+_, _*_, _^_, _≤_}
 use mathlib.Core.Path.{_≡_}
 use mathlib.Core.Bool.{Bool, true, false, cond, _||_}
 use mathlib.Core.List.{List}
@@ -41,17 +41,13 @@ module _ (base : ℕ) (v : Verdict) (answer : ℕ) where
   pub packed-passed : v ≡ Passed → answer ≡ packed base v answer
   packed-passed e = rw e
 
--- ---- blank
+-- ---- blank, by the inside points among the n + 1 to the third of a block
 
--- the in-block points of a record's block
-abbrev pub points : List ℕ → ℕ
-points bytes = let m = headerOf bytes .block .subdivisions + 1 in m * m * m
-
-pub blank-passed : (bytes : List ℕ) (insides : ℕ) {t : Bool} → judgeRecord bytes ≡ Passed
-    → insides ≡ total (λ k. insideBit (headerOf bytes .threshold) (getD (samplesOf bytes) k nan)) (points bytes)
-    → eqb insides 0 || eqb insides (points bytes) ≡ t → cond t 1 0 ≡ blankAnswer bytes
+pub blank-passed : (bytes : List ℕ) (n insides : ℕ) {t : Bool} → judgeRecord bytes ≡ Passed → n ≡ headerOf bytes .block .subdivisions
+    → insides ≡ total (λ k. insideBit (headerOf bytes .threshold) (getD (samplesOf bytes) k nan)) ((n + 1) * (n + 1) * (n + 1))
+    → eqb insides 0 || eqb insides ((n + 1) * (n + 1) * (n + 1)) ≡ t → cond t 1 0 ≡ blankAnswer bytes
 unfolding blankAnswer
-blank-passed bytes insides passed is e = rw (passed, ← is, e)
+blank-passed bytes n insides passed n-is is e = rw (passed, ← n-is, ← is, e)
 
 -- ---- a sample's bits
 
