@@ -6,8 +6,8 @@ use mathlib.Core.List.{List, [], _++_, append-assoc, append-nil}
 use Prim.Native.Nat.{ℕ, zero, suc}
 use Rattle.model.specs.declared.Triangle.{Triangle}
 use Rattle.model.specs.Sides.{named}
-use Rattle.model.specs.Steps.{iterate}
-use Rattle.model.specs.Points.{Star, subdivisions}
+use Rattle.laws.specs.Steps.{iterate}
+use Rattle.model.specs.Star.{Star, subdivisions}
 use Rattle.model.specs.Mesh.{Made, Cell, Mesh, cellStep, transitionCell, transitionRow, transitionSide, meshOf}
 use Rattle.closed.specs.NoHole.{subject}
 

@@ -2,16 +2,15 @@
 ghost use mathlib.Core.Path.{_≡_};
 ghost use Prim.Native.Nat.{_≤_};
 ghost use Rattle.model.specs.Refusals.{numbersOf, unless, orElse};
-ghost use Rattle.model.specs.Judging.{usable, usableSize, judgeSubdivisions, judgeMask, judgeMeasures, judgeBuffer, judgeRoom, judgeStore};
-ghost use Rattle.model.specs.Mesh.{storeLength};
-ghost use Rattle.model.specs.Points.{star};
-ghost use Rattle.model.specs.Extraction.{judgeStar};
+ghost use Rattle.model.specs.Judging.{usable, usableSize, judgeSubdivisions, judgeMask, judgeMeasures, judgeBuffer, judgeRoom, judgeStore, judgeStar};
+ghost use Rattle.model.specs.Star.{starFrom};
 ghost use Rattle.judge.specs.Parts.{judgeBase};
 
 pub mod faces;
 mod lengths;
 mod samples;
 
+use grid::shared_vertex_indices::store_length;
 use grid::voxel_blocks::MOST_SUBDIVISIONS;
 use lengths::judge_lengths;
 use model::Block;
@@ -203,14 +202,6 @@ pub fn judge_room(wanted: Counts, vertices: usize, triangles: usize) -> Verdict
     unless(fits, Refusal::NoRoom(wanted))
 }
 
-// The places that the index store of a block takes.
-pub fn store_length(n: usize) -> usize
-    requires { ⌜ n ≤ 16 ⌝ }
-    ensures { λ r. ⌜ r ≡ storeLength n ⌝ }
-{
-    4 * (n * n * n) + 60 * (n * n)
-}
-
 pub fn judge_store(n: usize, held: usize) -> Verdict
     requires { ⌜ n ≤ 16 ⌝ }
     ensures { λ r. ⌜ r ≡ judgeStore n held ⌝ }
@@ -227,7 +218,7 @@ pub fn judge_star(
     centre: &[f32],
     neighbours: &[f32],
 ) -> Verdict
-    ensures { λ r. ⌜ r ≡ judgeStar (star block mask threshold (now (centre .entry)) (now (neighbours .entry))) ⌝ }
+    ensures { λ r. ⌜ r ≡ judgeStar (starFrom block mask threshold (now (centre .entry)) (now (neighbours .entry))) ⌝ }
 {
     let n = block.subdivisions;
     let kind = or_else(judge_subdivisions(n), judge_mask(mask));

@@ -14,14 +14,12 @@ use Rattle.model.specs.declared.RecordRead.{RecordRead}
 use Rattle.model.specs.declared.RecordRead.the-variants as RecordRead
 use Rattle.model.specs.declared.RecordWritten.{RecordWritten}
 use Rattle.model.specs.declared.RecordWritten.the-variants as RecordWritten
-use Rattle.model.specs.Steps.{listed, each, laid}
-use Rattle.model.specs.Samples.{sampleLength}
-use Rattle.model.specs.Sides.{neighboursLength}
+use Rattle.laws.specs.Steps.{listed, each, laid}
+use Rattle.model.specs.Sides.{sampleCount}
 use Rattle.model.specs.Formulas.{vector}
 use Rattle.model.specs.Refusals.{unless, orElse}
-use Rattle.model.specs.Judging.{judgeSubdivisions, judgeMask, judgeMeasures, judgeSamples, judgeBuffer}
-use Rattle.model.specs.Points.{star}
-use Rattle.model.specs.Extraction.{judgeStar}
+use Rattle.model.specs.Judging.{judgeSubdivisions, judgeMask, judgeMeasures, judgeSamples, judgeBuffer, judgeStar}
+use Rattle.model.specs.Star.{star}
 
 -- ---- where the fields stand: the length first, a byte each for version, subdivisions and mask, then floats
 
@@ -80,13 +78,10 @@ headerOf bytes =
       threshold = floatAt bytes thresholdAt;
     }
 
--- centre first
-abbrev pub sampleCount : ℕ → ℕ → ℕ
-sampleCount n mask = sampleLength n + neighboursLength n mask
-
 abbrev pub countOf : List ℕ → ℕ
 countOf bytes = sampleCount (headerOf bytes .block .subdivisions) (headerOf bytes .mask)
 
+-- centre first
 unfoldable pub samplesOf : List ℕ → List Float
 samplesOf bytes = listed (λ k. floatAt bytes (sampleFrom k)) (countOf bytes)
 
@@ -154,5 +149,4 @@ writeAnswer h samples bytes (Verdict.Refused r) = record { answer = RecordWritte
 unfoldable pub writeRecord : Header → List Float → List Float → List ℕ → WriteOutcome
 writeRecord h centre neighbours bytes =
     writeAnswer h (centre ++ neighbours) bytes
-    (orElse (judgeStar (star (h .block) (h .mask) (h .threshold) centre neighbours))
-    (judgeBuffer (sampleFrom (length (centre ++ neighbours))) (length bytes)))
+    (orElse (judgeStar (star h centre neighbours)) (judgeBuffer (sampleFrom (length (centre ++ neighbours))) (length bytes)))

@@ -1,6 +1,7 @@
 // Document 01's listing of a block record: its mesh, or its refusal, on standard output.
 ghost use lib.ListN.{length};
 ghost use Rattle.record.specs.Reading.{Held};
+use grid::transition_sides::sample_count;
 use grid::voxel_blocks::sample_length;
 use libc::STDOUT_FILENO;
 use model::Counts;
@@ -8,7 +9,6 @@ use model::Extraction;
 use model::Header;
 use model::RecordRead;
 use model::Refusal;
-use record::judging::sample_count;
 use record::reader::read_record;
 
 // What document 01 gives the program: the longest record, and the places of its buffers.

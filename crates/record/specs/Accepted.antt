@@ -1,13 +1,12 @@
 -- What holds of a record that no judge refuses, by name, and that this is all that the judges ask. Assumes nothing.
 use Prim.Native.Nat.{ℕ, zero, suc, _+_, _-_, _*_, _/_, _≤_, _<_, zero-le}
-use native.Mathlib.Nat.{mul-le-mul, not-suc-le-zero, le-of-suc-le-suc, eq-or-lt-of-le}
+use native.Mathlib.Nat.{not-suc-le-zero, le-of-suc-le-suc, eq-or-lt-of-le}
 use native.Mathlib.Omega.{arith}
 use mathlib.Core.Path.{_≡_, refl, sym, ap, _∙_}
 use mathlib.Core.Bool.{true, not, and-eq-true-iff}
 use mathlib.Core.Logic.{⊎-elim}
 use mathlib.Core.List.{List}
 use borrow.Author.Tests.{leb-true, eqb-true, le-leb, eq-eqb}
-use lib.Count.{ones, ones-le}
 use lib.Dec.{T, leb, eqb}
 use lib.Ieee.{Float, nan, isNan, binary32, toBits}
 use lib.Ieee.Bits.{toBits-ofBits}
@@ -16,12 +15,11 @@ use Rattle.model.specs.declared.Block.{Block}
 use Rattle.model.specs.declared.Refusal.the-variants.{Subdivisions, Mask, Measure, BadSample, RecordLength, Version, SampleCount}
 use Rattle.model.specs.declared.Verdict.{Verdict}
 use Rattle.model.specs.declared.Verdict.the-variants.{Passed}
+use Rattle.model.specs.Limits.{mostSubdivisions, mostMask}
 use Rattle.model.specs.Refusals.{unless, first}
 use Rattle.model.specs.Judging.{usable, measureUsable, judgeMeasures, judgeSamples, sampleUsable}
-use Rattle.model.specs.Sides.{neighbourLength}
-use Rattle.grid.specs.Places.{small}
-use Rattle.model.specs.Record.{versionAt, thresholdAt, headerLength, sampleFrom, wordAt, sampleCount, floatAt, headerOf, countOf, samplesOf, judgeRecord}
-use Rattle.record.specs.Lists.{length-listed, getD-listed}
+use Rattle.model.specs.Record.{versionAt, thresholdAt, headerLength, sampleFrom, wordAt, floatAt, headerOf, countOf, samplesOf, judgeRecord}
+use Rattle.laws.specs.Lists.{length-listed, getD-listed}
 use Rattle.judge.specs.First.{unless-passed, both-passed, passed-over}
 use Rattle.record.specs.Words.{Bytes, word-lt, usable-number, size-number}
 
@@ -32,15 +30,6 @@ each-passed f (suc n) k e h =
     (λ l. each-passed f n k (both-passed (first f n) (f n) e .0) l) (eq-or-lt-of-le (le-of-suc-le-suc h))
 
 -- ---- samples
-
-pub count-small : (n mask : ℕ) → n ≤ 16 → mask ≤ 63 → sampleCount n mask ≤ 297297
-count-small n mask few sides =
-    let one = small n (omega arith) in
-    let two = small (2 * n) (omega arith) in
-    let named : ones mask ≤ 6 = ones-le 6 mask (omega arith) in
-    let part : neighbourLength n ≤ 42471 = omega (arith, two .square, two .cube) in
-    let parts : ones mask * neighbourLength n ≤ 6 * 42471 = mul-le-mul named part in
-    omega (arith, one .square, one .cube)
 
 pub length-samples : (bytes : List ℕ) → length (samplesOf bytes) ≡ countOf bytes
 unfolding samplesOf
@@ -89,8 +78,8 @@ pub record Accepted (bytes : List ℕ) : Type 0 where
   pub told : wordAt bytes 0 ≡ length bytes - 4
   pub version : getD bytes versionAt 0 ≡ 1
   pub some : 1 ≤ headerOf bytes .block .subdivisions
-  pub few : headerOf bytes .block .subdivisions ≤ 16
-  pub sides : headerOf bytes .mask ≤ 63
+  pub few : headerOf bytes .block .subdivisions ≤ mostSubdivisions
+  pub sides : headerOf bytes .mask ≤ mostMask
   pub measures : judgeMeasures (headerOf bytes .block) (headerOf bytes .threshold) ≡ Passed
   pub counted : length bytes ≡ sampleFrom (countOf bytes)
   pub usable-samples : (k : ℕ) → k < countOf bytes → usable (floatAt bytes (sampleFrom k)) ≡ true
@@ -127,7 +116,7 @@ accepted bytes e =
     let measures-passed = both-passed _ _ (mask-passed .1) in
     let count-passed = both-passed _ _ (measures-passed .1) in
     let whole = and-eq-true-iff (leb headerLength (length bytes)) (eqb (wordAt bytes 0) (length bytes - 4)) .0 (unless-passed _ RecordLength (length-passed .0)) in
-    let ranged = and-eq-true-iff (leb 1 n) (leb n 16) .0 (unless-passed _ (Subdivisions n) (subdivisions-passed .0)) in
+    let ranged = and-eq-true-iff (leb 1 n) (leb n mostSubdivisions) .0 (unless-passed _ (Subdivisions n) (subdivisions-passed .0)) in
     let long = leb-true headerLength (length bytes) (whole .0) in
     let counted = eqb-true (length bytes - headerLength) (4 * countOf bytes) (unless-passed _ (SampleCount (countOf bytes)) (count-passed .0)) in
     record {
@@ -135,8 +124,8 @@ accepted bytes e =
       told = eqb-true (wordAt bytes 0) (length bytes - 4) (whole .1);
       version = eqb-true (getD bytes versionAt 0) 1 (unless-passed _ (Version (getD bytes versionAt 0)) (version-passed .0));
       some = leb-true 1 n (ranged .0);
-      few = leb-true n 16 (ranged .1);
-      sides = leb-true (headerOf bytes .mask) 63 (unless-passed _ (Mask (headerOf bytes .mask)) (mask-passed .0));
+      few = leb-true n mostSubdivisions (ranged .1);
+      sides = leb-true (headerOf bytes .mask) mostMask (unless-passed _ (Mask (headerOf bytes .mask)) (mask-passed .0));
       measures = measures-passed .0;
       counted = omega arith;
       usable-samples = λ k h.
@@ -157,8 +146,8 @@ passes bytes a =
       eq-eqb (wordAt bytes 0) (length bytes - 4) (a .told),
       eq-eqb (getD bytes versionAt 0) 1 (a .version),
       le-leb 1 n (a .some),
-      le-leb n 16 (a .few),
-      le-leb (headerOf bytes .mask) 63 (a .sides),
+      le-leb n mostSubdivisions (a .few),
+      le-leb (headerOf bytes .mask) mostMask (a .sides),
       a .measures,
       eq-eqb (length bytes - headerLength) (4 * countOf bytes) counted,
       samples,

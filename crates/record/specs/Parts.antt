@@ -10,6 +10,7 @@ use lib.ListN.{length, getD}
 use Rattle.model.specs.declared.Refusal.the-variants.{BadSample, RecordLength, SampleCount, BufferTooShort}
 use Rattle.model.specs.declared.Verdict.{Verdict}
 use Rattle.model.specs.declared.Verdict.the-variants.{Passed, Refused}
+use Rattle.model.specs.Limits.{mostSubdivisions, mostMask}
 use Rattle.model.specs.Refusals.{unless, orElse, first}
 use Rattle.model.specs.Judging.{usable, measureUsable, sampleUsable, judgeSubdivisions, judgeMask, judgeMeasures, judgeSamples, judgeBuffer}
 use Rattle.model.specs.Record.{baseAt, headerLength, sampleFrom, wordAt, floatAt, headerOf, countOf, samplesOf, judgeLength, judgeVersion, judgeCount, judgeRecord}
@@ -62,8 +63,8 @@ record-in-parts bytes = rw (samples-judged bytes) (simp or-else-assoc)
 -- what the body's judges rest on
 pub record HeadPassed (bytes : List ℕ) : Type 0 where
   pub long : headerLength ≤ length bytes
-  pub few : headerOf bytes .block .subdivisions ≤ 16
-  pub sides : headerOf bytes .mask ≤ 63
+  pub few : headerOf bytes .block .subdivisions ≤ mostSubdivisions
+  pub sides : headerOf bytes .mask ≤ mostMask
 
 pub length-passed : (bytes : List ℕ) → judgeLength bytes ≡ Passed → headerLength ≤ length bytes
 length-passed bytes e =

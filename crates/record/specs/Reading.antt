@@ -1,20 +1,22 @@
 -- What holds of a block that was read: the record passed, its samples fit the list that was lent, and they are what its first places hold.
 -- Assumes nothing.
 use Prim.Native.Nat.{ℕ, _≤_}
-use native.Mathlib.Omega.{arith}
 use mathlib.Core.Path.{_≡_, refl, sym, ap, _∙_}
 use mathlib.Core.List.{List}
 use lib.Ieee.{Float}
-use lib.ListN.{length, length-append, length-drop}
+use lib.ListN.{length}
 use Rattle.model.specs.declared.Header.{Header}
 use Rattle.model.specs.declared.Verdict.{Verdict}
 use Rattle.model.specs.declared.Verdict.the-variants.{Passed, Refused}
 use Rattle.model.specs.declared.RecordRead.{RecordRead}
 use Rattle.model.specs.declared.RecordRead.the-variants as RecordRead
-use Rattle.model.specs.Steps.{laid}
+use Rattle.laws.specs.Steps.{laid}
+use Rattle.laws.specs.Lists.{length-laid}
+use Rattle.model.specs.Limits.{mostSubdivisions, mostMask}
+use Rattle.model.specs.Sides.{sampleCount}
 use Rattle.model.specs.Refusals.{orElse}
 use Rattle.model.specs.Judging.{judgeBuffer}
-use Rattle.model.specs.Record.{headerOf, sampleCount, countOf, samplesOf, judgeRecord, ReadOutcome, readAnswer, readRecord}
+use Rattle.model.specs.Record.{headerOf, countOf, samplesOf, judgeRecord, ReadOutcome, readAnswer, readRecord}
 use Rattle.judge.specs.First.{both-passed}
 use Rattle.record.specs.Accepted.{Accepted, accepted, length-samples}
 use Rattle.record.specs.Parts.{buffer-holds}
@@ -46,8 +48,8 @@ was-read bytes samples h e =
 
 -- what a caller of the reader rests on: a block's samples stand in the first places of a list of this length
 pub record Held (h : Header) (held : ℕ) : Type 0 where
-  pub few : h .block .subdivisions ≤ 16
-  pub sides : h .mask ≤ 63
+  pub few : h .block .subdivisions ≤ mostSubdivisions
+  pub sides : h .mask ≤ mostMask
   pub counted : sampleCount (h .block .subdivisions) (h .mask) ≤ held
 
 pub read-held : (bytes : List ℕ) (samples samples′ : List Float) (read : RecordRead) (h : Header)
@@ -56,6 +58,6 @@ read-held bytes samples samples′ read h e told =
     let was = was-read bytes samples h (sym (ap (λ (o : ReadOutcome). o .answer) e) ∙ told) in
     let same : length samples′ ≡ length samples =
     ap (λ (o : ReadOutcome). length (o .samples)) e ∙ ap length (was .filled)
-    ∙ simp (length-append, length-drop, length-samples) (omega (arith, was .room)) in
+    ∙ length-laid (samplesOf bytes) samples (rw (length-samples bytes) (was .room)) in
     let held : Held (headerOf bytes) (length samples) = record { few = was .whole .few; sides = was .whole .sides; counted = was .room } in
     rw same (rw (was .header-is) at held)

@@ -17,32 +17,33 @@ use Rattle.model.specs.declared.Verdict.{Verdict}
 use Rattle.model.specs.declared.Verdict.the-variants.{Passed, Refused}
 use Rattle.model.specs.declared.RecordRead.the-variants as RecordRead
 use Rattle.model.specs.declared.RecordWritten.the-variants as RecordWritten
-use Rattle.model.specs.Steps.{laid}
+use Rattle.laws.specs.Steps.{laid}
 use Rattle.model.specs.Samples.{sampleLength}
-use Rattle.model.specs.Sides.{named, namedBelow, neighbourLength, neighboursLength}
+use Rattle.model.specs.Limits.{mostSubdivisions, mostMask, sideCount}
+use Rattle.model.specs.Sides.{named, namedBelow, neighbourLength, neighboursLength, sampleCount}
 use Rattle.model.specs.Refusals.{unless, orElse}
-use Rattle.model.specs.Points.{star}
-use Rattle.model.specs.Judging.{judgeMeasures, judgeMissing, sideThere, usable, judgeSamples, judgeBuffer}
-use Rattle.model.specs.Extraction.{judgeStar}
-use Rattle.model.specs.Record.{sampleFrom, sampleCount, countOf, headerOf, samplesOf, recordOf, judgeRecord, readAnswer, readRecord, writeAnswer, writeRecord}
+use Rattle.model.specs.Star.{star}
+use Rattle.model.specs.Judging.{judgeMeasures, judgeMissing, sideThere, usable, judgeSamples, judgeBuffer, judgeStar}
+use Rattle.model.specs.Record.{sampleFrom, countOf, headerOf, samplesOf, recordOf, judgeRecord, readAnswer, readRecord, writeAnswer, writeRecord}
+use Rattle.grid.specs.Counts.{mostSamples, count-small}
 use Rattle.grid.specs.Shape.{Shaped}
 use Rattle.grid.specs.SideLaws.{named-below}
 use Rattle.judge.specs.First.{both-passed, passed-over}
 use Rattle.judge.specs.Passing.{star-shaped}
 use Rattle.record.specs.Words.{Bytes, Fit}
 use Rattle.record.specs.Writable.{star-parts}
-use Rattle.record.specs.Accepted.{Accepted, passes, length-samples, sample-is, samples-pass, samples-usable, count-small}
+use Rattle.record.specs.Accepted.{Accepted, passes, length-samples, sample-is, samples-pass, samples-usable}
 use Rattle.record.specs.Reading.{was-read}
 use Rattle.record.specs.Bytes.{measuresOf, length-record, length-told, version-told, header-back, samples-back, record-back}
 
 -- ---- reading then writing
 
 -- no neighbour is missing of a list that is long enough
-none-missing : (n mask held : ℕ) → mask ≤ 63 → neighboursLength n mask ≤ held → judgeMissing n mask held ≡ Passed
+none-missing : (n mask held : ℕ) → mask ≤ mostMask → neighboursLength n mask ≤ held → judgeMissing n mask held ≡ Passed
 unfolding judgeMissing
-none-missing n mask held sides h = passed-over (sideThere n mask held) 0 6 refl (λ side from l. by side l (named mask side) refl) zero-le
+none-missing n mask held sides h = passed-over (sideThere n mask held) 0 sideCount refl (λ side from l. by side l (named mask side) refl) zero-le
   where
-    by : (side : ℕ) → side < 6 → (b : Bool) → named mask side ≡ b
+    by : (side : ℕ) → side < sideCount → (b : Bool) → named mask side ≡ b
         → cond b (unless (leb ((namedBelow mask side + 1) * neighbourLength n) held) (MissingNeighbour side)) Passed ≡ Passed
     by side l true e =
         let fits : (namedBelow mask side + 1) * neighbourLength n ≤ ones mask * neighbourLength n =
@@ -58,7 +59,7 @@ module _ (bytes : List ℕ) (a : Accepted bytes) where
   mask = headerOf bytes .mask
 
   star-passes : (centre neighbours : List Float) → centre ++ neighbours ≡ samplesOf bytes → length centre ≡ sampleLength n
-      → judgeStar (star (headerOf bytes .block) mask (headerOf bytes .threshold) centre neighbours) ≡ Passed
+      → judgeStar (star (headerOf bytes) centre neighbours) ≡ Passed
   unfolding judgeStar headerOf
   star-passes centre neighbours whole centre-is =
       let neighbours-are : length neighbours ≡ neighboursLength n mask =
@@ -69,8 +70,8 @@ module _ (bytes : List ℕ) (a : Accepted bytes) where
       (λ k h. let l : k < countOf bytes = rw (length-samples bytes) at h in ap usable (sample-is bytes k l) ∙ a .usable-samples k l) in
       rw (
         le-leb 1 n (a .some),
-        le-leb n 16 (a .few),
-        le-leb mask 63 (a .sides),
+        le-leb n mostSubdivisions (a .few),
+        le-leb mask mostMask (a .sides),
         a .measures,
         eq-eqb (length centre) (sampleLength n) centre-is,
         none-missing n mask (length neighbours) (a .sides) (omega arith),
@@ -131,7 +132,7 @@ read-write bytes samples out h small e room =
 -- ---- writing then reading
 
 module _ (h : Header) (centre neighbours : List Float) (fit-measures : Fit (measuresOf h)) (fit : Fit (centre ++ neighbours))
-    (passed : judgeStar (star (h .block) (h .mask) (h .threshold) centre neighbours) ≡ Passed) (shaped : Shaped (star (h .block) (h .mask) (h .threshold) centre neighbours)) where
+    (passed : judgeStar (star h centre neighbours) ≡ Passed) (shaped : Shaped (star h centre neighbours)) where
   abbrev samples : List Float
   samples = centre ++ neighbours
 
@@ -160,8 +161,8 @@ module _ (h : Header) (centre neighbours : List Float) (fit-measures : Fit (meas
   read-back =
       let n = h .block .subdivisions in
       let long = length-record h samples in
-      let parts = star-parts (star (h .block) (h .mask) (h .threshold) centre neighbours) passed in
-      let few : length samples ≤ 297297 = rw (← count-is, n-is, mask-is) (count-small n (h .mask) (shaped .few) (shaped .sides)) in
+      let parts = star-parts (star h centre neighbours) passed in
+      let few : length samples ≤ mostSamples = rw (← count-is, n-is, mask-is) (count-small n (h .mask) (shaped .few) (shaped .sides)) in
       record {
         long = omega arith;
         told = length-told h samples (omega arith) ∙ rw long (omega arith);
@@ -189,7 +190,7 @@ pub write-read : (h : Header) (centre neighbours : List Float) (out : List ℕ) 
     ≡ record { answer = RecordRead.Block h; samples = laid (centre ++ neighbours) samples }
 unfolding readRecord writeRecord
 write-read h centre neighbours out samples k fit-measures fit e room =
-    let s = star (h .block) (h .mask) (h .threshold) centre neighbours in
+    let s = star h centre neighbours in
     let written = wrote h (centre ++ neighbours) out k (orElse (judgeStar s) (judgeBuffer (sampleFrom (length (centre ++ neighbours))) (length out))) e in
     let passed = both-passed (judgeStar s) _ (written .0) .0 in
     let shaped = star-shaped s passed in

@@ -4,7 +4,7 @@ ghost use Prim.Native.Nat.{_+_, _*_, _≤_, _<_};
 ghost use lib.ListN.{length};
 ghost use Rattle.model.specs.Refusals.{first};
 ghost use Rattle.model.specs.Judging.{usable, usableSize, measureUsable, judgeMeasures};
-ghost use Rattle.model.specs.Record.{headerLength, sampleFrom, floatAt, headerOf, sampleCount, judgeLength, judgeRecord};
+ghost use Rattle.model.specs.Record.{headerLength, sampleFrom, floatAt, headerOf, judgeLength, judgeRecord};
 ghost use Rattle.record.specs.Parts.{HeadPassed, sampleUsableAt, judgeHead, judgeBody};
 use crate::fields::BASE_AT;
 use crate::fields::HEADER_LENGTH;
@@ -15,8 +15,7 @@ use crate::fields::mask_of;
 use crate::fields::sample_from;
 use crate::fields::subdivisions_of;
 use crate::words::word_at;
-use grid::transition_sides::count;
-use grid::voxel_blocks::sample_length;
+use grid::transition_sides::sample_count;
 use judge::judge_mask;
 use judge::judge_subdivisions;
 use judge::unless;
@@ -104,14 +103,6 @@ fn judge_head(bytes: &[u8]) -> Verdict
         return Verdict::Refused(r);
     }
     judge_measures(bytes)
-}
-
-// The samples of a block and of its neighbours.
-pub fn sample_count(n: usize, mask: u8) -> usize
-    requires { ⌜ (n ≤ 16) × (mask ≤ 63) ⌝ }
-    ensures { λ r. ⌜ (r ≡ sampleCount n mask) × (r ≤ 297297) ⌝ }
-{
-    sample_length(n) + count(mask) * sample_length(2 * n)
 }
 
 fn judge_samples(bytes: &[u8], count: usize) -> Verdict

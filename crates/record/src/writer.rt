@@ -4,11 +4,11 @@ ghost use mathlib.Core.List.{_++_};
 ghost use Prim.Native.Nat.{_+_, _*_, _≤_, _<_};
 ghost use lib.ListN.{length};
 ghost use lib.Seq.{sets};
-ghost use Rattle.model.specs.Steps.{each};
+ghost use Rattle.laws.specs.Steps.{each};
 ghost use Rattle.model.specs.Refusals.{orElse};
-ghost use Rattle.model.specs.Points.{star};
-ghost use Rattle.model.specs.Judging.{judgeBuffer};
-ghost use Rattle.model.specs.Extraction.{judgeStar};
+ghost use Rattle.grid.specs.Counts.{mostSamples};
+ghost use Rattle.model.specs.Star.{star};
+ghost use Rattle.model.specs.Judging.{judgeBuffer, judgeStar};
 ghost use Rattle.model.specs.Record.{headerLength, sampleFrom, floatBytes, writeRecord};
 ghost use Rattle.record.specs.Words.{Numbers};
 ghost use Rattle.record.specs.Bytes.{measuresOf, startOf};
@@ -37,7 +37,7 @@ fn put_floats(bytes: &mut [u8], at: usize, floats: &[f32])
 
 // Length, version, n and mask.
 fn put_start(bytes: &mut [u8], header: Header, count: usize)
-    requires { ⌜ (headerLength ≤ length (now bytes)) × ((header .block .subdivisions < 256) × (count ≤ 297297)) ⌝ }
+    requires { ⌜ (headerLength ≤ length (now bytes)) × ((header .block .subdivisions < 256) × (count ≤ mostSamples)) ⌝ }
     ensures { λ _. ⌜ now (bytes .exit) ≡ sets (now (bytes .entry)) 0 (startOf header count) ⌝ }
 {
     let n = header.block.subdivisions as u8;
@@ -48,7 +48,7 @@ fn put_start(bytes: &mut [u8], header: Header, count: usize)
 }
 
 fn put_header(bytes: &mut [u8], header: Header, count: usize)
-    requires { ⌜ (headerLength ≤ length (now bytes)) × ((header .block .subdivisions < 256) × ((count ≤ 297297) × Numbers (measuresOf header))) ⌝ }
+    requires { ⌜ (headerLength ≤ length (now bytes)) × ((header .block .subdivisions < 256) × ((count ≤ mostSamples) × Numbers (measuresOf header))) ⌝ }
     ensures { λ _. ⌜ now (bytes .exit) ≡ sets (now (bytes .entry)) 0 (startOf header count ++ each floatBytes (measuresOf header)) ⌝ }
 {
     put_start(bytes, header, count);
@@ -60,7 +60,7 @@ fn put_header(bytes: &mut [u8], header: Header, count: usize)
 
 // 1 to 7, and 14.
 fn judge_writing(header: Header, centre: &[f32], neighbours: &[f32], held: usize) -> Verdict
-    ensures { λ r. ⌜ r ≡ orElse (judgeStar (star (header .block) (header .mask) (header .threshold) (now (centre .entry)) (now (neighbours .entry))))
+    ensures { λ r. ⌜ r ≡ orElse (judgeStar (star header (now (centre .entry)) (now (neighbours .entry))))
         (judgeBuffer (sampleFrom (length (now (centre .entry) ++ now (neighbours .entry)))) held) ⌝ }
 {
     let whole = judge_star(

@@ -1,7 +1,7 @@
 // The C face: every call that code in C or Rust makes of this project. Each requires nothing, answers by value, and writes to no lent
 // buffer but those that the definition it cites fills.
 ghost use mathlib.Core.Path.{_≡_};
-ghost use Rattle.model.specs.Points.{star};
+ghost use Rattle.model.specs.Star.{star};
 ghost use Rattle.model.specs.Extraction.{extract};
 ghost use Rattle.model.specs.Record.{readRecord, writeRecord};
 ghost use Rattle.model.specs.Viewer.{subdivisionsAnswer, blankAnswer, sampleAnswer};
@@ -117,7 +117,7 @@ pub extern "C" fn sirveshan_extract(
     triangles: &mut [u32],
 ) -> Extracted
     ensures { λ r. ⌜ record { answer = r; store = now (store .exit); vertices = now (vertices .exit); triangles = now (triangles .exit) }
-        ≡ extractCall (extract (star (header .block) (header .mask) (header .threshold) (now (centre .entry)) (now (neighbours .entry))) (now (store .entry)) (now (vertices .entry)) (now (triangles .entry))) ⌝ }
+        ≡ extractCall (extract (star header (now (centre .entry)) (now (neighbours .entry))) (now (store .entry)) (now (vertices .entry)) (now (triangles .entry))) ⌝ }
 {
     extract_answer(algorithm::extract(
         header.block,

@@ -5,8 +5,8 @@ use mathlib.Core.Bool.{Bool}
 use Prim.Native.Nat.{ℕ}
 use lib.Dec.{T}
 use Rattle.tables.specs.Codes.{edgeOf}
-use Rattle.tables.specs.Each.{both, below, all}
-use Rattle.tables.specs.Counting.{has, every, every-item}
+use Rattle.laws.specs.Tests.{both, below, all}
+use Rattle.laws.specs.Counting.{has, every, every-item}
 use Rattle.tables.specs.Corners.{bit, regularInside, regularUsed, regularEdges}
 use Rattle.tables.specs.Listed.{Listing, rowTest, row-used, row-exactly}
 use Rattle.tables.specs.RegularRows as regular

@@ -1,3 +1,4 @@
+-- `print_float` is safe: what is no NaN has bits.
 use Prim.Native.Nat.{ℕ}
 use mathlib.Core.Path.{_≡_}
 use mathlib.Core.Bool.{true, false, not}

@@ -1,3 +1,4 @@
+-- `print_vertices` is safe. The loop's invariant: the place is in the list.
 use Prim.Native.Nat.{_-_, _≤_}
 use borrow.Author.Needs.{needs}
 use lib.ListN.{length}

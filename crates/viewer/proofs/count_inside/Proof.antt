@@ -7,7 +7,7 @@ use native.Mathlib.Omega.{arith}
 use lib.Ieee.{nan}
 use lib.ListN.{getD}
 use Rattle.model.specs.declared.Header.{Header}
-use Rattle.model.specs.Steps.{total}
+use Rattle.laws.specs.Steps.{total}
 use Rattle.model.specs.Formulas.{insideBit}
 use Rattle.model.specs.Record.{headerOf, samplesOf}
 use Rattle.viewer.proofs.count_inside.Statement.{statement}

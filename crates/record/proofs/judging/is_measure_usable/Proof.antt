@@ -1,3 +1,4 @@
+-- `is_measure_usable` meets its contract: each measure is judged where it stands in the record.
 use mathlib.Core.Path.{_∙_}
 use native.Mathlib.Omega.{arith}
 use borrow.Author.Needs.{needs}

@@ -1,7 +1,8 @@
 -- `judge_body` meets its contract: the count by n and mask decides 13, and then 7 is that of the samples in order.
 use mathlib.Core.Path.{_≡_, ap₂, _∙_}
 use borrow.Author.Needs.{needs}
-use Rattle.model.specs.Record.{sampleCount, countOf}
+use Rattle.model.specs.Sides.{sampleCount}
+use Rattle.model.specs.Record.{countOf}
 use Rattle.record.specs.Parts.{body-refused, body-counted}
 use Rattle.record.proofs.judging.judge_body.Statement.{statement}
 use Rattle.record.proofs.judging.judge_body.Tie as tie

@@ -1,3 +1,4 @@
+-- `judge_length` meets its contract: too short, or long enough and judged by what the length field tells.
 use Prim.Native.Nat.{ℕ, _-_}
 use mathlib.Core.Path.{_≡_, ap, _∙_}
 use borrow.Author.Needs.{needs}

@@ -5,9 +5,9 @@ use mathlib.Core.List.{List, _++_}
 use native.Mathlib.Omega.{arith}
 use lib.Ieee.{Float}
 use lib.ListN.{length, drop, set, length-set}
-use Rattle.model.specs.Steps.{listed}
+use Rattle.laws.specs.Steps.{listed}
 use Rattle.model.specs.Record.{sampleFrom, floatAt, countOf, samplesOf}
-use Rattle.record.specs.Lists.{length-listed, listed-more}
+use Rattle.laws.specs.Lists.{length-listed, listed-more}
 use Rattle.record.specs.Accepted.{sample-is}
 use Rattle.record.proofs.reader.fill_samples.Statement.{statement}
 use Rattle.record.proofs.reader.fill_samples.Tie as tie

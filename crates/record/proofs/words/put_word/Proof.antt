@@ -1,3 +1,4 @@
+-- `put_word` meets its contract: the four stores are the word's four bytes in order.
 use borrow.Author.Needs.{needs}
 use native.Mathlib.Numerals.{add-one, add-two, add-three}
 use native.Mathlib.Omega.{arith}

@@ -4,8 +4,8 @@ use native.Mathlib.Omega.{arith}
 use borrow.Author.Needs.{needs}
 use lib.ListN.{length-append}
 use Rattle.model.specs.declared.Verdict.the-variants.{Passed, Refused}
-use Rattle.model.specs.Points.{Star, star}
-use Rattle.model.specs.Extraction.{judgeStar}
+use Rattle.model.specs.Star.{Star, star}
+use Rattle.model.specs.Judging.{judgeStar}
 use Rattle.record.specs.Writable.{writable}
 use Rattle.record.proofs.writer.judge_writing.Statement.{statement}
 use Rattle.record.proofs.writer.judge_writing.Tie as tie
@@ -23,7 +23,7 @@ module _ (c : tie.After-enum-told) where
   abbrev block : Star
   block =
       let args = c .before .before .before .before .before .args in
-      star (args .header .block) (args .header .mask) (args .header .threshold) (args .centre .now) (args .neighbours .now)
+      star (args .header) (args .centre .now) (args .neighbours .now)
 
   passed : judgeStar block ≡ Passed
   passed = sym (c .before .before .judge-star .ensures) ∙ c .enum-told .given .1
