@@ -63,13 +63,7 @@ fn judge_writing(header: Header, centre: &[f32], neighbours: &[f32], held: usize
     ensures { λ r. ⌜ r ≡ orElse (judgeStar (star header (now (centre .entry)) (now (neighbours .entry))))
         (judgeBuffer (sampleFrom (length (now (centre .entry) ++ now (neighbours .entry)))) held) ⌝ }
 {
-    let whole = judge_star(
-        header.block,
-        header.mask,
-        header.threshold,
-        centre,
-        neighbours,
-    );
+    let whole = judge_star(header, centre, neighbours);
     if let Verdict::Refused(r) = whole {
         return Verdict::Refused(r);
     }
