@@ -1,11 +1,12 @@
 -- `judge_writing` meets its contract: 1 to 7 refuse, or they pass and 14 goes by the bytes of as many samples as are lent.
-use mathlib.Core.Path.{_≡_, sym, _∙_}
+use Prim.Native.Nat.{ℕ}
+use mathlib.Core.Path.{_≡_, sym, ap, _∙_}
 use native.Mathlib.Omega.{arith}
 use borrow.Author.Needs.{needs}
 use lib.ListN.{length-append}
 use Rattle.model.specs.declared.Verdict.the-variants.{Passed, Refused}
 use Rattle.model.specs.Star.{Star, star}
-use Rattle.model.specs.Judging.{judgeStar}
+use Rattle.model.specs.Judging.{judgeBuffer, judgeStar}
 use Rattle.record.specs.Writable.{writable}
 use Rattle.record.proofs.writer.judge_writing.Statement.{statement}
 use Rattle.record.proofs.writer.judge_writing.Tie as tie
@@ -43,7 +44,10 @@ judge-buffer-requires : tie.Need-judge-buffer-requires
 judge-buffer-requires c κs = search needs
 
 returns-2 : tie.Need-returns-2
-returns-2 c = rw (passed (c .before .before), length-append, ← c .before .sample-from .ensures) (c .judge-buffer .ensures)
+returns-2 c =
+    let told = c .before .before in
+    rw (passed told, length-append)
+    (c .judge-buffer .ensures ∙ ap (λ (wanted : ℕ). judgeBuffer wanted (told .before .before .before .before .before .args .held)) (c .before .sample-from .ensures))
 
 pub judge-writing-spec : {M : Type 1} → statement M
 judge-writing-spec =
