@@ -1,2 +1,3 @@
 pub mod Limits
 pub mod Bounds
+pub mod Walked

@@ -1,36 +1,49 @@
 -- Document 01, 'Answers by number': 8 over one face, with the neighbour's samples at hand, and over the faces of the named sides.
-use Prim.Native.Nat.{ℕ, _+_, _*_, _≤_, _<_}
-use mathlib.Core.Path.{_≡_, refl}
+use Prim.Native.Nat.{ℕ, _+_, _*_}
+use mathlib.Core.Path.{_≡_, refl, _∙_}
 use mathlib.Core.Bool.{Bool, Bool·beq}
 use mathlib.Core.List.{List}
-use lib.Ieee.{Float}
-use lib.ListN.{length}
+use native.Mathlib.Omega.{arith}
+use lib.Ieee.{Float, nan}
+use lib.ListN.{getD}
 use Rattle.model.specs.declared.Refusal.the-variants.{FaceMismatch}
 use Rattle.model.specs.declared.Verdict.{Verdict}
 use Rattle.model.specs.Refusals.{unless, first}
-use Rattle.model.specs.Samples.{sampleLength, sampleOf}
-use Rattle.model.specs.Sides.{neighbourLength, neighbourOf}
+use Rattle.model.specs.Limits.{sideCount}
+use Rattle.model.specs.Samples.{sampleOf}
+use Rattle.model.specs.Sides.{neighbourOf}
 use Rattle.model.specs.Rotations.{facePoint, neighbourPoint}
 use Rattle.model.specs.Formulas.{inside}
 use Rattle.model.specs.Star.{Star, subdivisions}
 use Rattle.model.specs.Points.{fineSample}
 use Rattle.model.specs.Judging.{facesAgree, judgeFaces}
+use Rattle.grid.specs.RotationLaws.{OnFace, OnSide}
+use Rattle.grid.specs.Walks.{sidePlace, spot-read}
 use Rattle.judge.specs.NamedSides.{ofNamed}
 
--- a point of a side's face, in a block and its neighbour
-pub record FacePair (n : ℕ) (centre neighbour : List Float) (side u v : ℕ) : Type 0 where
-  pub few : n ≤ 16
-  pub centre-is : length centre ≡ sampleLength n
-  pub neighbour-is : length neighbour ≡ neighbourLength n
-  pub side-is : side < 6
-  pub u-in : u ≤ n
-  pub v-in : v ≤ n
+-- a face's point among the centre's samples, and the coinciding one among the neighbour's
+pub coarse-on : {n side u v : ℕ} → OnFace n side u v → OnSide side n u v 0
+coarse-on on = omega arith
+
+pub fine-on : {n side u v : ℕ} → OnFace n side u v → OnSide side (2 * n) (2 * u) (2 * v) (2 * n)
+fine-on on = omega arith
 
 module _ (n : ℕ) (threshold : Float) (centre neighbour : List Float) (side : ℕ) where
   abbrev pub pairAgrees : ℕ → ℕ → Bool
   pairAgrees u v =
       Bool·beq (inside threshold (sampleOf n centre (facePoint n side u v)))
       (inside threshold (sampleOf (2 * n) neighbour (neighbourPoint n side (2 * u) (2 * v))))
+
+  -- it goes by the samples at the two places
+  abbrev agreeAt : ℕ → ℕ → Bool
+  agreeAt here there = Bool·beq (inside threshold (getD centre here nan)) (inside threshold (getD neighbour there nan))
+
+  pub places-agree : {u v here there : ℕ} {r : Bool} → OnFace n side u v → here ≡ sidePlace n side 0 u v
+      → there ≡ sidePlace (2 * n) side (2 * n) (2 * u) (2 * v) → r ≡ agreeAt here there → r ≡ pairAgrees u v
+  places-agree {u} {v} on here-is there-is e =
+      let coarse = spot-read n side 0 u v (coarse-on on) centre in
+      let fine = spot-read (2 * n) side (2 * n) (2 * u) (2 * v) (fine-on on) neighbour in
+      e ∙ (λ i. agreeAt (here-is i) (there-is i)) ∙ (λ i. Bool·beq (inside threshold (coarse i)) (inside threshold (fine i)))
 
   -- a point, the first places of a row, and the first rows of a face
   abbrev pub pairSpot : ℕ → ℕ → Verdict
@@ -48,6 +61,6 @@ pairFace n mask threshold centre neighbours side =
     pairRows n threshold centre (neighbourOf n mask neighbours side) side (n + 1)
 
 pub face-by-face : (s : Star) →
-    judgeFaces s ≡ first (ofNamed (s .mask) (pairFace (subdivisions s) (s .mask) (s .threshold) (s .centre) (s .neighbours))) 6
+    judgeFaces s ≡ first (ofNamed (s .mask) (pairFace (subdivisions s) (s .mask) (s .threshold) (s .centre) (s .neighbours))) sideCount
 unfolding judgeFaces facesAgree fineSample
 face-by-face s = refl

@@ -12,6 +12,7 @@ use Rattle.laws.specs.Tests.{both, below, all₂}
 use Rattle.model.specs.declared.Refusal.the-variants.{MissingNeighbour}
 use Rattle.model.specs.declared.Verdict.{Verdict}
 use Rattle.model.specs.declared.Verdict.the-variants.{Passed}
+use Rattle.model.specs.Limits.{sideCount, mostMask}
 use Rattle.model.specs.Refusals.{unless, first}
 use Rattle.model.specs.Sides.{named, namedBelow, neighbourLength}
 use Rattle.model.specs.Judging.{sideThere}
@@ -26,13 +27,13 @@ partThere n mask held side = unless (leb ((namedBelow mask side + 1) * neighbour
 abbrev one-more : ℕ → ℕ → Bool
 one-more mask side = eqb (namedBelow mask (side + 1)) (namedBelow mask side + cond (named mask side) 1 0)
 
-each-one-more : T (below (λ mask. below (one-more mask) 6) 64)
+each-one-more : T (below (λ mask. below (one-more mask) sideCount) (mostMask + 1))
 unfolding both named ones onesIn
 each-one-more = tt
 
-module _ (mask : ℕ) (h : mask ≤ 63) where
-  named-below-next : (side : ℕ) → side < 6 → namedBelow mask (side + 1) ≡ namedBelow mask side + cond (named mask side) 1 0
-  named-below-next side l = eqb→eq _ _ (all₂ one-more 64 6 each-one-more mask side (omega arith) l)
+module _ (mask : ℕ) (h : mask ≤ mostMask) where
+  named-below-next : (side : ℕ) → side < sideCount → namedBelow mask (side + 1) ≡ namedBelow mask side + cond (named mask side) 1 0
+  named-below-next side l = eqb→eq _ _ (all₂ one-more (mostMask + 1) sideCount each-one-more mask side (omega arith) l)
 
   named-below-none : namedBelow mask 0 ≡ 0
   unfolding ones onesIn
@@ -40,11 +41,11 @@ module _ (mask : ℕ) (h : mask ≤ 63) where
       let none : mask % 1 ≡ 0 = omega arith in
       ap ones none
 
-  pub named-below-all : namedBelow mask 6 ≡ ones mask
+  pub named-below-all : namedBelow mask sideCount ≡ ones mask
   named-below-all = ap ones (omega arith)
 
   -- no neighbour of a side below this one is missing
-  pub parts-there : (n held side : ℕ) → side ≤ 6 → first (sideThere n mask held) side ≡ Passed
+  pub parts-there : (n held side : ℕ) → side ≤ sideCount → first (sideThere n mask held) side ≡ Passed
       → namedBelow mask side * neighbourLength n ≤ held
   parts-there n held zero l e = rw named-below-none (omega arith)
   parts-there n held (suc side) l e =

@@ -15,7 +15,7 @@ use Rattle.model.specs.Refusals.{orElse}
 use Rattle.model.specs.Samples.{sampleLength}
 use Rattle.model.specs.Sides.{neighboursLength}
 use Rattle.model.specs.Star.{Star, subdivisions}
-use Rattle.model.specs.Limits.{mostSubdivisions}
+use Rattle.model.specs.Limits.{mostSubdivisions, mostMask, sideCount}
 use Rattle.model.specs.Judging.{judgeSubdivisions, judgeMask, judgeMeasures, judgeCentre, judgeMissing, judgeTooLong, judgeSamples, judgeStar}
 use Rattle.grid.specs.Shape.{Shaped}
 use Rattle.judge.specs.First.{or-else-assoc, both-passed, unless-passed}
@@ -47,8 +47,8 @@ module _ (s : Star) where
 
 pub record Kind (n mask : ℕ) : Type 0 where
   pub some : 1 ≤ n
-  pub few : n ≤ 16
-  pub sides : mask ≤ 63
+  pub few : n ≤ mostSubdivisions
+  pub sides : mask ≤ mostMask
 
 pub kind-passed : (n mask : ℕ) → judgeKind n mask ≡ Passed → Kind n mask
 kind-passed n mask passed =
@@ -57,7 +57,7 @@ kind-passed n mask passed =
     record {
       some = leb-true 1 n (range .0);
       few = leb-true n mostSubdivisions (range .1);
-      sides = leb-true mask 63 (unless-passed _ (Mask mask) (parts .1));
+      sides = leb-true mask mostMask (unless-passed _ (Mask mask) (parts .1));
     }
 
 pub star-shaped : (s : Star) → judgeStar s ≡ Passed → Shaped s
@@ -75,7 +75,7 @@ star-shaped s passed =
     let from4 = both-passed (judgeCentre n centre) (orElse missing long) (both-passed measures lengths (from3 .0) .1) in
     let from5 = both-passed missing long (from4 .1) in
     let kind = kind-passed n (s .mask) (from1 .0) in
-    let enough = parts-there (s .mask) (kind .sides) n neighbours 6 (omega arith) (from5 .0) in
+    let enough = parts-there (s .mask) (kind .sides) n neighbours sideCount (omega arith) (from5 .0) in
     let few = leb-true neighbours (neighboursLength n (s .mask)) (unless-passed _ (NeighboursTooLong _) (from5 .1)) in
     record {
       some = kind .some;

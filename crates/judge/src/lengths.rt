@@ -1,6 +1,7 @@
 // Refusals 4 to 6: the lengths of the lists that are lent, of a block whose subdivisions and mask have passed.
 ghost use mathlib.Core.Path.{_≡_};
 ghost use Prim.Native.Nat.{_≤_};
+ghost use Rattle.model.specs.Limits.{mostSubdivisions, mostMask};
 ghost use Rattle.model.specs.Judging.{judgeCentre, judgeMissing, judgeTooLong};
 ghost use Rattle.judge.specs.Parts.{judgeLengths};
 use crate::or_else;
@@ -13,8 +14,8 @@ use grid::voxel_blocks::sample_length;
 use model::Refusal;
 use model::Verdict;
 
-fn judge_centre(n: usize, held: usize) -> Verdict
-    requires { ⌜ n ≤ 16 ⌝ }
+pub fn judge_centre(n: usize, held: usize) -> Verdict
+    requires { ⌜ n ≤ mostSubdivisions ⌝ }
     ensures { λ r. ⌜ r ≡ judgeCentre n held ⌝ }
 {
     let wanted = sample_length(n);
@@ -23,7 +24,7 @@ fn judge_centre(n: usize, held: usize) -> Verdict
 
 // The parts of the named sides lie one after another: the first that ends beyond what is held is not wholly there.
 fn judge_missing(n: usize, mask: u8, held: usize) -> Verdict
-    requires { ⌜ (n ≤ 16) × (mask ≤ 63) ⌝ }
+    requires { ⌜ (n ≤ mostSubdivisions) × (mask ≤ mostMask) ⌝ }
     ensures { λ r. ⌜ r ≡ judgeMissing n mask held ⌝ }
 {
     let length = sample_length(2 * n);
@@ -39,7 +40,7 @@ fn judge_missing(n: usize, mask: u8, held: usize) -> Verdict
 }
 
 fn judge_too_long(n: usize, mask: u8, held: usize) -> Verdict
-    requires { ⌜ n ≤ 16 ⌝ }
+    requires { ⌜ (n ≤ mostSubdivisions) × (mask ≤ mostMask) ⌝ }
     ensures { λ r. ⌜ r ≡ judgeTooLong n mask held ⌝ }
 {
     let wanted = count(mask) * sample_length(2 * n);
@@ -47,7 +48,7 @@ fn judge_too_long(n: usize, mask: u8, held: usize) -> Verdict
 }
 
 pub fn judge_lengths(n: usize, mask: u8, centre: usize, neighbours: usize) -> Verdict
-    requires { ⌜ (n ≤ 16) × (mask ≤ 63) ⌝ }
+    requires { ⌜ (n ≤ mostSubdivisions) × (mask ≤ mostMask) ⌝ }
     ensures { λ r. ⌜ r ≡ judgeLengths n mask centre neighbours ⌝ }
 {
     let missing = judge_missing(n, mask, neighbours);

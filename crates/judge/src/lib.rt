@@ -1,125 +1,65 @@
 // The refusals of document 01, each judged as its model says: what extraction, the reader and the writer share.
 ghost use mathlib.Core.Path.{_≡_};
 ghost use Prim.Native.Nat.{_≤_};
-ghost use Rattle.model.specs.Refusals.{numbersOf, unless, orElse};
+ghost use Rattle.model.specs.Limits.{mostSubdivisions};
+ghost use Rattle.model.specs.Refusals.{numbers, numbersOf, unless, orElse};
 ghost use Rattle.model.specs.Judging.{usable, usableSize, judgeSubdivisions, judgeMask, judgeMeasures, judgeBuffer, judgeRoom, judgeStore, judgeStar};
-ghost use Rattle.model.specs.Star.{starFrom};
+ghost use Rattle.model.specs.Star.{star};
 ghost use Rattle.judge.specs.Parts.{judgeBase};
 
 pub mod faces;
 mod lengths;
+pub mod point_read;
 mod samples;
 
 use grid::shared_vertex_indices::store_length;
 use grid::voxel_blocks::MOST_SUBDIVISIONS;
 use lengths::judge_lengths;
-use model::Block;
 use model::Counts;
+use model::Header;
 use model::Numbers;
 use model::Refusal;
 use model::Vector;
 use model::Verdict;
 use samples::judge_samples;
 
+const MOST_MASK: u8 = 63;
+
 const LIMIT: f32 = 1048576.0;
 
 const LEAST_SIZE: f32 = 0.0009765625;
+
+fn numbers(number: usize, first: usize, second: usize, third: usize) -> Numbers
+    ensures { λ r. ⌜ r ≡ numbers number first second third ⌝ }
+{
+    Numbers {
+        number,
+        first,
+        second,
+        third,
+    }
+}
 
 // The number of a refusal, and its three numbers.
 pub fn numbers_of(refusal: Refusal) -> Numbers
     ensures { λ r. ⌜ r ≡ numbersOf refusal ⌝ }
 {
     match refusal {
-        Refusal::Subdivisions(n) => Numbers {
-            number: 1,
-            first: n,
-            second: 0,
-            third: 0,
-        },
-        Refusal::Mask(mask) => Numbers {
-            number: 2,
-            first: mask,
-            second: 0,
-            third: 0,
-        },
-        Refusal::Measure(which) => Numbers {
-            number: 3,
-            first: which,
-            second: 0,
-            third: 0,
-        },
-        Refusal::CentreLength(wanted) => Numbers {
-            number: 4,
-            first: wanted,
-            second: 0,
-            third: 0,
-        },
-        Refusal::MissingNeighbour(side) => Numbers {
-            number: 5,
-            first: side,
-            second: 0,
-            third: 0,
-        },
-        Refusal::NeighboursTooLong(wanted) => Numbers {
-            number: 6,
-            first: wanted,
-            second: 0,
-            third: 0,
-        },
-        Refusal::BadSample(place) => Numbers {
-            number: 7,
-            first: place,
-            second: 0,
-            third: 0,
-        },
-        Refusal::FaceMismatch(at) => Numbers {
-            number: 8,
-            first: at.side,
-            second: at.u,
-            third: at.v,
-        },
-        Refusal::IndexStoreTooShort(wanted) => Numbers {
-            number: 9,
-            first: wanted,
-            second: 0,
-            third: 0,
-        },
-        Refusal::NoRoom(wanted) => Numbers {
-            number: 10,
-            first: wanted.vertices,
-            second: wanted.triangles,
-            third: 0,
-        },
-        Refusal::RecordLength => Numbers {
-            number: 11,
-            first: 0,
-            second: 0,
-            third: 0,
-        },
-        Refusal::Version(byte) => Numbers {
-            number: 12,
-            first: byte,
-            second: 0,
-            third: 0,
-        },
-        Refusal::SampleCount(wanted) => Numbers {
-            number: 13,
-            first: wanted,
-            second: 0,
-            third: 0,
-        },
-        Refusal::BufferTooShort(wanted) => Numbers {
-            number: 14,
-            first: wanted,
-            second: 0,
-            third: 0,
-        },
-        Refusal::PointNeverSampled => Numbers {
-            number: 15,
-            first: 0,
-            second: 0,
-            third: 0,
-        },
+        Refusal::Subdivisions(n) => numbers(1, n, 0, 0),
+        Refusal::Mask(mask) => numbers(2, mask, 0, 0),
+        Refusal::Measure(which) => numbers(3, which, 0, 0),
+        Refusal::CentreLength(wanted) => numbers(4, wanted, 0, 0),
+        Refusal::MissingNeighbour(side) => numbers(5, side, 0, 0),
+        Refusal::NeighboursTooLong(wanted) => numbers(6, wanted, 0, 0),
+        Refusal::BadSample(place) => numbers(7, place, 0, 0),
+        Refusal::FaceMismatch(at) => numbers(8, at.side, at.u, at.v),
+        Refusal::IndexStoreTooShort(wanted) => numbers(9, wanted, 0, 0),
+        Refusal::NoRoom(wanted) => numbers(10, wanted.vertices, wanted.triangles, 0),
+        Refusal::RecordLength => numbers(11, 0, 0, 0),
+        Refusal::Version(byte) => numbers(12, byte, 0, 0),
+        Refusal::SampleCount(wanted) => numbers(13, wanted, 0, 0),
+        Refusal::BufferTooShort(wanted) => numbers(14, wanted, 0, 0),
+        Refusal::PointNeverSampled => numbers(15, 0, 0, 0),
     }
 }
 
@@ -156,7 +96,7 @@ pub fn judge_subdivisions(n: usize) -> Verdict
 pub fn judge_mask(mask: u8) -> Verdict
     ensures { λ r. ⌜ r ≡ judgeMask mask ⌝ }
 {
-    unless(mask <= 63, Refusal::Mask(mask as usize))
+    unless(mask <= MOST_MASK, Refusal::Mask(mask as usize))
 }
 
 // Finite, and at most 1,048,576 in size: both comparisons are false at a NaN.
@@ -181,11 +121,12 @@ fn judge_base(base: Vector) -> Verdict
     or_else(or_else(x, y), z)
 }
 
-pub fn judge_measures(block: Block, threshold: f32) -> Verdict
-    ensures { λ r. ⌜ r ≡ judgeMeasures block threshold ⌝ }
+fn judge_measures(header: Header) -> Verdict
+    ensures { λ r. ⌜ r ≡ judgeMeasures (header .block) (header .threshold) ⌝ }
 {
+    let block = header.block;
     let size = unless(is_usable_size(block.size), Refusal::Measure(3));
-    let level = unless(is_usable(threshold), Refusal::Measure(4));
+    let level = unless(is_usable(header.threshold), Refusal::Measure(4));
     or_else(or_else(judge_base(block.base), size), level)
 }
 
@@ -203,7 +144,7 @@ pub fn judge_room(wanted: Counts, vertices: usize, triangles: usize) -> Verdict
 }
 
 pub fn judge_store(n: usize, held: usize) -> Verdict
-    requires { ⌜ n ≤ 16 ⌝ }
+    requires { ⌜ n ≤ mostSubdivisions ⌝ }
     ensures { λ r. ⌜ r ≡ judgeStore n held ⌝ }
 {
     let wanted = store_length(n);
@@ -211,22 +152,16 @@ pub fn judge_store(n: usize, held: usize) -> Verdict
 }
 
 // 1 to 7, of a block and its neighbours.
-pub fn judge_star(
-    block: Block,
-    mask: u8,
-    threshold: f32,
-    centre: &[f32],
-    neighbours: &[f32],
-) -> Verdict
-    ensures { λ r. ⌜ r ≡ judgeStar (starFrom block mask threshold (now (centre .entry)) (now (neighbours .entry))) ⌝ }
+pub fn judge_star(header: Header, centre: &[f32], neighbours: &[f32]) -> Verdict
+    ensures { λ r. ⌜ r ≡ judgeStar (star header (now (centre .entry)) (now (neighbours .entry))) ⌝ }
 {
-    let n = block.subdivisions;
-    let kind = or_else(judge_subdivisions(n), judge_mask(mask));
+    let n = header.block.subdivisions;
+    let kind = or_else(judge_subdivisions(n), judge_mask(header.mask));
     if let Verdict::Refused(r) = kind {
         return Verdict::Refused(r);
     }
-    let measures = judge_measures(block, threshold);
-    let lengths = judge_lengths(n, mask, centre.len(), neighbours.len());
+    let measures = judge_measures(header);
+    let lengths = judge_lengths(n, header.mask, centre.len(), neighbours.len());
     let shape = or_else(measures, lengths);
     if let Verdict::Refused(r) = shape {
         return Verdict::Refused(r);

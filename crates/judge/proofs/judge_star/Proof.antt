@@ -3,7 +3,7 @@ use borrow.Author.Needs.{needs}
 use mathlib.Core.Path.{_≡_, sym, _∙_}
 use Rattle.model.specs.declared.Verdict.the-variants.{Passed}
 use Rattle.model.specs.Refusals.{orElse}
-use Rattle.model.specs.Star.{Star, starFrom}
+use Rattle.model.specs.Star.{Star, star}
 use Rattle.judge.specs.Parts.{judgeKind}
 use Rattle.judge.specs.Passing.{judgeShape, kind-refused, shape-refused, samples-left, kind-passed}
 use Rattle.judge.proofs.judge_star.Statement.{statement}
@@ -25,9 +25,9 @@ abbrev start : tie.After-or-else → tie.Start
 start c = c .before .before .before .before .before
 
 abbrev star-of : tie.Start → Star
-star-of c = starFrom (c .args .block) (c .args .mask) (c .args .threshold) (c .args .centre .now) (c .args .neighbours .now)
+star-of c = star (c .args .header) (c .args .centre .now) (c .args .neighbours .now)
 
-kind-is : (c : tie.After-or-else) → c .or-else .result ≡ judgeKind (start c .args .block .subdivisions) (start c .args .mask)
+kind-is : (c : tie.After-or-else) → c .or-else .result ≡ judgeKind (start c .args .header .block .subdivisions) (start c .args .header .mask)
 kind-is c = c .or-else .ensures ∙ (λ i. orElse (c .before .before .judge-subdivisions .ensures i) (c .before .judge-mask .ensures i))
 
 returns : tie.Need-returns
@@ -40,7 +40,7 @@ enum-told c = search needs
 
 -- 1 and 2 are passed
 passed-kind : (c : tie.After-enum-told) →
-    judgeKind (start (c .before .before) .args .block .subdivisions) (start (c .before .before) .args .mask) ≡ Passed
+    judgeKind (start (c .before .before) .args .header .block .subdivisions) (start (c .before .before) .args .header .mask) ≡ Passed
 passed-kind c = sym (kind-is (c .before .before)) ∙ c .enum-told .given .1
 
 judge-measures-requires : tie.Need-judge-measures-requires
@@ -49,7 +49,7 @@ judge-measures-requires c κs = search needs
 judge-lengths-requires : tie.Need-judge-lengths-requires
 judge-lengths-requires c κs =
     let args = start (c .before .before .before) .args in
-    let kind = kind-passed (args .block .subdivisions) (args .mask) (passed-kind (c .before)) in
+    let kind = kind-passed (args .header .block .subdivisions) (args .header .mask) (passed-kind (c .before)) in
     (kind .few, kind .sides)
 
 or-else-requires-2 : tie.Need-or-else-requires-2

@@ -1,9 +1,11 @@
 -- `judge::lengths::judge_too_long` meets its contract: the wanted length is a small number.
 use borrow.Author.Needs.{needs}
 use Prim.Native.Nat.{_*_, _≤_}
+use native.Mathlib.Nat.{le-refl}
 use native.Mathlib.Omega.{arith}
-use lib.Count.{ones, ones-le}
-use Rattle.judge.proofs.Bounds.{neighbours-bound}
+use lib.Count.{ones}
+use Rattle.grid.specs.Counts.{mostSamples}
+use Rattle.judge.proofs.Bounds.{parts-small}
 use Rattle.judge.proofs.lengths.judge_too_long.Statement.{statement}
 use Rattle.judge.proofs.lengths.judge_too_long.Tie as tie
 
@@ -19,9 +21,10 @@ sample-length-requires c κs = search needs
 mul-wanted : tie.Need-mul-wanted
 mul-wanted c =
     let start = c .before .before in
-    let few : ones (start .args .mask) ≤ 8 = ones-le 8 (start .args .mask) (omega arith) in
-    let bound : c .before .count .result * c .sample-length .result ≤ 339768 =
-    rw (c .before .count .ensures, c .sample-length .ensures) (neighbours-bound (start .args .n) (start .pre) few) in
+    let mask = start .args .mask in
+    let small : c .before .count .result * c .sample-length .result ≤ mostSamples =
+    rw (c .before .count .ensures, c .sample-length .ensures)
+    (parts-small (start .args .n) mask (start .pre .0) (start .pre .1) (le-refl (ones mask))) in
     omega arith
 
 unless-requires : tie.Need-unless-requires

@@ -1,10 +1,10 @@
--- `grid::voxel_blocks::answered` meets its contract.
+-- `judge::point_read::answered` meets its contract, case by case.
 use mathlib.Core.Path.{ap, sym}
 use borrow.Author.Needs.{needs}
-use Rattle.model.specs.Extraction.{pointAnswer}
 use Rattle.model.specs.declared.Verdict.the-variants.{Passed}
-use Rattle.grid.proofs.voxel_blocks.answered.Statement.{statement}
-use Rattle.grid.proofs.voxel_blocks.answered.Tie as tie
+use Rattle.model.specs.Extraction.{pointAnswer}
+use Rattle.judge.proofs.point_read.answered.Statement.{statement}
+use Rattle.judge.proofs.point_read.answered.Tie as tie
 
 enum-known-read : tie.Need-enum-known-read
 enum-known-read c = search needs

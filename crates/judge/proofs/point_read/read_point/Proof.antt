@@ -1,4 +1,4 @@
--- `grid::voxel_blocks::read_point` meets its contract: 1 and 4 by their verdict, 15 by the reading.
+-- `judge::point_read::read_point` meets its contract: 1 and 4 by their verdict, 15 by the reading.
 use mathlib.Core.Path.{_≡_, ap, sym, _∙_}
 use native.Mathlib.Omega.{arith}
 use borrow.Author.Needs.{needs}
@@ -10,12 +10,12 @@ use Rattle.model.specs.declared.Reading.{Reading}
 use Rattle.model.specs.declared.Verdict.{Verdict}
 use Rattle.model.specs.Samples.{readingAt, oneUp}
 use Rattle.model.specs.Extraction.{pointAnswer, readPoint}
-use Rattle.grid.specs.Reads.{Judged, judged}
-use Rattle.grid.proofs.voxel_blocks.read_point.Statement.{statement}
-use Rattle.grid.proofs.voxel_blocks.read_point.Tie as tie
+use Rattle.judge.specs.PointReads.{Read, read-passed}
+use Rattle.judge.proofs.point_read.read_point.Statement.{statement}
+use Rattle.judge.proofs.point_read.read_point.Tie as tie
 
-judged-requires : tie.Need-judged-requires
-judged-requires c κs = search needs
+judge-block-requires : tie.Need-judge-block-requires
+judge-block-requires c κs = search needs
 
 enum-known-verdict : tie.Need-enum-known-verdict
 enum-known-verdict c = search needs
@@ -24,10 +24,10 @@ enum-told : tie.Need-enum-told
 enum-told c = search needs
 
 -- where the verdict passes
-passed : (c : tie.After-enum-told) → Judged (c .before .before .before .before .args .n) (length (c .before .before .before .before .args .samples .now))
+passed : (c : tie.After-enum-told) → let a = c .before .before .before .before .args in Read (a .n) (length (a .samples .now))
 passed c =
-    let s = c .before .before .before .before in
-    judged (s .args .n) (length (s .args .samples .now)) (sym (c .before .before .judged .ensures) ∙ c .enum-told .given .1)
+    let a = c .before .before .before .before .args in
+    read-passed (a .n) (length (a .samples .now)) (sym (c .before .before .judge-block .ensures) ∙ c .enum-told .given .1)
 
 one-up-requires : tie.Need-one-up-requires
 one-up-requires c κs = omega (arith, passed c)
@@ -57,7 +57,7 @@ returns : tie.Need-returns
 unfolding readPoint
 returns c =
     ap (answer (c .before .before .before .before .before))
-    (sym (c .before .verdict .given .1) ∙ c .before .before .before .judged .ensures)
+    (sym (c .before .verdict .given .1) ∙ c .before .before .before .judge-block .ensures)
 
 -- a signed argument reaches the callee as its bits, and `toZ-ofZ` reads the number back
 reads : (c : tie.After-reading) → c .reading .result ≡ read (c .before .before .before .before .before .before .before .before)
@@ -72,14 +72,14 @@ returns-2 : tie.Need-returns-2
 unfolding readPoint
 returns-2 c =
     let told = c .before .before .before .before .before in
-    let verdict = sym (told .before .before .judged .ensures) ∙ told .enum-told .given .1 in
+    let verdict = sym (told .before .before .judge-block .ensures) ∙ told .enum-told .given .1 in
     rw (verdict, ← reads (c .before)) (c .answered .ensures)
 
 pub read-point-spec : {M : Type 1} → statement M
 read-point-spec =
     tie.close
     (tie.spec
-    judged-requires
+    judge-block-requires
     enum-known-verdict
     enum-told
     one-up-requires
