@@ -124,9 +124,7 @@ fn print_block(header: Header, samples: &[f32])
     let mut vertices = [0f32; VERTICES];
     let mut triangles = [0u32; TRIANGLES];
     let answer = algorithm::extract(
-        header.block,
-        header.mask,
-        header.threshold,
+        header,
         &samples[..own],
         &samples[own..all],
         &mut store,

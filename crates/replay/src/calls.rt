@@ -61,9 +61,7 @@ fn mesh_agrees(
         return false;
     }
     let extraction = algorithm::extract(
-        header.block,
-        header.mask,
-        header.threshold,
+        header,
         centre,
         neighbours,
         &mut store[0..places],

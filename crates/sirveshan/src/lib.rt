@@ -119,16 +119,7 @@ pub extern "C" fn sirveshan_extract(
     ensures { λ r. ⌜ record { answer = r; store = now (store .exit); vertices = now (vertices .exit); triangles = now (triangles .exit) }
         ≡ extractCall (extract (star header (now (centre .entry)) (now (neighbours .entry))) (now (store .entry)) (now (vertices .entry)) (now (triangles .entry))) ⌝ }
 {
-    extract_answer(algorithm::extract(
-        header.block,
-        header.mask,
-        header.threshold,
-        centre,
-        neighbours,
-        store,
-        vertices,
-        triangles,
-    ))
+    extract_answer(algorithm::extract(header, centre, neighbours, store, vertices, triangles))
 }
 
 // The block that a record tells, and its samples, the centre's and then the neighbours', in the first places of a lent list.
