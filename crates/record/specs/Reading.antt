@@ -19,7 +19,7 @@ use Rattle.model.specs.Judging.{judgeBuffer}
 use Rattle.model.specs.Record.{headerOf, countOf, samplesOf, judgeRecord, ReadOutcome, readAnswer, readRecord}
 use Rattle.judge.specs.First.{both-passed}
 use Rattle.record.specs.Accepted.{Accepted, accepted, length-samples}
-use Rattle.record.specs.Parts.{buffer-holds}
+use Rattle.record.specs.ReadingOrder.{buffer-holds}
 
 -- a block is answered only by a record that passes
 answered : (bytes : List ℕ) (samples : List Float) (h : Header) (v : Verdict) → readAnswer bytes samples v .answer ≡ RecordRead.Block h

@@ -5,7 +5,7 @@ ghost use lib.ListN.{length};
 ghost use Rattle.model.specs.Refusals.{first};
 ghost use Rattle.model.specs.Judging.{usable, usableSize, measureUsable, judgeMeasures};
 ghost use Rattle.model.specs.Record.{headerLength, sampleFrom, floatAt, headerOf, judgeLength, judgeRecord};
-ghost use Rattle.record.specs.Parts.{HeadPassed, sampleUsableAt, judgeHead, judgeBody};
+ghost use Rattle.record.specs.ReadingOrder.{HeadPassed, sampleUsableAt, judgeHead, judgeBody};
 use crate::fields::BASE_AT;
 use crate::fields::HEADER_LENGTH;
 use crate::fields::SIZE_AT;

@@ -5,7 +5,7 @@ ghost use Rattle.model.specs.Star.{star};
 ghost use Rattle.model.specs.Extraction.{extract};
 ghost use Rattle.model.specs.Record.{readRecord, writeRecord};
 ghost use Rattle.model.specs.Viewer.{subdivisionsAnswer, blankAnswer, sampleAnswer};
-ghost use Rattle.sirveshan.specs.Answers.{extractAnswer, readAnswer, writeAnswer, extractCall, readCall, writeCall};
+ghost use Rattle.sirveshan.specs.Calls.{extractAnswer, readAnswer, writeAnswer, extractCall, readCall, writeCall};
 use judge::numbers_of;
 use model::Block;
 use model::Counts;

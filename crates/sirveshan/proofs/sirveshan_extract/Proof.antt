@@ -1,7 +1,7 @@
 -- `sirveshan_extract` meets its contract: what extraction leaves is as the model says, and its answer is taken apart.
 use mathlib.Core.Path.{ap, _∙_}
 use borrow.Author.Needs.{needs}
-use Rattle.sirveshan.specs.Answers.{extractAnswer}
+use Rattle.sirveshan.specs.Calls.{extractAnswer}
 use Rattle.sirveshan.proofs.sirveshan_extract.Statement.{statement}
 use Rattle.sirveshan.proofs.sirveshan_extract.Tie as tie
 

@@ -2,7 +2,7 @@
 use mathlib.Core.Path.{ap, _∙_}
 use borrow.Author.Needs.{needs}
 use Rattle.model.specs.Record.{ReadOutcome}
-use Rattle.sirveshan.specs.Answers.{readAnswer}
+use Rattle.sirveshan.specs.Calls.{readAnswer}
 use Rattle.sirveshan.proofs.sirveshan_read.Statement.{statement}
 use Rattle.sirveshan.proofs.sirveshan_read.Tie as tie
 

@@ -2,7 +2,7 @@
 use mathlib.Core.Path.{ap, _∙_}
 use borrow.Author.Needs.{needs}
 use Rattle.model.specs.Record.{WriteOutcome}
-use Rattle.sirveshan.specs.Answers.{writeAnswer}
+use Rattle.sirveshan.specs.Calls.{writeAnswer}
 use Rattle.sirveshan.proofs.sirveshan_write.Statement.{statement}
 use Rattle.sirveshan.proofs.sirveshan_write.Tie as tie
 

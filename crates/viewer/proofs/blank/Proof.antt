@@ -7,7 +7,7 @@ use Rattle.model.specs.Record.{judgeRecord}
 use Rattle.model.specs.Viewer.{blankAnswer}
 use Rattle.grid.specs.Places.{Small, small}
 use Rattle.record.specs.Accepted.{Accepted, accepted}
-use Rattle.viewer.specs.Answers.{packed-refused, blank-passed}
+use Rattle.viewer.specs.Packed.{packed-refused, blank-passed}
 use Rattle.viewer.proofs.blank.Statement.{statement}
 use Rattle.viewer.proofs.blank.Tie as tie
 

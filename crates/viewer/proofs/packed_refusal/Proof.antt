@@ -5,7 +5,7 @@ use native.Mathlib.Omega.{arith}
 use borrow.Author.Needs.{needs}
 use Rattle.model.specs.declared.Numbers.{Numbers}
 use Rattle.model.specs.Refusals.{numbersOf}
-use Rattle.viewer.specs.Answers.{number-small}
+use Rattle.viewer.specs.Packed.{number-small}
 use Rattle.viewer.proofs.packed_refusal.Statement.{statement}
 use Rattle.viewer.proofs.packed_refusal.Tie as tie
 

@@ -10,7 +10,7 @@ use Rattle.model.specs.Samples.{readingAt, oneUp}
 use Rattle.model.specs.Record.{headerOf, samplesOf, judgeRecord}
 use Rattle.model.specs.Viewer.{sampleBits, sampleAnswer}
 use Rattle.record.specs.Accepted.{Accepted, accepted}
-use Rattle.viewer.specs.Answers.{packed-refused, packed-passed}
+use Rattle.viewer.specs.Packed.{packed-refused, packed-passed}
 use Rattle.viewer.proofs.sample.Statement.{statement}
 use Rattle.viewer.proofs.sample.Tie as tie
 

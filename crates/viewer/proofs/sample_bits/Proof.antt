@@ -11,7 +11,7 @@ use Rattle.model.specs.Samples.{outside, sampled, sampleLength, readingAt}
 use Rattle.model.specs.Record.{headerOf, samplesOf}
 use Rattle.model.specs.Viewer.{sampleBits}
 use Rattle.grid.specs.Places.{sum-sampled}
-use Rattle.viewer.specs.Answers.{point-bits, never-bits}
+use Rattle.viewer.specs.Packed.{point-bits, never-bits}
 use Rattle.viewer.proofs.sample_bits.Statement.{statement}
 use Rattle.viewer.proofs.sample_bits.Tie as tie
 

@@ -5,7 +5,7 @@ use Rattle.model.specs.declared.Verdict.the-variants.{Passed}
 use Rattle.model.specs.Record.{headerOf, judgeRecord}
 use Rattle.model.specs.Viewer.{subdivisionsAnswer}
 use Rattle.record.specs.Accepted.{accepted}
-use Rattle.viewer.specs.Answers.{packed-refused, packed-passed}
+use Rattle.viewer.specs.Packed.{packed-refused, packed-passed}
 use Rattle.viewer.proofs.subdivisions.Statement.{statement}
 use Rattle.viewer.proofs.subdivisions.Tie as tie
 

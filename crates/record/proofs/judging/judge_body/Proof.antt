@@ -3,7 +3,7 @@ use mathlib.Core.Path.{_≡_, ap₂, _∙_}
 use borrow.Author.Needs.{needs}
 use Rattle.model.specs.Sides.{sampleCount}
 use Rattle.model.specs.Record.{countOf}
-use Rattle.record.specs.Parts.{body-refused, body-counted}
+use Rattle.record.specs.ReadingOrder.{body-refused, body-counted}
 use Rattle.record.proofs.judging.judge_body.Statement.{statement}
 use Rattle.record.proofs.judging.judge_body.Tie as tie
 

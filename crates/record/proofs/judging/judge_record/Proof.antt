@@ -5,7 +5,7 @@ use mathlib.Core.List.{List}
 use borrow.Author.Needs.{needs}
 use Rattle.model.specs.declared.Verdict.the-variants.{Passed}
 use Rattle.model.specs.Record.{judgeLength}
-use Rattle.record.specs.Parts.{judgeHead, record-in-parts, length-passed, head-passed}
+use Rattle.record.specs.ReadingOrder.{judgeHead, record-in-parts, length-passed, head-passed}
 use Rattle.record.proofs.judging.judge_record.Statement.{statement}
 use Rattle.record.proofs.judging.judge_record.Tie as tie
 

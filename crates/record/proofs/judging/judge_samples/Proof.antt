@@ -8,7 +8,7 @@ use Rattle.model.specs.declared.Refusal.the-variants.{BadSample}
 use Rattle.model.specs.declared.Verdict.the-variants.{Passed, Refused}
 use Rattle.model.specs.Refusals.{first}
 use Rattle.judge.specs.First.{not-yet, hit}
-use Rattle.record.specs.Parts.{sampleUsableAt}
+use Rattle.record.specs.ReadingOrder.{sampleUsableAt}
 use Rattle.record.proofs.judging.judge_samples.Statement.{statement}
 use Rattle.record.proofs.judging.judge_samples.Tie as tie
 

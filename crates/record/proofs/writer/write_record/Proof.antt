@@ -18,7 +18,7 @@ use Rattle.model.specs.Star.{star}
 use Rattle.model.specs.Judging.{judgeBuffer, judgeStar}
 use Rattle.model.specs.Record.{sampleFrom, floatBytes, recordOf, writeAnswer, writeRecord}
 use Rattle.judge.specs.First.{both-passed}
-use Rattle.record.specs.Parts.{buffer-holds}
+use Rattle.record.specs.ReadingOrder.{buffer-holds}
 use Rattle.record.specs.Bytes.{parts-laid}
 use Rattle.record.specs.Writable.{Writable, writable}
 use Rattle.record.proofs.writer.write_record.Statement.{statement}
@@ -38,19 +38,22 @@ returns c =
     (ap (writeAnswer (args .header) (args .centre .now ++ args .neighbours .now) (args .bytes .now))
     (sym (c .before .before .before .judge-writing .ensures) ∙ c .before .verdict .given .1))
 
+abbrev start : tie.After-enum-told → tie.Start
+start c = c .before .before .before .before .before .before
+
 -- what is lent, and what the judges that passed tell of it
 module _ (c : tie.After-enum-told) where
   abbrev h : Header
-  h = c .before .before .before .before .before .before .args .header
+  h = start c .args .header
 
   abbrev centre : List Float
-  centre = c .before .before .before .before .before .before .args .centre .now
+  centre = start c .args .centre .now
 
   abbrev neighbours : List Float
-  neighbours = c .before .before .before .before .before .before .args .neighbours .now
+  neighbours = start c .args .neighbours .now
 
   abbrev lent : List ℕ
-  lent = c .before .before .before .before .before .before .args .bytes .now
+  lent = start c .args .bytes .now
 
   abbrev whole : Verdict
   whole = judgeStar (star h centre neighbours)
