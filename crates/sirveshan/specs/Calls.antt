@@ -34,17 +34,17 @@ noHeader =
       threshold = zero;
     }
 
-abbrev pub extractAnswer : Extraction → Extracted
-extractAnswer (Extraction.Mesh counts) = record { refused = notRefused; counts = counts }
-extractAnswer (Extraction.Refused r) = record { refused = numbersOf r; counts = record { vertices = 0; triangles = 0 } }
+abbrev pub asExtracted : Extraction → Extracted
+asExtracted (Extraction.Mesh counts) = record { refused = notRefused; counts = counts }
+asExtracted (Extraction.Refused r) = record { refused = numbersOf r; counts = record { vertices = 0; triangles = 0 } }
 
-abbrev pub readAnswer : RecordRead → HeaderRead
-readAnswer (RecordRead.Block header) = record { refused = notRefused; header = header }
-readAnswer (RecordRead.Refused r) = record { refused = numbersOf r; header = noHeader }
+abbrev pub asHeaderRead : RecordRead → HeaderRead
+asHeaderRead (RecordRead.Block header) = record { refused = notRefused; header = header }
+asHeaderRead (RecordRead.Refused r) = record { refused = numbersOf r; header = noHeader }
 
-abbrev pub writeAnswer : RecordWritten → Written
-writeAnswer (RecordWritten.Bytes length) = record { refused = notRefused; length = length }
-writeAnswer (RecordWritten.Refused r) = record { refused = numbersOf r; length = 0 }
+abbrev pub asWritten : RecordWritten → Written
+asWritten (RecordWritten.Bytes length) = record { refused = notRefused; length = length }
+asWritten (RecordWritten.Refused r) = record { refused = numbersOf r; length = 0 }
 
 -- ---- the answer, and every buffer that is lent to be written
 
@@ -55,18 +55,18 @@ pub record ExtractCall : Type 0 where
   pub triangles : List ℕ
 
 abbrev pub extractCall : Outcome → ExtractCall
-extractCall o = record { answer = extractAnswer (o .answer); store = o .store; vertices = o .vertices; triangles = o .triangles }
+extractCall o = record { answer = asExtracted (o .answer); store = o .store; vertices = o .vertices; triangles = o .triangles }
 
 pub record ReadCall : Type 0 where
   pub answer : HeaderRead
   pub samples : List Float
 
 abbrev pub readCall : ReadOutcome → ReadCall
-readCall o = record { answer = readAnswer (o .answer); samples = o .samples }
+readCall o = record { answer = asHeaderRead (o .answer); samples = o .samples }
 
 pub record WriteCall : Type 0 where
   pub answer : Written
   pub bytes : List ℕ
 
 abbrev pub writeCall : WriteOutcome → WriteCall
-writeCall o = record { answer = writeAnswer (o .answer); bytes = o .bytes }
+writeCall o = record { answer = asWritten (o .answer); bytes = o .bytes }

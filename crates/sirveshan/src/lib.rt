@@ -5,7 +5,7 @@ ghost use Rattle.model.specs.Star.{star};
 ghost use Rattle.model.specs.Extraction.{extract};
 ghost use Rattle.model.specs.Record.{readRecord, writeRecord};
 ghost use Rattle.model.specs.Viewer.{subdivisionsAnswer, blankAnswer, sampleAnswer};
-ghost use Rattle.sirveshan.specs.Calls.{extractAnswer, readAnswer, writeAnswer, extractCall, readCall, writeCall};
+ghost use Rattle.sirveshan.specs.Calls.{asExtracted, asHeaderRead, asWritten, extractCall, readCall, writeCall};
 use judge::numbers_of;
 use model::Block;
 use model::Counts;
@@ -58,8 +58,8 @@ const NO_HEADER: Header = Header {
     threshold: 0.0,
 };
 
-fn extract_answer(answer: Extraction) -> Extracted
-    ensures { λ r. ⌜ r ≡ extractAnswer answer ⌝ }
+fn as_extracted(answer: Extraction) -> Extracted
+    ensures { λ r. ⌜ r ≡ asExtracted answer ⌝ }
 {
     match answer {
         Extraction::Mesh(counts) => Extracted {
@@ -76,8 +76,8 @@ fn extract_answer(answer: Extraction) -> Extracted
     }
 }
 
-fn read_answer(answer: RecordRead) -> HeaderRead
-    ensures { λ r. ⌜ r ≡ readAnswer answer ⌝ }
+fn as_header_read(answer: RecordRead) -> HeaderRead
+    ensures { λ r. ⌜ r ≡ asHeaderRead answer ⌝ }
 {
     match answer {
         RecordRead::Block(header) => HeaderRead {
@@ -91,8 +91,8 @@ fn read_answer(answer: RecordRead) -> HeaderRead
     }
 }
 
-fn write_answer(answer: RecordWritten) -> Written
-    ensures { λ r. ⌜ r ≡ writeAnswer answer ⌝ }
+fn as_written(answer: RecordWritten) -> Written
+    ensures { λ r. ⌜ r ≡ asWritten answer ⌝ }
 {
     match answer {
         RecordWritten::Bytes(length) => Written {
@@ -119,7 +119,7 @@ pub extern "C" fn sirveshan_extract(
     ensures { λ r. ⌜ record { answer = r; store = now (store .exit); vertices = now (vertices .exit); triangles = now (triangles .exit) }
         ≡ extractCall (extract (star header (now (centre .entry)) (now (neighbours .entry))) (now (store .entry)) (now (vertices .entry)) (now (triangles .entry))) ⌝ }
 {
-    extract_answer(algorithm::extract(header, centre, neighbours, store, vertices, triangles))
+    as_extracted(algorithm::extract(header, centre, neighbours, store, vertices, triangles))
 }
 
 // The block that a record tells, and its samples, the centre's and then the neighbours', in the first places of a lent list.
@@ -127,7 +127,7 @@ pub extern "C" fn sirveshan_extract(
 pub extern "C" fn sirveshan_read(src: &[u8], samples: &mut [f32]) -> HeaderRead
     ensures { λ r. ⌜ record { answer = r; samples = now (samples .exit) } ≡ readCall (readRecord (now (src .entry)) (now (samples .entry))) ⌝ }
 {
-    read_answer(read_record(src, samples))
+    as_header_read(read_record(src, samples))
 }
 
 // A block and its samples as a record, in the first places of a lent buffer.
@@ -140,7 +140,7 @@ pub extern "C" fn sirveshan_write(
 ) -> Written
     ensures { λ r. ⌜ record { answer = r; bytes = now (bytes .exit) } ≡ writeCall (writeRecord header (now (centre .entry)) (now (neighbours .entry)) (now (bytes .entry))) ⌝ }
 {
-    write_answer(write_record(header, centre, neighbours, bytes))
+    as_written(write_record(header, centre, neighbours, bytes))
 }
 
 // The viewer's three calls.

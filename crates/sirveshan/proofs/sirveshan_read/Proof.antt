@@ -2,15 +2,15 @@
 use mathlib.Core.Path.{ap, _∙_}
 use borrow.Author.Needs.{needs}
 use Rattle.model.specs.Record.{ReadOutcome}
-use Rattle.sirveshan.specs.Calls.{readAnswer}
+use Rattle.sirveshan.specs.Calls.{asHeaderRead}
 use Rattle.sirveshan.proofs.sirveshan_read.Statement.{statement}
 use Rattle.sirveshan.proofs.sirveshan_read.Tie as tie
 
 read-record-requires : tie.Need-read-record-requires
 read-record-requires c κs = search needs
 
-read-answer-requires : tie.Need-read-answer-requires
-read-answer-requires c κs = search needs
+as-header-read-requires : tie.Need-as-header-read-requires
+as-header-read-requires c κs = search needs
 
 same-length : tie.Need-same-length
 same-length c = search needs
@@ -19,10 +19,10 @@ returns : tie.Need-returns
 returns c =
     let left = c .before .before .before .read-record .ensures in
     λ i. record {
-      answer = (c .read-answer .ensures ∙ ap (λ (o : ReadOutcome). readAnswer (o .answer)) left) i;
+      answer = (c .as-header-read .ensures ∙ ap (λ (o : ReadOutcome). asHeaderRead (o .answer)) left) i;
       samples = left i .samples;
     }
 
 pub sirveshan-read-spec : {M : Type 1} → statement M
 sirveshan-read-spec =
-    tie.close (tie.spec read-record-requires read-answer-requires same-length returns)
+    tie.close (tie.spec read-record-requires as-header-read-requires same-length returns)

@@ -2,15 +2,15 @@
 use mathlib.Core.Path.{ap, _∙_}
 use borrow.Author.Needs.{needs}
 use Rattle.model.specs.Record.{WriteOutcome}
-use Rattle.sirveshan.specs.Calls.{writeAnswer}
+use Rattle.sirveshan.specs.Calls.{asWritten}
 use Rattle.sirveshan.proofs.sirveshan_write.Statement.{statement}
 use Rattle.sirveshan.proofs.sirveshan_write.Tie as tie
 
 write-record-requires : tie.Need-write-record-requires
 write-record-requires c κs = search needs
 
-write-answer-requires : tie.Need-write-answer-requires
-write-answer-requires c κs = search needs
+as-written-requires : tie.Need-as-written-requires
+as-written-requires c κs = search needs
 
 same-length : tie.Need-same-length
 same-length c = search needs
@@ -19,10 +19,10 @@ returns : tie.Need-returns
 returns c =
     let left = c .before .before .before .write-record .ensures in
     λ i. record {
-      answer = (c .write-answer .ensures ∙ ap (λ (o : WriteOutcome). writeAnswer (o .answer)) left) i;
+      answer = (c .as-written .ensures ∙ ap (λ (o : WriteOutcome). asWritten (o .answer)) left) i;
       bytes = left i .bytes;
     }
 
 pub sirveshan-write-spec : {M : Type 1} → statement M
 sirveshan-write-spec =
-    tie.close (tie.spec write-record-requires write-answer-requires same-length returns)
+    tie.close (tie.spec write-record-requires as-written-requires same-length returns)
