@@ -3,133 +3,105 @@ use Prim.Native.Nat.{ℕ, _+_, _*_, _/_, _%_, _^_, _≤_, _<_}
 use native.Mathlib.Nat.{add-zero}
 use native.Mathlib.Numerals.{add-one}
 use native.Mathlib.Omega.{arith}
-use mathlib.Core.Path.{_≡_, sym}
+use mathlib.Core.Path.{_≡_, sym, subst, _∙_}
 use mathlib.Core.Bool.{true}
-use lib.ListN.{length}
-use Rattle.model.specs.declared.Counts.{Counts}
+use mathlib.Core.List.{List}
+use lib.ListN.{length, getD}
 use Rattle.laws.specs.Steps.{iterate}
+use Rattle.model.specs.declared.Counts.{Counts}
+use Rattle.model.specs.Limits.{mostSubdivisions, sideCount}
 use Rattle.model.specs.Sides.{named}
 use Rattle.model.specs.Star.{Star, subdivisions}
-use Rattle.model.specs.Points.{regularCase, transitionCase}
-use Rattle.model.specs.Mesh.{Cell, Mesh, emptyMesh, cellStep, regularCell, regularColumn, regularLayer, regularMesh, transitionCell, transitionRow, transitionSide, meshOf}
-use Rattle.grid.specs.SideLaws.{NextSide}
-use Rattle.cases.specs.Bits.{NextSet}
-use Rattle.cases.specs.Columns.{uncut}
-use Rattle.cells.specs.Puts.{Adds}
-use Rattle.algorithm.specs.Passes.{plus, Grows, Counted}
-use Rattle.algorithm.proofs.Walk.{cells-skip, row-skip, sides-skip}
+use Rattle.model.specs.Mesh.{Cell, Mesh, emptyMesh, cellStep, regularCell, regularLayer, regularMesh, transitionCell, transitionSide, meshOf}
+use Rattle.cells.specs.Puts.{Adds, Few}
+use Rattle.cases.specs.Sheets.{rowWidth}
+use Rattle.cases.specs.Scans.{NextCut}
+use Rattle.algorithm.specs.Passes.{plus, SheetOf, sheetTo, Grows, Counted}
+use Rattle.algorithm.proofs.Walk.{sheet-skip, sheet-cell, case-there, layer-is, side-is}
 use Rattle.algorithm.proofs.Holding.{cell-made, cell-triangles}
 
 abbrev none : Counts
 none = record { vertices = 0; triangles = 0 }
 
-pub grows-cell : (c : Cell) (counts : Counts) → Adds c (counts .vertices) (counts .triangles) → Grows (cellStep c) 1 counts
+-- ---- few
+
+pub few-none : Few 0 none
+few-none = record { vertices = omega arith; triangles = omega arith }
+
+pub few-more : {cells more : ℕ} {counts counts′ : Counts} → Few cells counts → Few more counts′ → Few (cells + more) (plus counts counts′)
+few-more f g = record { vertices = omega (arith, f .vertices, g .vertices); triangles = omega (arith, f .triangles, g .triangles) }
+
+pub few-of : {cells : ℕ} {counts : Counts} (most : ℕ) → cells ≤ most → Few cells counts → Few most counts
+few-of most h f = record { vertices = omega (arith, f .vertices); triangles = omega (arith, f .triangles) }
+
+-- the counts of few cells can be added
+pub plus-fits : {cells more : ℕ} {counts counts′ : Counts} → Few cells counts → Few more counts′ → cells + more ≤ 2 ^ 32
+    → (counts .vertices + counts′ .vertices < 2 ^ 64) × (counts .triangles + counts′ .triangles < 2 ^ 64)
+plus-fits f g few = (omega (arith, f .vertices, g .vertices), omega (arith, f .triangles, g .triangles))
+
+-- ---- steps
+
+pub grows-none : Grows (λ m. m) none
+grows-none = record { vertices = λ m. sym (add-zero _); triangles = λ m. sym (add-zero _) }
+
+pub grows-cell : (c : Cell) (counts : Counts) → Adds c (counts .vertices) (counts .triangles) → Grows (cellStep c) counts
 grows-cell c counts adds =
     record {
       vertices = λ m. cc (cell-made c m, adds .vertices (length (m .made)) (m .store));
       triangles = λ m. cc (cell-triangles c m, adds .triangles);
-      few-vertices = adds .few .0;
-      few-triangles = adds .few .1;
     }
 
-pub grows-none : Grows (λ m. m) 0 none
-grows-none = record { vertices = λ m. sym (add-zero _); triangles = λ m. sym (add-zero _); few-vertices = omega arith; few-triangles = omega arith }
-
-module _ (f : ℕ → Mesh → Mesh) where
-  -- one step more
-  pub grows-more : (k cells more : ℕ) (counts counts′ : Counts) → Grows (iterate f k) cells counts → Grows (f k) more counts′
-      → Grows (iterate f (k + 1)) (cells + more) (plus counts counts′)
-  grows-more k cells more counts counts′ g h =
-      rw add-one
-      (record {
-        vertices = λ m. omega (arith, g .vertices m, h .vertices (iterate f k m));
-        triangles = λ m. omega (arith, g .triangles m, h .triangles (iterate f k m));
-        few-vertices = omega (arith, g .few-vertices, h .few-vertices);
-        few-triangles = omega (arith, g .few-triangles, h .few-triangles);
-      })
-
-  pub grows-all : (k n cells : ℕ) (counts : Counts) → k ≡ n → Grows (iterate f k) cells counts → Grows (iterate f n) cells counts
-  grows-all k n cells counts e g = rw e at g
-
-pub grows-few : {step : Mesh → Mesh} {cells : ℕ} {counts : Counts} (most : ℕ) → cells ≤ most → Grows step cells counts → Grows step most counts
-grows-few most h g =
+-- one step, and then another
+pub grows-then : {step step′ : Mesh → Mesh} {counts counts′ : Counts} → Grows step counts → Grows step′ counts′
+    → Grows (λ m. step′ (step m)) (plus counts counts′)
+grows-then {step} g h =
     record {
-      vertices = g .vertices;
-      triangles = g .triangles;
-      few-vertices = omega (arith, g .few-vertices);
-      few-triangles = omega (arith, g .few-triangles);
+      vertices = λ m. omega (arith, g .vertices m, h .vertices (step m));
+      triangles = λ m. omega (arith, g .triangles m, h .triangles (step m));
     }
-
--- the counts of few cells can be added
-pub plus-fits : {step step′ : Mesh → Mesh} {cells more : ℕ} {counts counts′ : Counts} → Grows step cells counts → Grows step′ more counts′
-    → cells + more ≤ 2 ^ 32 → (counts .vertices + counts′ .vertices < 2 ^ 64) × (counts .triangles + counts′ .triangles < 2 ^ 64)
-plus-fits g h few = (
-  omega (arith, g .few-vertices, h .few-vertices),
-  omega (arith, g .few-triangles, h .few-triangles),
-)
 
 -- a step that comes to the same mesh
-grows-as : {step step′ : Mesh → Mesh} {cells : ℕ} {counts : Counts} → ((m : Mesh) → step′ m ≡ step m) → Grows step cells counts
-    → Grows step′ cells counts
-grows-as same g =
+pub grows-as : {step step′ : Mesh → Mesh} {counts : Counts} → ((m : Mesh) → step′ m ≡ step m) → Grows step counts → Grows step′ counts
+grows-as same g = record { vertices = λ m. rw same (g .vertices m); triangles = λ m. rw same (g .triangles m) }
+
+-- one step more of many
+pub grows-more : (f : ℕ → Mesh → Mesh) (k : ℕ) {counts more : Counts} → Grows (iterate f k) counts → Grows (f k) more
+    → Grows (iterate f (k + 1)) (plus counts more)
+grows-more f k g h = rw add-one (grows-then g h)
+
+-- ---- a sheet of cells
+
+module _ {cell : ℕ → ℕ → Cell} {case : ℕ → ℕ → ℕ} {all n : ℕ} {cases : List ℕ} (o : SheetOf cell case all n cases) where
+  pub grows-start : (next : ℕ) → NextCut n all cases 0 next → Grows (λ m. sheetTo cell n m next) none
+  grows-start next step = grows-as (λ m. sym (sheet-skip cell n o 0 next step m)) grows-none
+
+  -- a cell, and the places up to the next one that may be cut
+  pub grows-on : (i next : ℕ) (counts more : Counts) → i < rowWidth * n → i % rowWidth < n → NextCut n all cases (i + 1) next
+      → Grows (λ m. sheetTo cell n m i) counts → ((getD cases i 0 ≡ case (i / rowWidth) (i % rowWidth)) → Adds (cell (i / rowWidth) (i % rowWidth)) (more .vertices) (more .triangles))
+      → Grows (λ m. sheetTo cell n m next) (plus counts more)
+  grows-on i next counts more h is step g adds =
+      grows-as (λ m. sym (sheet-skip cell n o (i + 1) next step m) ∙ sheet-cell cell n m i is)
+      (grows-then g (grows-cell _ more (adds (case-there cell n o i h is))))
+
+-- a whole sheet: a layer, and a side
+sheet-grows : (cell : ℕ → ℕ → Cell) (n n′ i : ℕ) {counts : Counts} → n′ ≡ n → i ≡ rowWidth * n → Grows (λ m. sheetTo cell n m i) counts
+    → Grows (λ m. sheetTo cell n′ m (rowWidth * n′)) counts
+sheet-grows cell n n′ i {counts} e end g =
+    subst (λ (k : ℕ). Grows (λ m. sheetTo cell k m (rowWidth * k)) counts) (sym e) (subst (λ (k : ℕ). Grows (λ m. sheetTo cell n m k) counts) end g)
+
+module _ (s : Star) (n i : ℕ) {counts : Counts} (n-is : subdivisions s ≡ n) (few : n ≤ mostSubdivisions) (end : i ≡ rowWidth * n) where
+  pub layer-grows : (x : ℕ) → Grows (λ m. sheetTo (regularCell s x) n m i) counts → Grows (regularLayer s x) counts
+  layer-grows x g = grows-as (λ m. sym (layer-is s (omega arith) x m)) (sheet-grows (regularCell s x) n (subdivisions s) i n-is end g)
+
+  pub side-grows : (side : ℕ) → named (s .mask) side ≡ true → Grows (λ m. sheetTo (transitionCell s side) n m i) counts → Grows (transitionSide s side) counts
+  side-grows side h g = grows-as (λ m. sym (side-is s (omega arith) side h m)) (sheet-grows (transitionCell s side) n (subdivisions s) i n-is end g)
+
+pub counted-mesh : (s : Star) (regular transition : Counts) → Grows (iterate (regularLayer s) (subdivisions s)) regular
+    → Grows (iterate (transitionSide s) sideCount) transition → Counted (meshOf s) (plus regular transition)
+unfolding meshOf regularMesh emptyMesh
+counted-mesh s regular transition g h =
+    let start = emptyMesh (subdivisions s) in
     record {
-      vertices = λ m. rw same (g .vertices m);
-      triangles = λ m. rw same (g .triangles m);
-      few-vertices = g .few-vertices;
-      few-triangles = g .few-triangles;
+      vertices-are = omega (arith, g .vertices start, h .vertices (iterate (regularLayer s) (subdivisions s) start));
+      triangles-are = omega (arith, g .triangles start, h .triangles (iterate (regularLayer s) (subdivisions s) start));
     }
-
--- ---- columns, layers, rows and sides
-
-module _ (s : Star) where
-  pub grows-column : (x y z cells : ℕ) (counts : Counts) → z ≡ subdivisions s
-      → Grows (iterate (λ z. cellStep (regularCell s x y z)) z) cells counts → Grows (regularColumn s x y) cells counts
-  unfolding regularColumn
-  grows-column x y z cells counts e g = rw e at g
-
-  -- up to the next cell that is cut
-  pub grows-next : (n x y bits : ℕ) → ((z : ℕ) → z < n → bits / 2 ^ z % 2 ≡ 0 → uncut (regularCase s x y z) 255 ≡ true)
-      → (from next : ℕ) (counts : Counts) → NextSet bits n from next
-      → Grows (iterate (λ z. cellStep (regularCell s x y z)) from) from counts → Grows (iterate (λ z. cellStep (regularCell s x y z)) next) next counts
-  grows-next n x y bits clear from next counts step g =
-      grows-few next (step .from-le) (grows-as (λ m. sym (cells-skip s n x y bits clear from next step m)) g)
-
-  pub grows-next-in-row : (n side u bits : ℕ) → ((v : ℕ) → v < n → bits / 2 ^ (2 * v) % 2 ≡ 0 → uncut (transitionCase s side u v) 511 ≡ true)
-      → (from bit : ℕ) (counts : Counts) → NextSet bits (2 * n) (2 * from) bit
-      → Grows (iterate (λ v. cellStep (transitionCell s side u v)) from) from counts
-      → Grows (iterate (λ v. cellStep (transitionCell s side u v)) (bit / 2)) (bit / 2) counts
-  grows-next-in-row n side u bits clear from bit counts step g =
-      grows-few (bit / 2) (omega (arith, step .from-le)) (grows-as (λ m. sym (row-skip s n side u bits clear from bit step m)) g)
-
-  pub grows-layer : (x y cells : ℕ) (counts : Counts) → y ≡ subdivisions s
-      → Grows (iterate (regularColumn s x) y) cells counts → Grows (regularLayer s x) cells counts
-  unfolding regularLayer
-  grows-layer x y cells counts e g = rw e at g
-
-  pub grows-row : (side u v cells : ℕ) (counts : Counts) → v ≡ subdivisions s
-      → Grows (iterate (λ v. cellStep (transitionCell s side u v)) v) cells counts → Grows (transitionRow s side u) cells counts
-  unfolding transitionRow
-  grows-row side u v cells counts e g = rw e at g
-
-  pub grows-side : (side u cells : ℕ) (counts : Counts) → named (s .mask) side ≡ true → u ≡ subdivisions s
-      → Grows (iterate (transitionRow s side) u) cells counts → Grows (transitionSide s side) cells counts
-  unfolding transitionSide
-  grows-side side u cells counts h e g = grows-as (λ m. rw h) (rw e at g)
-
-  pub grows-skip : (side next cells : ℕ) (counts : Counts) → NextSide (s .mask) side next
-      → Grows (iterate (transitionSide s) side) cells counts → Grows (iterate (transitionSide s) next) cells counts
-  grows-skip side next cells counts step g = grows-as (λ m. sym (sides-skip s m side next step)) g
-
-  pub counted-mesh : (cells more : ℕ) (regular transition : Counts)
-      → Grows (iterate (regularLayer s) (subdivisions s)) cells regular → Grows (iterate (transitionSide s) 6) more transition
-      → Counted (meshOf s) (cells + more) (plus regular transition)
-  unfolding meshOf regularMesh emptyMesh
-  counted-mesh cells more regular transition g h =
-      let start = emptyMesh (subdivisions s) in
-      let all = iterate (regularLayer s) (subdivisions s) start in
-      record {
-        vertices-are = omega (arith, g .vertices start, h .vertices all);
-        triangles-are = omega (arith, g .triangles start, h .triangles all);
-        few-vertices = omega (arith, g .few-vertices, h .few-vertices);
-        few-triangles = omega (arith, g .few-triangles, h .few-triangles);
-      }

@@ -1,5 +1,5 @@
 -- Laws of the writing pass: a cell is written into the buffers, and what stands in them at the end.
-use Prim.Native.Nat.{ℕ, _+_, _*_, _≤_}
+use Prim.Native.Nat.{ℕ, _+_, _*_, _/_, _%_, _≤_, _<_}
 use native.Mathlib.Omega.{arith}
 use mathlib.Core.Path.{_≡_, refl, sym, _∙_}
 use mathlib.Core.List.{List}
@@ -14,9 +14,11 @@ use Rattle.model.specs.Extraction.{vertexFloats, triangleIndices}
 use Rattle.cells.specs.Buffers.{layVertices, layTriangles}
 use Rattle.laws.specs.Lists.{length-listed, each-append}
 use Rattle.laws.specs.Laying.{take-lay}
+use Rattle.cases.specs.Sheets.{rowWidth}
+use Rattle.cases.specs.Scans.{NextCut}
 use Rattle.cells.specs.Puts.{Room, CellPut}
-use Rattle.algorithm.specs.Passes.{Fits, Holds, SameLengths, Exact, Written}
-use Rattle.algorithm.proofs.Walk.{Upto}
+use Rattle.algorithm.specs.Passes.{SheetOf, sheetTo, Fits, Holds, SameLengths, Exact, Written}
+use Rattle.algorithm.proofs.Walk.{Upto, upto-trans, sheet-upto, sheet-skip, sheet-cell}
 
 module _ (c : Cell) (m : Mesh) where
   pub cell-made : length (cellStep c m .made) ≡ length (m .made) + length (filled c m .made)
@@ -82,6 +84,27 @@ module _ {s : Star} {c : Cell} {m : Mesh} {counts : Counts} {vertices : List Flo
         triangles-are = rw (et, lt, take-lay 3 triangleIndices (λ t. refl) triangles nt sent rt, ready .holds .triangles-are, each-append triangleIndices (m .triangles) sent);
         store-is = cc;
       }
+
+-- ---- a sheet of cells
+
+module _ {cell : ℕ → ℕ → Cell} {case : ℕ → ℕ → ℕ} {all n : ℕ} {cases : List ℕ} (o : SheetOf cell case all n cases) (m : Mesh) where
+  -- the places that a scan passes over add nothing
+  pub holds-skip : {counts : Counts} {vertices : List Float} {triangles store : List ℕ} (from next : ℕ) → NextCut n all cases from next
+      → Holds (sheetTo cell n m from) counts vertices triangles store → Holds (sheetTo cell n m next) counts vertices triangles store
+  holds-skip from next step h = rw (sheet-skip cell n o from next step m) at h
+
+  -- a cell can be written, if the mesh after the sheet fits
+  pub ready-at : (s : Star) (i : ℕ) {counts : Counts} {vertices : List Float} {triangles store : List ℕ} → i < rowWidth * n → i % rowWidth < n
+      → Upto (sheetTo cell n m (rowWidth * n)) (meshOf s) → Fits s vertices triangles store
+      → Holds (sheetTo cell n m i) counts vertices triangles store
+      → Ready s (cell (i / rowWidth) (i % rowWidth)) (sheetTo cell n m i) counts vertices triangles store
+  ready-at s i h is upto fits holds = record { holds = holds; upto = upto-trans (sheet-upto cell n m i h is) upto; fits = fits }
+
+  -- a cell written, and the places up to the next one that may be cut
+  pub holds-on : (i next : ℕ) {counts : Counts} {vertices : List Float} {triangles store : List ℕ} → i % rowWidth < n → NextCut n all cases (i + 1) next
+      → Holds (cellStep (cell (i / rowWidth) (i % rowWidth)) (sheetTo cell n m i)) counts vertices triangles store
+      → Holds (sheetTo cell n m next) counts vertices triangles store
+  holds-on i next is step h = holds-skip (i + 1) next step (rw (sheet-cell cell n m i is) h)
 
 -- ---- at the end
 

@@ -1,6 +1,3 @@
-pub mod Buffers
 pub mod Walk
 pub mod Holding
 pub mod Growth
-pub mod Answers
-pub mod Pinned

@@ -1,22 +1,27 @@
--- Laws of the walk over the cells: a step goes from cell to cell, and nothing that was made is taken away.
-use Prim.Native.Nat.{ℕ, zero, suc, _+_, _-_, _*_, _/_, _%_, _^_, _≤_, _<_}
-use native.Mathlib.Nat.{add-zero, add-suc, le-refl, le-trans}
+-- Laws of the walk over the cells: sheet by sheet, and over a sheet place by place; nothing that was made is taken away.
+use Prim.Native.Nat.{ℕ, zero, suc, _+_, _*_, _/_, _%_, _≤_, _<_}
+use native.Mathlib.Nat.{le-refl, le-trans, div-add-mod}
+use native.Mathlib.Decide.{decLt}
 use native.Mathlib.Numerals.{add-one}
 use native.Mathlib.Omega.{arith}
-use mathlib.Core.Path.{_≡_, refl, sym, _∙_}
+use mathlib.Core.Path.{_≡_, refl, sym, ap, _∙_}
 use mathlib.Core.Bool.{Bool, true, false, cond}
-use lib.ListN.{length, length-append}
+use mathlib.Core.List.{List}
+use borrow.Author.Tests.{lt-ltb, le-ltb}
+use lib.Dec.{ltb}
+use lib.ListN.{length, getD, length-append}
 use Rattle.laws.specs.Steps.{iterate}
+use Rattle.laws.specs.Iterated.{iterate-upto, steps-skip, placed, rows-placed}
+use Rattle.model.specs.Limits.{mostSubdivisions, sideCount}
 use Rattle.model.specs.Sides.{named}
 use Rattle.model.specs.Star.{Star, subdivisions}
 use Rattle.model.specs.Points.{regularCase, transitionCase}
-use Rattle.model.specs.Mesh.{Cell, Mesh, emptyMesh, cellStep, regularCell, regularColumn, regularLayer, regularMesh, transitionCell, transitionRow, transitionSide, meshOf}
+use Rattle.model.specs.Mesh.{Cell, Mesh, emptyMesh, cellStep, regularCell, regularColumn, regularLayer, regularMesh, regularTo, transitionCell, transitionRow, transitionSide, transitionTo, meshOf}
 use Rattle.grid.specs.SideLaws.{NextSide}
-use Rattle.cases.specs.Bits.{NextSet}
-use Rattle.cases.specs.Columns.{uncut}
-use Rattle.laws.specs.Iterated.{iterate-upto}
+use Rattle.cases.specs.Sheets.{rowWidth, Sheet}
+use Rattle.cases.specs.Scans.{allRegular, allTransition, uncut, NextCut}
 use Rattle.cells.specs.Uncut.{nothing-step, regular-nothing, transition-nothing}
-use Rattle.model.specs.Mesh.{regularTo, transitionTo}
+use Rattle.algorithm.specs.Passes.{SheetOf, Numbered, sheetStep, sheetTo}
 
 -- ---- what a later mesh has at least
 
@@ -27,7 +32,7 @@ pub record Upto (m m′ : Mesh) : Type 0 where
 upto-same : (m : Mesh) → Upto m m
 upto-same m = record { vertices = le-refl _; triangles = le-refl _ }
 
-upto-trans : {m m′ m″ : Mesh} → Upto m m′ → Upto m′ m″ → Upto m m″
+pub upto-trans : {m m′ m″ : Mesh} → Upto m m′ → Upto m′ m″ → Upto m m″
 upto-trans h k = record { vertices = le-trans (h .vertices) (k .vertices); triangles = le-trans (h .triangles) (k .triangles) }
 
 upto-cell : (c : Cell) (m : Mesh) → Upto m (cellStep c m)
@@ -42,60 +47,70 @@ module _ (f : ℕ → Mesh → Mesh) (grows : (k : ℕ) (m : Mesh) → Upto m (f
         triangles = iterate-upto (λ (m : Mesh). length (m .triangles)) f (λ k m. grows k m .triangles) m j k h;
       }
 
--- steps that change nothing are stepped over
-module _ (f : ℕ → Mesh → Mesh) (m : Mesh) where
-  skip : (from k : ℕ) → ((i : ℕ) → from ≤ i → i < from + k → (m : Mesh) → f i m ≡ m) → iterate f (from + k) m ≡ iterate f from m
-  skip from zero h = rw add-zero
-  skip from (suc k) h =
-      rw add-suc (h (from + k) (omega arith) (omega arith) (iterate f (from + k) m) ∙ skip from k (λ i a b. h i a (omega arith)))
+-- ---- a sheet of cells
 
-  pub steps-skip : (from next : ℕ) → from ≤ next → ((i : ℕ) → from ≤ i → i < next → (m : Mesh) → f i m ≡ m) → iterate f from m ≡ iterate f next m
-  steps-skip from next l h =
-      let e : next ≡ from + (next - from) = omega arith in
-      rw e (sym (skip from (next - from) (λ i a b. h i a (omega arith))))
+module _ (cell : ℕ → ℕ → Cell) (n : ℕ) where
+  sheet-place : (i : ℕ) → i % rowWidth < n → (m : Mesh) → sheetStep cell n i m ≡ cellStep (cell (i / rowWidth) (i % rowWidth)) m
+  unfolding placed
+  sheet-place i h m = rw (lt-ltb (i % rowWidth) n h)
+
+  sheet-beyond : (i : ℕ) → n ≤ i % rowWidth → (m : Mesh) → sheetStep cell n i m ≡ m
+  unfolding placed
+  sheet-beyond i h m = rw (le-ltb (i % rowWidth) n h)
+
+  pub sheet-cell : (m : Mesh) (i : ℕ) → i % rowWidth < n → sheetTo cell n m (i + 1) ≡ cellStep (cell (i / rowWidth) (i % rowWidth)) (sheetTo cell n m i)
+  sheet-cell m i h = rw add-one (sheet-place i h (sheetTo cell n m i))
+
+  pub sheet-end : n ≤ mostSubdivisions → (m : Mesh) (i : ℕ) → i ≡ rowWidth * n → sheetTo cell n m i ≡ iterate (λ j. iterate (λ k. cellStep (cell j k)) n) n m
+  sheet-end few m i e = rw e (rows-placed rowWidth n (omega arith) (omega arith) (λ j k. cellStep (cell j k)) n m)
+
+  upto-place : (i : ℕ) (m : Mesh) → Upto m (sheetStep cell n i m)
+  upto-place i m = by (decLt (i % rowWidth) n)
+    where
+      by : Dec (i % rowWidth < n) → Upto m (sheetStep cell n i m)
+      by (yes h) = rw (sheet-place i h m) (upto-cell (cell (i / rowWidth) (i % rowWidth)) m)
+      by (no h) = rw (sheet-beyond i (omega arith) m) (upto-same m)
+
+  -- after a cell there is at most what there is after the sheet
+  pub sheet-upto : (m : Mesh) (i : ℕ) → i < rowWidth * n → i % rowWidth < n
+      → Upto (cellStep (cell (i / rowWidth) (i % rowWidth)) (sheetTo cell n m i)) (sheetTo cell n m (rowWidth * n))
+  sheet-upto m i h is = rw (← sheet-place i is (sheetTo cell n m i)) (upto-iterate (sheetStep cell n) upto-place m (suc i) (rowWidth * n) h)
+
+  module _ {case : ℕ → ℕ → ℕ} {all : ℕ} {cases : List ℕ} (o : SheetOf cell case all n cases) where
+    -- the number at a place is its cell's
+    pub case-there : (i : ℕ) → i < rowWidth * n → i % rowWidth < n → getD cases i 0 ≡ case (i / rowWidth) (i % rowWidth)
+    case-there i h is =
+        ap (λ (k : ℕ). getD cases k 0) (sym (div-add-mod i rowWidth)) ∙ o .sheet .case-at (i / rowWidth) (i % rowWidth) (omega arith) is
+
+    -- places without a cell, and cells that are not cut, are stepped over
+    pub sheet-skip : (from next : ℕ) → NextCut n all cases from next → (m : Mesh) → sheetTo cell n m from ≡ sheetTo cell n m next
+    sheet-skip from next step m =
+        steps-skip (sheetStep cell n) m from next (step .between .ordered) (λ i l h m. by i l h m (decLt (i % rowWidth) n))
+      where
+        by : (i : ℕ) → from ≤ i → i < next → (m : Mesh) → Dec (i % rowWidth < n) → sheetStep cell n i m ≡ m
+        by i l h m (no is) = sheet-beyond i (omega arith) m
+        by i l h m (yes is) =
+            sheet-place i is m
+            ∙ nothing-step _
+            (o .none (i / rowWidth) (i % rowWidth)
+            (ap (λ (c : ℕ). uncut c all) (sym (case-there i (omega (arith, step .within)) is)) ∙ step .between .none-cut i l h is)) m
+
+  -- and its numbers are at most what the cells' numbers are
+  pub sheet-numbered : {case : ℕ → ℕ → ℕ} {all : ℕ} {cases : List ℕ} → SheetOf cell case all n cases → ((j k : ℕ) → case j k ≤ all) → Numbered n all cases
+  sheet-numbered o small = record { number-at = λ i h is. omega (arith, case-there o i h is, small (i / rowWidth) (i % rowWidth)) }
+
+-- the sheet of a layer, and that of a side
+module _ (s : Star) where
+  pub layer-sheet : (n x : ℕ) (cases : List ℕ) → Sheet (regularCase s x) n n cases → SheetOf (regularCell s x) (regularCase s x) allRegular n cases
+  layer-sheet n x cases sheet = record { none = regular-nothing s x; sheet = sheet }
+
+  pub side-sheet : (n side : ℕ) (cases : List ℕ) → Sheet (transitionCase s side) n n cases
+      → SheetOf (transitionCell s side) (transitionCase s side) allTransition n cases
+  side-sheet n side cases sheet = record { none = transition-nothing s side; sheet = sheet }
+
+-- ---- layers and sides
 
 module _ (s : Star) where
-  -- ---- cells that are not cut are stepped over
-
-  module _ (n x y bits : ℕ) (clear : (z : ℕ) → z < n → bits / 2 ^ z % 2 ≡ 0 → uncut (regularCase s x y z) 255 ≡ true) where
-    pub cells-skip : (from next : ℕ) → NextSet bits n from next → (m : Mesh)
-        → iterate (λ z. cellStep (regularCell s x y z)) from m ≡ iterate (λ z. cellStep (regularCell s x y z)) next m
-    cells-skip from next step m =
-        steps-skip _ m from next (step .from-le)
-        (λ z a b. nothing-step _ (regular-nothing s x y z (clear z (omega (arith, step .le-end)) (step .none-between z a b))))
-
-  -- a row's cells have every second bit
-  module _ (n side u bits : ℕ) (clear : (v : ℕ) → v < n → bits / 2 ^ (2 * v) % 2 ≡ 0 → uncut (transitionCase s side u v) 511 ≡ true) where
-    pub row-skip : (from bit : ℕ) → NextSet bits (2 * n) (2 * from) bit → (m : Mesh)
-        → iterate (λ v. cellStep (transitionCell s side u v)) from m ≡ iterate (λ v. cellStep (transitionCell s side u v)) (bit / 2) m
-    row-skip from bit step m =
-        steps-skip _ m from (bit / 2) (omega (arith, step .from-le))
-        (λ v a b.
-        nothing-step _
-        (transition-nothing s side u v (clear v (omega (arith, step .le-end)) (step .none-between (2 * v) (omega arith) (omega arith)))))
-
-  -- ---- regular cells
-
-  pub regular-start : regularTo s 0 0 0 ≡ emptyMesh (subdivisions s)
-  unfolding regularTo
-  regular-start = refl
-
-  pub regular-cell : (x y z : ℕ) → regularTo s x y (z + 1) ≡ cellStep (regularCell s x y z) (regularTo s x y z)
-  unfolding regularTo
-  regular-cell x y z = rw add-one
-
-  pub regular-column : (x y z : ℕ) → z ≡ subdivisions s → regularTo s x y z ≡ regularTo s x (y + 1) 0
-  unfolding regularTo regularColumn
-  regular-column x y z e = rw (e, add-one)
-
-  pub regular-layer : (x y : ℕ) → y ≡ subdivisions s → regularTo s x y 0 ≡ regularTo s (x + 1) 0 0
-  unfolding regularTo regularLayer
-  regular-layer x y e = rw (e, add-one)
-
-  pub regular-end : (x : ℕ) → x ≡ subdivisions s → regularTo s x 0 0 ≡ regularMesh s
-  unfolding regularTo regularMesh
-  regular-end x e = rw e
-
   upto-column : (x y : ℕ) (m : Mesh) → Upto m (regularColumn s x y m)
   unfolding regularColumn
   upto-column x y m = upto-iterate _ (λ z. upto-cell (regularCell s x y z)) m 0 (subdivisions s) (omega arith)
@@ -104,27 +119,67 @@ module _ (s : Star) where
   unfolding regularLayer
   upto-layer x m = upto-iterate _ (upto-column x) m 0 (subdivisions s) (omega arith)
 
+  upto-row : (side u : ℕ) (m : Mesh) → Upto m (transitionRow s side u m)
+  unfolding transitionRow
+  upto-row side u m = upto-iterate _ (λ v. upto-cell (transitionCell s side u v)) m 0 (subdivisions s) (omega arith)
+
+  upto-side : (side : ℕ) (m : Mesh) → Upto m (transitionSide s side m)
+  unfolding transitionSide
+  upto-side side m = go (named (s .mask) side)
+    where
+      go : (b : Bool) → Upto m (cond b (iterate (transitionRow s side) (subdivisions s) m) m)
+      go true = upto-iterate (transitionRow s side) (upto-row side) m 0 (subdivisions s) (omega arith)
+      go false = upto-same m
+
+  -- ---- regular cells
+
+  pub regular-start : regularTo s 0 0 0 ≡ emptyMesh (subdivisions s)
+  unfolding regularTo
+  regular-start = refl
+
+  pub layer-is : subdivisions s ≤ mostSubdivisions → (x : ℕ) (m : Mesh)
+      → sheetTo (regularCell s x) (subdivisions s) m (rowWidth * subdivisions s) ≡ regularLayer s x m
+  unfolding regularLayer regularColumn
+  layer-is few x m = sheet-end (regularCell s x) (subdivisions s) few m _ refl
+
+  pub regular-layer : subdivisions s ≤ mostSubdivisions → (x : ℕ)
+      → sheetTo (regularCell s x) (subdivisions s) (regularTo s x 0 0) (rowWidth * subdivisions s) ≡ regularTo s (x + 1) 0 0
+  unfolding regularTo
+  regular-layer few x = rw add-one (layer-is few x (iterate (regularLayer s) x (emptyMesh (subdivisions s))))
+
+  pub regular-end : (x : ℕ) → x ≡ subdivisions s → regularTo s x 0 0 ≡ regularMesh s
+  unfolding regularTo regularMesh
+  regular-end x e = rw e
+
+  pub layer-upto : (x : ℕ) → x < subdivisions s → Upto (regularTo s (x + 1) 0 0) (meshOf s)
+  unfolding regularTo regularMesh meshOf
+  layer-upto x h =
+      rw add-one
+      (upto-trans (upto-iterate (regularLayer s) upto-layer _ (suc x) (subdivisions s) h) (upto-iterate (transitionSide s) upto-side _ 0 sideCount (omega arith)))
+
   -- ---- transition cells
 
   pub transition-start : transitionTo s 0 0 0 ≡ regularMesh s
   unfolding transitionTo
   transition-start = refl
 
-  pub transition-cell : (side u v : ℕ) → transitionTo s side u (v + 1) ≡ cellStep (transitionCell s side u v) (transitionTo s side u v)
+  pub side-is : subdivisions s ≤ mostSubdivisions → (side : ℕ) → named (s .mask) side ≡ true → (m : Mesh)
+      → sheetTo (transitionCell s side) (subdivisions s) m (rowWidth * subdivisions s) ≡ transitionSide s side m
+  unfolding transitionSide transitionRow
+  side-is few side h m = rw h (sheet-end (transitionCell s side) (subdivisions s) few m _ refl)
+
+  pub transition-side : subdivisions s ≤ mostSubdivisions → (side : ℕ) → named (s .mask) side ≡ true
+      → sheetTo (transitionCell s side) (subdivisions s) (transitionTo s side 0 0) (rowWidth * subdivisions s) ≡ transitionTo s (side + 1) 0 0
   unfolding transitionTo
-  transition-cell side u v = rw add-one
+  transition-side few side h = rw add-one (side-is few side h (iterate (transitionSide s) side (regularMesh s)))
 
-  pub transition-row : (side u v : ℕ) → v ≡ subdivisions s → transitionTo s side u v ≡ transitionTo s side (u + 1) 0
-  unfolding transitionTo transitionRow
-  transition-row side u v e = rw (e, add-one)
-
-  pub transition-side : (side u : ℕ) → named (s .mask) side ≡ true → u ≡ subdivisions s → transitionTo s side u 0 ≡ transitionTo s (side + 1) 0 0
-  unfolding transitionTo transitionSide
-  transition-side side u h e = rw (e, add-one, h)
-
-  pub transition-end : (side : ℕ) → side ≡ 6 → transitionTo s side 0 0 ≡ meshOf s
+  pub transition-end : (side : ℕ) → side ≡ sideCount → transitionTo s side 0 0 ≡ meshOf s
   unfolding transitionTo meshOf
   transition-end side e = rw e
+
+  pub side-upto : (side : ℕ) → side < sideCount → Upto (transitionTo s (side + 1) 0 0) (meshOf s)
+  unfolding transitionTo meshOf
+  side-upto side h = rw add-one (upto-iterate (transitionSide s) upto-side _ (suc side) sideCount h)
 
   -- sides that are not named are stepped over
   side-unnamed : (side : ℕ) → named (s .mask) side ≡ false → (m : Mesh) → transitionSide s side m ≡ m
@@ -139,49 +194,19 @@ module _ (s : Star) where
   unfolding transitionTo
   transition-skip = sides-skip (regularMesh s)
 
-  pub regular-next : (n x y bits : ℕ) → ((z : ℕ) → z < n → bits / 2 ^ z % 2 ≡ 0 → uncut (regularCase s x y z) 255 ≡ true)
-      → (from next : ℕ) → NextSet bits n from next → regularTo s x y from ≡ regularTo s x y next
-  unfolding regularTo
-  regular-next n x y bits clear from next step = cells-skip n x y bits clear from next step _
-
-  pub transition-next : (n side u bits : ℕ) → ((v : ℕ) → v < n → bits / 2 ^ (2 * v) % 2 ≡ 0 → uncut (transitionCase s side u v) 511 ≡ true)
-      → (from bit : ℕ) → NextSet bits (2 * n) (2 * from) bit → transitionTo s side u from ≡ transitionTo s side u (bit / 2)
-  unfolding transitionTo
-  transition-next n side u bits clear from bit step = row-skip n side u bits clear from bit step _
-
-  upto-row : (side u : ℕ) (m : Mesh) → Upto m (transitionRow s side u m)
-  unfolding transitionRow
-  upto-row side u m = upto-iterate _ (λ v. upto-cell (transitionCell s side u v)) m 0 (subdivisions s) (omega arith)
-
-  upto-rows : (side u : ℕ) (m : Mesh) → u ≤ subdivisions s → Upto (iterate (transitionRow s side) u m) (iterate (transitionRow s side) (subdivisions s) m)
-  upto-rows side u m h = upto-iterate (transitionRow s side) (upto-row side) m u (subdivisions s) h
-
-  upto-side : (side : ℕ) (m : Mesh) → Upto m (transitionSide s side m)
-  unfolding transitionSide
-  upto-side side m = go (named (s .mask) side)
+  -- with no named side all of them are
+  pub no-sides : s .mask ≡ 0 → (m : Mesh) → iterate (transitionSide s) sideCount m ≡ m
+  unfolding named
+  no-sides e m = sym (steps-skip (transitionSide s) m 0 sideCount (omega arith) (λ i a b. side-unnamed i (none-named e i b)))
     where
-      go : (b : Bool) → Upto m (cond b (iterate (transitionRow s side) (subdivisions s) m) m)
-      go true = upto-rows side 0 m (omega arith)
-      go false = upto-same m
-
-  -- after a cell there is at most what there is at the end
-  pub regular-upto : (x y z : ℕ) → x < subdivisions s → y < subdivisions s → z < subdivisions s
-      → Upto (cellStep (regularCell s x y z) (regularTo s x y z)) (meshOf s)
-  unfolding regularTo regularMesh regularLayer regularColumn meshOf
-  regular-upto x y z hx hy hz =
-      let n = subdivisions s in
-      upto-trans (upto-iterate (λ z. cellStep (regularCell s x y z)) (λ z. upto-cell (regularCell s x y z)) _ (suc z) n hz)
-      (upto-trans (upto-iterate (regularColumn s x) (upto-column x) _ (suc y) n hy)
-      (upto-trans (upto-iterate (regularLayer s) upto-layer _ (suc x) n hx)
-      (upto-iterate (transitionSide s) upto-side _ 0 6 (omega arith))))
-
-  pub transition-upto : (side u v : ℕ) → side < 6 → named (s .mask) side ≡ true → u < subdivisions s → v < subdivisions s
-      → Upto (cellStep (transitionCell s side u v) (transitionTo s side u v)) (meshOf s)
-  unfolding transitionTo meshOf transitionRow transitionSide
-  transition-upto side u v hs named-is hu hv =
-      let n = subdivisions s in
-      let m = iterate (transitionSide s) side (regularMesh s) in
-      let whole : transitionSide s side m ≡ iterate (transitionRow s side) n m = rw named-is in
-      upto-trans (upto-iterate (λ v. cellStep (transitionCell s side u v)) (λ v. upto-cell (transitionCell s side u v)) _ (suc v) n hv)
-      (upto-trans (rw (← whole) at (upto-rows side (suc u) m hu))
-      (upto-iterate (transitionSide s) upto-side _ (suc side) 6 hs))
+      none-named : s .mask ≡ 0 → (i : ℕ) → i < sideCount → named (s .mask) i ≡ false
+      none-named e i h = rw e (unnamed i h)
+        where
+          unnamed : (i : ℕ) → i < sideCount → named 0 i ≡ false
+          unnamed zero h = refl
+          unnamed (suc zero) h = refl
+          unnamed (suc (suc zero)) h = refl
+          unnamed (suc (suc (suc zero))) h = refl
+          unnamed (suc (suc (suc (suc zero)))) h = refl
+          unnamed (suc (suc (suc (suc (suc zero))))) h = refl
+          unnamed (suc (suc (suc (suc (suc (suc i)))))) h = absurd (let x : ⊥ = omega arith in x)

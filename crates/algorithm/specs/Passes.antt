@@ -1,22 +1,26 @@
 -- What extraction's functions ask for and what they leave, by name. One set of names serves both kinds of cell.
-use Prim.Native.Nat.{ℕ, _+_, _*_, _≤_}
+use Prim.Native.Nat.{ℕ, _+_, _*_, _%_, _≤_, _<_}
 use mathlib.Core.Path.{_≡_}
 use mathlib.Core.Bool.{true}
 use mathlib.Core.List.{List}
 use lib.Ieee.{Float}
-use lib.ListN.{length, take}
+use lib.ListN.{length, getD, take}
 use Rattle.model.specs.declared.Counts.{Counts}
+use Rattle.model.specs.declared.Header.{Header}
 use Rattle.model.specs.declared.Verdict.{Verdict}
 use Rattle.model.specs.declared.Extraction.{Extraction}
-use Rattle.laws.specs.Steps.{each}
+use Rattle.laws.specs.Steps.{iterate, each}
+use Rattle.laws.specs.Iterated.{placed}
 use Rattle.model.specs.Refusals.{orElse}
-use Rattle.model.specs.Sides.{named}
+use Rattle.model.specs.Limits.{mostSubdivisions, mostMask, sideCount}
+use Rattle.model.specs.Sides.{neighboursLength}
 use Rattle.model.specs.Star.{Star, subdivisions}
-use Rattle.model.specs.Mesh.{Mesh, storeLength, meshOf}
+use Rattle.model.specs.Mesh.{Cell, Mesh, cellStep, storeLength, meshOf}
 use Rattle.model.specs.Judging.{judgeFaces, judgeStore, judgeRoom, judgeStar}
 use Rattle.model.specs.Extraction.{vertexFloats, triangleIndices, Outcome, outcome}
-use Rattle.cases.specs.Columns.{Columns, FineColumns}
-use Rattle.cells.specs.Puts.{Room}
+use Rattle.cases.specs.Sheets.{rowWidth, sheetPlaces, Sheet}
+use Rattle.cases.specs.Scans.{uncut}
+use Rattle.cells.specs.Puts.{Room, Nothing}
 
 -- 1 to 9, in that order
 abbrev pub judged : Star → ℕ → Verdict
@@ -31,34 +35,42 @@ counted s store vertices triangles =
 abbrev pub plus : Counts → Counts → Counts
 plus a b = record { vertices = a .vertices + b .vertices; triangles = a .triangles + b .triangles }
 
--- the columns of inside bits of some block; of one whose mask names a side; of one with this mask
-pub record SomeColumns (n : ℕ) (columns : List ℕ) : Type 0 where
-  pub of : Star
-  pub columns-are : Columns n of columns
+-- the cells of all sheets: a layer a subdivision, and one sheet a side
+abbrev pub mostCells : ℕ
+mostCells = sheetPlaces * mostSubdivisions + sheetPlaces * sideCount
 
-pub record SomeSide (n side : ℕ) (columns : List ℕ) : Type 0 where
-  pub of : Star
-  pub columns-are : FineColumns n of columns
-  pub is-named : named (of .mask) side ≡ true
+-- a sheet with the case numbers of cells, of which those that are not cut add nothing
+pub record SheetOf (cell : ℕ → ℕ → Cell) (case : ℕ → ℕ → ℕ) (all n : ℕ) (cases : List ℕ) : Type 0 where
+  pub none : (j k : ℕ) → uncut (case j k) all ≡ true → Nothing (cell j k)
+  pub sheet : Sheet case n n cases
 
-pub record SomeFineColumns (n mask : ℕ) (columns : List ℕ) : Type 0 where
-  pub of : Star
-  pub columns-are : FineColumns n of columns
-  pub mask-is : of .mask ≡ mask
+-- the numbers of a sheet's cells are at most so many
+pub record Numbered (n all : ℕ) (cases : List ℕ) : Type 0 where
+  pub number-at : (i : ℕ) → i < rowWidth * n → i % rowWidth < n → getD cases i 0 ≤ all
 
--- what a step of at most so many cells adds, whatever was there before it
-pub record Grows (step : Mesh → Mesh) (cells : ℕ) (counts : Counts) : Type 0 where
+-- the neighbours of the named sides are all there
+pub record SidesThere (h : Header) (neighbours : List Float) : Type 0 where
+  pub some : 1 ≤ h .block .subdivisions
+  pub few : h .block .subdivisions ≤ mostSubdivisions
+  pub sides : h .mask ≤ mostMask
+  pub neighbours-are : length neighbours ≡ neighboursLength (h .block .subdivisions) (h .mask)
+
+-- place i of a sheet of cells: the cell there takes its step, if there is one
+abbrev pub sheetStep : (ℕ → ℕ → Cell) → ℕ → ℕ → Mesh → Mesh
+sheetStep cell n = placed rowWidth n (λ j k. cellStep (cell j k))
+
+-- the mesh before place i of a sheet, which began with m
+abbrev pub sheetTo : (ℕ → ℕ → Cell) → ℕ → Mesh → ℕ → Mesh
+sheetTo cell n m i = iterate (sheetStep cell n) i m
+
+-- what a step adds, whatever was there before it
+pub record Grows (step : Mesh → Mesh) (counts : Counts) : Type 0 where
   pub vertices : (m : Mesh) → length (step m .made) ≡ length (m .made) + counts .vertices
   pub triangles : (m : Mesh) → length (step m .triangles) ≡ length (m .triangles) + counts .triangles
-  pub few-vertices : counts .vertices ≤ 12 * cells
-  pub few-triangles : counts .triangles ≤ 12 * cells
 
--- the counts of a mesh of at most so many cells
-pub record Counted (m : Mesh) (cells : ℕ) (counts : Counts) : Type 0 where
+pub record Counted (m : Mesh) (counts : Counts) : Type 0 where
   pub vertices-are : counts .vertices ≡ length (m .made)
   pub triangles-are : counts .triangles ≡ length (m .triangles)
-  pub few-vertices : counts .vertices ≤ 12 * cells
-  pub few-triangles : counts .triangles ≤ 12 * cells
 
 -- the buffers have room for the mesh, of which each index fits a u32
 pub record Fits (s : Star) (vertices : List Float) (triangles store : List ℕ) : Type 0 where

@@ -1,24 +1,45 @@
-// The counting pass: how many vertices and triangles the cells make. It reads the columns of inside bits alone and writes nothing, so that
-// 10 is answered before anything is touched. One loop to a function, as in the writing pass.
+// The counting pass: how many vertices and triangles the cells make. It writes nothing that was lent, so that 10 is answered before
+// anything is touched. For each kind of cell one loop over the sheets, and one over a sheet's cells that are cut.
 ghost use mathlib.Core.Path.{_≡_};
 ghost use mathlib.Core.Bool.{true};
-ghost use Prim.Native.Nat.{_+_, _<_, _≤_, _^_};
+ghost use mathlib.Core.List.{List};
+ghost use Prim.Native.Nat.{_+_, _*_, _<_, _≤_, _^_};
+ghost use lib.Ieee.{Float};
+ghost use lib.ListN.{length};
 ghost use Rattle.laws.specs.Steps.{iterate};
+ghost use Rattle.model.specs.Limits.{mostSubdivisions, sideCount};
+ghost use Rattle.model.specs.Samples.{sampleLength};
 ghost use Rattle.model.specs.Sides.{named};
-ghost use Rattle.model.specs.Star.{Star};
-ghost use Rattle.model.specs.Mesh.{regularColumn, regularLayer, transitionRow, transitionSide, meshOf};
-ghost use Rattle.cases.specs.Columns.{Columns, FineColumns};
+ghost use Rattle.model.specs.Star.{Star, star, subdivisions};
+ghost use Rattle.model.specs.Points.{regularCase, transitionCase};
+ghost use Rattle.model.specs.Mesh.{regularLayer, transitionSide, meshOf};
+ghost use Rattle.grid.specs.Shape.{Shaped};
+ghost use Rattle.cases.specs.Sheets.{sheetPlaces, Sheet};
+ghost use Rattle.cases.specs.Scans.{allTransition};
+ghost use Rattle.cells.specs.Puts.{Few};
 ghost use Rattle.cells.specs.Rows.{RegularTables, TransitionTables};
-ghost use Rattle.algorithm.specs.Passes.{plus, Grows, Counted, SomeColumns, SomeSide, SomeFineColumns};
+ghost use Rattle.algorithm.specs.Passes.{mostCells, plus, Numbered, SidesThere, Grows, Counted};
 use crate::NONE;
-use cases::bits::next_set;
-use cases::regular::cut_cells;
-use cases::transition::cut_row;
+use cases::regular::layer_cases;
+use cases::scan::ROW;
+use cases::scan::SHEET;
+use cases::scan::next_cut;
+use cases::scan::next_cut_fine;
+use cases::transition::face_cases;
 use cells::regular_cells::count_regular_cell;
 use cells::transition_cells::count_transition_cell;
 use grid::transition_sides::SIDES;
 use grid::transition_sides::next_side;
 use model::Counts;
+use model::FacePoint;
+use model::Header;
+use model::Xyz;
+use tables::regular_cell_class;
+use tables::regular_cell_data;
+use tables::regular_vertex_data;
+use tables::transition_cell_class;
+use tables::transition_cell_data;
+use tables::transition_vertex_data;
 
 fn plus(a: Counts, b: Counts) -> Counts
     requires { ⌜ (a .vertices + b .vertices < 2 ^ 64) × (a .triangles + b .triangles < 2 ^ 64) ⌝ }
@@ -30,173 +51,128 @@ fn plus(a: Counts, b: Counts) -> Counts
     }
 }
 
-fn count_column(
-    n: usize,
-    classes: &[u8; 256],
-    cells: &[u8; 256],
-    codes: &[u16; 3072],
-    columns: &[u64; 289],
-    x: usize,
-    y: usize,
-) -> Counts
-    requires { ⌜ RegularTables (now classes) (now cells) (now codes) ⌝ }
-    requires { ⌜ SomeColumns n (now columns) ⌝ }
-    requires { ⌜ (n ≤ 16) × ((x < n) × (y < n)) ⌝ }
-    ensures { λ r. ⌜ ((s : Star) → Columns n s (now (columns .entry)) → Grows (regularColumn s x y) 16 r) ⌝ }
-{
-    let mut counts = NONE;
-    let cut = cut_cells(n, columns, x, y);
-    let mut z = next_set(cut, n, 0);
-    while z < n {
-        let more = count_regular_cell(n, classes, cells, codes, columns, x, y, z);
-        counts = plus(counts, more);
-        z = next_set(cut, n, z + 1);
-    }
-    counts
-}
-
+// The layer of cells at x.
 fn count_layer(
     n: usize,
     classes: &[u8; 256],
     cells: &[u8; 256],
     codes: &[u16; 3072],
-    columns: &[u64; 289],
+    cases: &[u8],
     x: usize,
 ) -> Counts
     requires { ⌜ RegularTables (now classes) (now cells) (now codes) ⌝ }
-    requires { ⌜ SomeColumns n (now columns) ⌝ }
-    requires { ⌜ (n ≤ 16) × (x < n) ⌝ }
-    ensures { λ r. ⌜ ((s : Star) → Columns n s (now (columns .entry)) → Grows (regularLayer s x) 256 r) ⌝ }
+    requires { ⌜ (n ≤ mostSubdivisions) × (length (now cases) ≡ sheetPlaces) ⌝ }
+    ensures { λ r. ⌜ Few sheetPlaces r ⌝ }
+    ensures { λ r. ⌜ ((s : Star) → subdivisions s ≡ n → Sheet (regularCase s x) n n (now (cases .entry)) → Grows (regularLayer s x) r) ⌝ }
 {
+    let end = ROW * n;
     let mut counts = NONE;
-    let mut y = 0;
-    while y < n {
-        let more = count_column(n, classes, cells, codes, columns, x, y);
+    let mut i = next_cut(n, cases, 0);
+    while i < end {
+        let at = Xyz {
+            x,
+            y: i / ROW,
+            z: i % ROW,
+        };
+        let more = count_regular_cell(classes, cells, codes, cases[i], at);
         counts = plus(counts, more);
-        y += 1;
+        i = next_cut(n, cases, i + 1);
     }
     counts
 }
 
-fn count_regular_cells(
-    n: usize,
-    classes: &[u8; 256],
-    cells: &[u8; 256],
-    codes: &[u16; 3072],
-    columns: &[u64; 289],
-) -> Counts
-    requires { ⌜ RegularTables (now classes) (now cells) (now codes) ⌝ }
-    requires { ⌜ SomeColumns n (now columns) ⌝ }
-    requires { ⌜ n ≤ 16 ⌝ }
-    ensures { λ r. ⌜ ((s : Star) → Columns n s (now (columns .entry)) → Grows (iterate (regularLayer s) n) 4096 r) ⌝ }
+fn count_regular_cells(header: Header, centre: &[f32]) -> Counts
+    requires { ⌜ (header .block .subdivisions ≤ mostSubdivisions) × (length (now centre) ≡ sampleLength (header .block .subdivisions)) ⌝ }
+    ensures { λ r. ⌜ Few (sheetPlaces * mostSubdivisions) r ⌝ }
+    ensures { λ r. ⌜ ((ns : List Float) → Grows (iterate (regularLayer (star header (now (centre .entry)) ns)) (header .block .subdivisions)) r) ⌝ }
 {
+    let n = header.block.subdivisions;
+    let classes = regular_cell_class();
+    let cells = regular_cell_data();
+    let codes = regular_vertex_data();
+    let mut cases = [0u8; SHEET];
     let mut counts = NONE;
     let mut x = 0;
     while x < n {
-        let more = count_layer(n, classes, cells, codes, columns, x);
+        layer_cases(header, centre, x, &mut cases);
+        let more = count_layer(n, &classes, &cells, &codes, &cases, x);
         counts = plus(counts, more);
         x += 1;
     }
     counts
 }
 
-fn count_row(
-    n: usize,
-    classes: &[u8; 512],
-    cells: &[u8; 2072],
-    codes: &[u16; 6144],
-    columns: &[u64; 198],
-    side: usize,
-    u: usize,
-) -> Counts
-    requires { ⌜ TransitionTables (now classes) (now cells) (now codes) ⌝ }
-    requires { ⌜ SomeSide n side (now columns) ⌝ }
-    requires { ⌜ (n ≤ 16) × ((side < 6) × (u < n)) ⌝ }
-    ensures { λ r. ⌜ ((s : Star) → FineColumns n s (now (columns .entry)) → named (s .mask) side ≡ true → Grows (transitionRow s side u) 16 r) ⌝ }
-{
-    let mut counts = NONE;
-    let cut = cut_row(n, columns, side, u);
-    let mut v = next_set(cut, 2 * n, 0) / 2;
-    while v < n {
-        let more = count_transition_cell(n, classes, cells, codes, columns, side, u, v);
-        counts = plus(counts, more);
-        v = next_set(cut, 2 * n, 2 * (v + 1)) / 2;
-    }
-    counts
-}
-
+// The cells of a named side.
 fn count_side(
     n: usize,
     classes: &[u8; 512],
     cells: &[u8; 2072],
     codes: &[u16; 6144],
-    columns: &[u64; 198],
+    cases: &[u16],
     side: usize,
 ) -> Counts
     requires { ⌜ TransitionTables (now classes) (now cells) (now codes) ⌝ }
-    requires { ⌜ SomeSide n side (now columns) ⌝ }
-    requires { ⌜ (n ≤ 16) × (side < 6) ⌝ }
-    ensures { λ r. ⌜ ((s : Star) → FineColumns n s (now (columns .entry)) → named (s .mask) side ≡ true → Grows (transitionSide s side) 256 r) ⌝ }
+    requires { ⌜ (n ≤ mostSubdivisions) × (length (now cases) ≡ sheetPlaces) ⌝ }
+    requires { ⌜ Numbered n allTransition (now cases) ⌝ }
+    ensures { λ r. ⌜ Few sheetPlaces r ⌝ }
+    ensures { λ r. ⌜ ((s : Star) → subdivisions s ≡ n → named (s .mask) side ≡ true → Sheet (transitionCase s side) n n (now (cases .entry)) → Grows (transitionSide s side) r) ⌝ }
 {
+    let end = ROW * n;
     let mut counts = NONE;
-    let mut u = 0;
-    while u < n {
-        let more = count_row(n, classes, cells, codes, columns, side, u);
+    let mut i = next_cut_fine(n, cases, 0);
+    while i < end {
+        let at = FacePoint {
+            side,
+            u: i / ROW,
+            v: i % ROW,
+        };
+        let more = count_transition_cell(classes, cells, codes, cases[i], at);
         counts = plus(counts, more);
-        u += 1;
+        i = next_cut_fine(n, cases, i + 1);
     }
     counts
 }
 
-fn count_transition_cells(
-    n: usize,
-    mask: u8,
-    classes: &[u8; 512],
-    cells: &[u8; 2072],
-    codes: &[u16; 6144],
-    columns: &[u64; 198],
-) -> Counts
-    requires { ⌜ TransitionTables (now classes) (now cells) (now codes) ⌝ }
-    requires { ⌜ SomeFineColumns n mask (now columns) ⌝ }
-    requires { ⌜ (n ≤ 16) × (mask ≤ 63) ⌝ }
-    ensures { λ r. ⌜ ((s : Star) → FineColumns n s (now (columns .entry)) → s .mask ≡ mask → Grows (iterate (transitionSide s) 6) 1536 r) ⌝ }
+fn count_named_sides(header: Header, neighbours: &[f32]) -> Counts
+    requires { ⌜ SidesThere header (now neighbours) ⌝ }
+    ensures { λ r. ⌜ Few (sheetPlaces * sideCount) r ⌝ }
+    ensures { λ r. ⌜ ((centre : List Float) → Grows (iterate (transitionSide (star header centre (now (neighbours .entry)))) sideCount) r) ⌝ }
 {
+    let n = header.block.subdivisions;
+    let mask = header.mask;
+    let classes = transition_cell_class();
+    let cells = transition_cell_data();
+    let codes = transition_vertex_data();
+    let mut cases = [0u16; SHEET];
     let mut counts = NONE;
     let mut side = next_side(mask, 0);
     while side < SIDES {
-        let more = count_side(n, classes, cells, codes, columns, side);
+        face_cases(header, neighbours, side, &mut cases);
+        let more = count_side(n, &classes, &cells, &codes, &cases, side);
         counts = plus(counts, more);
         side = next_side(mask, side + 1);
     }
     counts
 }
 
-pub fn count_mesh(
-    n: usize,
-    mask: u8,
-    regular_classes: &[u8; 256],
-    regular_cells: &[u8; 256],
-    regular_codes: &[u16; 3072],
-    columns: &[u64; 289],
-    transition_classes: &[u8; 512],
-    transition_cells: &[u8; 2072],
-    transition_codes: &[u16; 6144],
-    fine_columns: &[u64; 198],
-) -> Counts
-    requires { ⌜ RegularTables (now «regular_classes») (now «regular_cells») (now «regular_codes») ⌝ }
-    requires { ⌜ TransitionTables (now «transition_classes») (now «transition_cells») (now «transition_codes») ⌝ }
-    requires { ⌜ SomeColumns n (now columns) × SomeFineColumns n mask (now «fine_columns») ⌝ }
-    requires { ⌜ (n ≤ 16) × (mask ≤ 63) ⌝ }
-    ensures { λ r. ⌜ ((s : Star) → Columns n s (now (columns .entry)) → FineColumns n s (now («fine_columns» .entry)) → s .mask ≡ mask → Counted (meshOf s) 5632 r) ⌝ }
+// The transition tables are fetched only where there is a finer neighbour.
+fn count_transition_cells(header: Header, neighbours: &[f32]) -> Counts
+    requires { ⌜ SidesThere header (now neighbours) ⌝ }
+    ensures { λ r. ⌜ Few (sheetPlaces * sideCount) r ⌝ }
+    ensures { λ r. ⌜ ((centre : List Float) → Grows (iterate (transitionSide (star header centre (now (neighbours .entry)))) sideCount) r) ⌝ }
 {
-    let regular = count_regular_cells(n, regular_classes, regular_cells, regular_codes, columns);
-    let transition = count_transition_cells(
-        n,
-        mask,
-        transition_classes,
-        transition_cells,
-        transition_codes,
-        fine_columns,
-    );
-    plus(regular, transition)
+    if header.mask == 0 {
+        return NONE;
+    }
+    count_named_sides(header, neighbours)
+}
+
+pub fn count_mesh(header: Header, centre: &[f32], neighbours: &[f32]) -> Counts
+    requires { ⌜ Shaped (star header (now centre) (now neighbours)) ⌝ }
+    ensures { λ r. ⌜ Few mostCells r × Counted (meshOf (star header (now (centre .entry)) (now (neighbours .entry)))) r ⌝ }
+{
+    plus(
+        count_regular_cells(header, centre),
+        count_transition_cells(header, neighbours),
+    )
 }

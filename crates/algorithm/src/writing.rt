@@ -1,90 +1,53 @@
-// The writing pass: the mesh into the lent buffers, cell by cell in document 01's order. One loop to a function: z, y, x for the
-// regular cells and v, u, side for the transition cells. Cells that are not cut are stepped over.
+// The writing pass: the mesh into the lent buffers, cell by cell in document 01's order. For each kind of cell one loop over the sheets,
+// and one over a sheet's cells that are cut.
 ghost use mathlib.Core.Path.{_≡_};
 ghost use mathlib.Core.Bool.{true};
 ghost use Prim.Native.Nat.{_+_, _<_};
 ghost use lib.ListN.{length, replicate};
+ghost use Rattle.model.specs.Limits.{sideCount};
 ghost use Rattle.model.specs.Sides.{named};
-ghost use Rattle.model.specs.Star.{starFrom};
-ghost use Rattle.model.specs.Mesh.{storeLength, regularMesh, meshOf};
+ghost use Rattle.model.specs.Star.{star};
+ghost use Rattle.model.specs.Points.{regularCase, transitionCase};
+ghost use Rattle.model.specs.Mesh.{storeLength, regularMesh, regularTo, transitionTo, meshOf};
 ghost use Rattle.grid.specs.Shape.{Shaped};
-ghost use Rattle.cases.specs.Columns.{Columns, FineColumns};
+ghost use Rattle.points.specs.Fractions.{Fractions};
+ghost use Rattle.cases.specs.Sheets.{sheetPlaces, Sheet};
 ghost use Rattle.cells.specs.Rows.{RegularTables, TransitionTables};
-ghost use Rattle.model.specs.Mesh.{regularTo, transitionTo};
 ghost use Rattle.algorithm.specs.Passes.{Fits, Holds, Exact, Written};
 use crate::NONE;
-use cases::bits::next_set;
-use cases::regular::cut_cells;
-use cases::transition::cut_row;
+use cases::regular::layer_cases;
+use cases::scan::ROW;
+use cases::scan::SHEET;
+use cases::scan::next_cut;
+use cases::scan::next_cut_fine;
+use cases::transition::face_cases;
 use cells::regular_cells::write_regular_cell;
 use cells::transition_cells::write_transition_cell;
 use grid::transition_sides::SIDES;
 use grid::transition_sides::next_side;
-use model::Block;
 use model::Counts;
+use model::FacePoint;
+use model::Header;
+use model::Xyz;
+use points::fractions::FRACTIONS;
+use points::fractions::fractions_of;
+use tables::regular_cell_class;
+use tables::regular_cell_data;
+use tables::regular_vertex_data;
+use tables::transition_cell_class;
+use tables::transition_cell_data;
+use tables::transition_vertex_data;
 
-fn write_column(
-    block: Block,
-    mask: u8,
-    threshold: f32,
-    centre: &[f32],
-    neighbours: &[f32],
-    classes: &[u8; 256],
-    cells: &[u8; 256],
-    codes: &[u16; 3072],
-    columns: &[u64; 289],
-    x: usize,
-    y: usize,
-    mut counts: Counts,
-    store: &mut [u32],
-    vertices: &mut [f32],
-    triangles: &mut [u32],
-) -> Counts
-    requires { ⌜ RegularTables (now classes) (now cells) (now codes) ⌝ }
-    requires { ⌜ Columns (block .subdivisions) (starFrom block mask threshold (now centre) (now neighbours)) (now columns) ⌝ }
-    requires { ⌜ Shaped (starFrom block mask threshold (now centre) (now neighbours)) ⌝ }
-    requires { ⌜ (x < block .subdivisions) × (y < block .subdivisions) ⌝ }
-    requires { ⌜ Fits (starFrom block mask threshold (now centre) (now neighbours)) (now vertices) (now triangles) (now store) ⌝ }
-    requires { ⌜ Holds (regularTo (starFrom block mask threshold (now centre) (now neighbours)) x y 0) counts (now vertices) (now triangles) (now store) ⌝ }
-    ensures { λ r. ⌜ Holds (regularTo (starFrom block mask threshold (now (centre .entry)) (now (neighbours .entry))) x (y + 1) 0) r (now (vertices .exit)) (now (triangles .exit)) (now (store .exit)) ⌝ }
-{
-    let n = block.subdivisions;
-    let cut = cut_cells(n, columns, x, y);
-    let mut z = next_set(cut, n, 0);
-    while z < n {
-        counts = write_regular_cell(
-            block,
-            mask,
-            threshold,
-            centre,
-            neighbours,
-            classes,
-            cells,
-            codes,
-            columns,
-            x,
-            y,
-            z,
-            counts,
-            store,
-            vertices,
-            triangles,
-        );
-        z = next_set(cut, n, z + 1);
-    }
-    counts
-}
-
+// The layer of cells at x.
 fn write_layer(
-    block: Block,
-    mask: u8,
-    threshold: f32,
+    header: Header,
+    fractions: &[f32; FRACTIONS],
     centre: &[f32],
     neighbours: &[f32],
     classes: &[u8; 256],
     cells: &[u8; 256],
     codes: &[u16; 3072],
-    columns: &[u64; 289],
+    cases: &[u8],
     x: usize,
     mut counts: Counts,
     store: &mut [u32],
@@ -92,73 +55,74 @@ fn write_layer(
     triangles: &mut [u32],
 ) -> Counts
     requires { ⌜ RegularTables (now classes) (now cells) (now codes) ⌝ }
-    requires { ⌜ Columns (block .subdivisions) (starFrom block mask threshold (now centre) (now neighbours)) (now columns) ⌝ }
-    requires { ⌜ Shaped (starFrom block mask threshold (now centre) (now neighbours)) ⌝ }
-    requires { ⌜ x < block .subdivisions ⌝ }
-    requires { ⌜ Fits (starFrom block mask threshold (now centre) (now neighbours)) (now vertices) (now triangles) (now store) ⌝ }
-    requires { ⌜ Holds (regularTo (starFrom block mask threshold (now centre) (now neighbours)) x 0 0) counts (now vertices) (now triangles) (now store) ⌝ }
-    ensures { λ r. ⌜ Holds (regularTo (starFrom block mask threshold (now (centre .entry)) (now (neighbours .entry))) (x + 1) 0 0) r (now (vertices .exit)) (now (triangles .exit)) (now (store .exit)) ⌝ }
+    requires { ⌜ Shaped (star header (now centre) (now neighbours)) × Fractions (header .block .subdivisions) (now fractions) ⌝ }
+    requires { ⌜ (length (now cases) ≡ sheetPlaces) × Sheet (regularCase (star header (now centre) (now neighbours)) x) (header .block .subdivisions) (header .block .subdivisions) (now cases) ⌝ }
+    requires { ⌜ x < header .block .subdivisions ⌝ }
+    requires { ⌜ Fits (star header (now centre) (now neighbours)) (now vertices) (now triangles) (now store) ⌝ }
+    requires { ⌜ Holds (regularTo (star header (now centre) (now neighbours)) x 0 0) counts (now vertices) (now triangles) (now store) ⌝ }
+    ensures { λ r. ⌜ Holds (regularTo (star header (now (centre .entry)) (now (neighbours .entry))) (x + 1) 0 0) r (now (vertices .exit)) (now (triangles .exit)) (now (store .exit)) ⌝ }
 {
-    let n = block.subdivisions;
-    let mut y = 0;
-    while y < n {
-        counts = write_column(
-            block,
-            mask,
-            threshold,
+    let n = header.block.subdivisions;
+    let end = ROW * n;
+    let mut i = next_cut(n, cases, 0);
+    while i < end {
+        let at = Xyz {
+            x,
+            y: i / ROW,
+            z: i % ROW,
+        };
+        counts = write_regular_cell(
+            header,
+            fractions,
             centre,
             neighbours,
             classes,
             cells,
             codes,
-            columns,
-            x,
-            y,
+            cases[i],
+            at,
             counts,
             store,
             vertices,
             triangles,
         );
-        y += 1;
+        i = next_cut(n, cases, i + 1);
     }
     counts
 }
 
 fn write_regular_cells(
-    block: Block,
-    mask: u8,
-    threshold: f32,
+    header: Header,
+    fractions: &[f32; FRACTIONS],
     centre: &[f32],
     neighbours: &[f32],
-    classes: &[u8; 256],
-    cells: &[u8; 256],
-    codes: &[u16; 3072],
-    columns: &[u64; 289],
     store: &mut [u32],
     vertices: &mut [f32],
     triangles: &mut [u32],
 ) -> Counts
-    requires { ⌜ RegularTables (now classes) (now cells) (now codes) ⌝ }
-    requires { ⌜ Columns (block .subdivisions) (starFrom block mask threshold (now centre) (now neighbours)) (now columns) ⌝ }
-    requires { ⌜ Shaped (starFrom block mask threshold (now centre) (now neighbours)) ⌝ }
-    requires { ⌜ Fits (starFrom block mask threshold (now centre) (now neighbours)) (now vertices) (now triangles) (now store) ⌝ }
-    requires { ⌜ now store ≡ replicate (storeLength (block .subdivisions)) 0 ⌝ }
-    ensures { λ r. ⌜ Holds (regularMesh (starFrom block mask threshold (now (centre .entry)) (now (neighbours .entry)))) r (now (vertices .exit)) (now (triangles .exit)) (now (store .exit)) ⌝ }
+    requires { ⌜ Shaped (star header (now centre) (now neighbours)) × Fractions (header .block .subdivisions) (now fractions) ⌝ }
+    requires { ⌜ Fits (star header (now centre) (now neighbours)) (now vertices) (now triangles) (now store) ⌝ }
+    requires { ⌜ now store ≡ replicate (storeLength (header .block .subdivisions)) 0 ⌝ }
+    ensures { λ r. ⌜ Holds (regularMesh (star header (now (centre .entry)) (now (neighbours .entry)))) r (now (vertices .exit)) (now (triangles .exit)) (now (store .exit)) ⌝ }
 {
-    let n = block.subdivisions;
+    let n = header.block.subdivisions;
+    let classes = regular_cell_class();
+    let cells = regular_cell_data();
+    let codes = regular_vertex_data();
+    let mut cases = [0u8; SHEET];
     let mut counts = NONE;
     let mut x = 0;
     while x < n {
+        layer_cases(header, centre, x, &mut cases);
         counts = write_layer(
-            block,
-            mask,
-            threshold,
+            header,
+            fractions,
             centre,
             neighbours,
-            classes,
-            cells,
-            codes,
-            columns,
+            &classes,
+            &cells,
+            &codes,
+            &cases,
             x,
             counts,
             store,
@@ -170,68 +134,16 @@ fn write_regular_cells(
     counts
 }
 
-fn write_row(
-    block: Block,
-    mask: u8,
-    threshold: f32,
-    centre: &[f32],
-    neighbours: &[f32],
-    classes: &[u8; 512],
-    cells: &[u8; 2072],
-    codes: &[u16; 6144],
-    columns: &[u64; 198],
-    side: usize,
-    u: usize,
-    mut counts: Counts,
-    store: &mut [u32],
-    vertices: &mut [f32],
-    triangles: &mut [u32],
-) -> Counts
-    requires { ⌜ TransitionTables (now classes) (now cells) (now codes) ⌝ }
-    requires { ⌜ FineColumns (block .subdivisions) (starFrom block mask threshold (now centre) (now neighbours)) (now columns) ⌝ }
-    requires { ⌜ Shaped (starFrom block mask threshold (now centre) (now neighbours)) ⌝ }
-    requires { ⌜ (side < 6) × ((named mask side ≡ true) × (u < block .subdivisions)) ⌝ }
-    requires { ⌜ Fits (starFrom block mask threshold (now centre) (now neighbours)) (now vertices) (now triangles) (now store) ⌝ }
-    requires { ⌜ Holds (transitionTo (starFrom block mask threshold (now centre) (now neighbours)) side u 0) counts (now vertices) (now triangles) (now store) ⌝ }
-    ensures { λ r. ⌜ Holds (transitionTo (starFrom block mask threshold (now (centre .entry)) (now (neighbours .entry))) side (u + 1) 0) r (now (vertices .exit)) (now (triangles .exit)) (now (store .exit)) ⌝ }
-{
-    let n = block.subdivisions;
-    let cut = cut_row(n, columns, side, u);
-    let mut v = next_set(cut, 2 * n, 0) / 2;
-    while v < n {
-        counts = write_transition_cell(
-            block,
-            mask,
-            threshold,
-            centre,
-            neighbours,
-            classes,
-            cells,
-            codes,
-            columns,
-            side,
-            u,
-            v,
-            counts,
-            store,
-            vertices,
-            triangles,
-        );
-        v = next_set(cut, 2 * n, 2 * (v + 1)) / 2;
-    }
-    counts
-}
-
+// The cells of a named side.
 fn write_side(
-    block: Block,
-    mask: u8,
-    threshold: f32,
+    header: Header,
+    fractions: &[f32; FRACTIONS],
     centre: &[f32],
     neighbours: &[f32],
     classes: &[u8; 512],
     cells: &[u8; 2072],
     codes: &[u16; 6144],
-    columns: &[u64; 198],
+    cases: &[u16],
     side: usize,
     mut counts: Counts,
     store: &mut [u32],
@@ -239,72 +151,74 @@ fn write_side(
     triangles: &mut [u32],
 ) -> Counts
     requires { ⌜ TransitionTables (now classes) (now cells) (now codes) ⌝ }
-    requires { ⌜ FineColumns (block .subdivisions) (starFrom block mask threshold (now centre) (now neighbours)) (now columns) ⌝ }
-    requires { ⌜ Shaped (starFrom block mask threshold (now centre) (now neighbours)) ⌝ }
-    requires { ⌜ (side < 6) × (named mask side ≡ true) ⌝ }
-    requires { ⌜ Fits (starFrom block mask threshold (now centre) (now neighbours)) (now vertices) (now triangles) (now store) ⌝ }
-    requires { ⌜ Holds (transitionTo (starFrom block mask threshold (now centre) (now neighbours)) side 0 0) counts (now vertices) (now triangles) (now store) ⌝ }
-    ensures { λ r. ⌜ Holds (transitionTo (starFrom block mask threshold (now (centre .entry)) (now (neighbours .entry))) (side + 1) 0 0) r (now (vertices .exit)) (now (triangles .exit)) (now (store .exit)) ⌝ }
+    requires { ⌜ Shaped (star header (now centre) (now neighbours)) × Fractions (header .block .subdivisions) (now fractions) ⌝ }
+    requires { ⌜ (length (now cases) ≡ sheetPlaces) × Sheet (transitionCase (star header (now centre) (now neighbours)) side) (header .block .subdivisions) (header .block .subdivisions) (now cases) ⌝ }
+    requires { ⌜ (side < sideCount) × (named (header .mask) side ≡ true) ⌝ }
+    requires { ⌜ Fits (star header (now centre) (now neighbours)) (now vertices) (now triangles) (now store) ⌝ }
+    requires { ⌜ Holds (transitionTo (star header (now centre) (now neighbours)) side 0 0) counts (now vertices) (now triangles) (now store) ⌝ }
+    ensures { λ r. ⌜ Holds (transitionTo (star header (now (centre .entry)) (now (neighbours .entry))) (side + 1) 0 0) r (now (vertices .exit)) (now (triangles .exit)) (now (store .exit)) ⌝ }
 {
-    let n = block.subdivisions;
-    let mut u = 0;
-    while u < n {
-        counts = write_row(
-            block,
-            mask,
-            threshold,
+    let n = header.block.subdivisions;
+    let end = ROW * n;
+    let mut i = next_cut_fine(n, cases, 0);
+    while i < end {
+        let at = FacePoint {
+            side,
+            u: i / ROW,
+            v: i % ROW,
+        };
+        counts = write_transition_cell(
+            header,
+            fractions,
             centre,
             neighbours,
             classes,
             cells,
             codes,
-            columns,
-            side,
-            u,
+            cases[i],
+            at,
             counts,
             store,
             vertices,
             triangles,
         );
-        u += 1;
+        i = next_cut_fine(n, cases, i + 1);
     }
     counts
 }
 
-fn write_transition_cells(
-    block: Block,
-    mask: u8,
-    threshold: f32,
+fn write_named_sides(
+    header: Header,
+    fractions: &[f32; FRACTIONS],
     centre: &[f32],
     neighbours: &[f32],
-    classes: &[u8; 512],
-    cells: &[u8; 2072],
-    codes: &[u16; 6144],
-    columns: &[u64; 198],
     mut counts: Counts,
     store: &mut [u32],
     vertices: &mut [f32],
     triangles: &mut [u32],
 ) -> Counts
-    requires { ⌜ TransitionTables (now classes) (now cells) (now codes) ⌝ }
-    requires { ⌜ FineColumns (block .subdivisions) (starFrom block mask threshold (now centre) (now neighbours)) (now columns) ⌝ }
-    requires { ⌜ Shaped (starFrom block mask threshold (now centre) (now neighbours)) ⌝ }
-    requires { ⌜ Fits (starFrom block mask threshold (now centre) (now neighbours)) (now vertices) (now triangles) (now store) ⌝ }
-    requires { ⌜ Holds (regularMesh (starFrom block mask threshold (now centre) (now neighbours))) counts (now vertices) (now triangles) (now store) ⌝ }
-    ensures { λ r. ⌜ Holds (meshOf (starFrom block mask threshold (now (centre .entry)) (now (neighbours .entry)))) r (now (vertices .exit)) (now (triangles .exit)) (now (store .exit)) ⌝ }
+    requires { ⌜ Shaped (star header (now centre) (now neighbours)) × Fractions (header .block .subdivisions) (now fractions) ⌝ }
+    requires { ⌜ Fits (star header (now centre) (now neighbours)) (now vertices) (now triangles) (now store) ⌝ }
+    requires { ⌜ Holds (regularMesh (star header (now centre) (now neighbours))) counts (now vertices) (now triangles) (now store) ⌝ }
+    ensures { λ r. ⌜ Holds (meshOf (star header (now (centre .entry)) (now (neighbours .entry)))) r (now (vertices .exit)) (now (triangles .exit)) (now (store .exit)) ⌝ }
 {
+    let mask = header.mask;
+    let classes = transition_cell_class();
+    let cells = transition_cell_data();
+    let codes = transition_vertex_data();
+    let mut cases = [0u16; SHEET];
     let mut side = next_side(mask, 0);
     while side < SIDES {
+        face_cases(header, neighbours, side, &mut cases);
         counts = write_side(
-            block,
-            mask,
-            threshold,
+            header,
+            fractions,
             centre,
             neighbours,
-            classes,
-            cells,
-            codes,
-            columns,
+            &classes,
+            &cells,
+            &codes,
+            &cases,
             side,
             counts,
             store,
@@ -314,6 +228,37 @@ fn write_transition_cells(
         side = next_side(mask, side + 1);
     }
     counts
+}
+
+// The transition tables are fetched only where there is a finer neighbour.
+fn write_transition_cells(
+    header: Header,
+    fractions: &[f32; FRACTIONS],
+    centre: &[f32],
+    neighbours: &[f32],
+    counts: Counts,
+    store: &mut [u32],
+    vertices: &mut [f32],
+    triangles: &mut [u32],
+) -> Counts
+    requires { ⌜ Shaped (star header (now centre) (now neighbours)) × Fractions (header .block .subdivisions) (now fractions) ⌝ }
+    requires { ⌜ Fits (star header (now centre) (now neighbours)) (now vertices) (now triangles) (now store) ⌝ }
+    requires { ⌜ Holds (regularMesh (star header (now centre) (now neighbours))) counts (now vertices) (now triangles) (now store) ⌝ }
+    ensures { λ r. ⌜ Holds (meshOf (star header (now (centre .entry)) (now (neighbours .entry)))) r (now (vertices .exit)) (now (triangles .exit)) (now (store .exit)) ⌝ }
+{
+    if header.mask == 0 {
+        return counts;
+    }
+    write_named_sides(
+        header,
+        fractions,
+        centre,
+        neighbours,
+        counts,
+        store,
+        vertices,
+        triangles,
+    )
 }
 
 // Every place of the index store is 0.
@@ -329,55 +274,33 @@ fn clear(store: &mut [u32])
 
 // Buffers of just the right lengths are filled.
 pub fn write_mesh(
-    block: Block,
-    mask: u8,
-    threshold: f32,
+    header: Header,
     centre: &[f32],
     neighbours: &[f32],
-    regular_classes: &[u8; 256],
-    regular_cells: &[u8; 256],
-    regular_codes: &[u16; 3072],
-    columns: &[u64; 289],
-    transition_classes: &[u8; 512],
-    transition_cells: &[u8; 2072],
-    transition_codes: &[u16; 6144],
-    fine_columns: &[u64; 198],
     store: &mut [u32],
     vertices: &mut [f32],
     triangles: &mut [u32],
 )
-    requires { ⌜ RegularTables (now «regular_classes») (now «regular_cells») (now «regular_codes») ⌝ }
-    requires { ⌜ TransitionTables (now «transition_classes») (now «transition_cells») (now «transition_codes») ⌝ }
-    requires { ⌜ Columns (block .subdivisions) (starFrom block mask threshold (now centre) (now neighbours)) (now columns) × FineColumns (block .subdivisions) (starFrom block mask threshold (now centre) (now neighbours)) (now «fine_columns») ⌝ }
-    requires { ⌜ Shaped (starFrom block mask threshold (now centre) (now neighbours)) ⌝ }
-    requires { ⌜ Exact (starFrom block mask threshold (now centre) (now neighbours)) (now vertices) (now triangles) (now store) ⌝ }
-    ensures { λ _. ⌜ Written (meshOf (starFrom block mask threshold (now (centre .entry)) (now (neighbours .entry)))) (now (vertices .exit)) (now (triangles .exit)) (now (store .exit)) ⌝ }
+    requires { ⌜ Shaped (star header (now centre) (now neighbours)) ⌝ }
+    requires { ⌜ Exact (star header (now centre) (now neighbours)) (now vertices) (now triangles) (now store) ⌝ }
+    ensures { λ _. ⌜ Written (meshOf (star header (now (centre .entry)) (now (neighbours .entry)))) (now (vertices .exit)) (now (triangles .exit)) (now (store .exit)) ⌝ }
 {
     clear(store);
+    let fractions = fractions_of(header.block.subdivisions);
     let counts = write_regular_cells(
-        block,
-        mask,
-        threshold,
+        header,
+        &fractions,
         centre,
         neighbours,
-        regular_classes,
-        regular_cells,
-        regular_codes,
-        columns,
         store,
         vertices,
         triangles,
     );
     write_transition_cells(
-        block,
-        mask,
-        threshold,
+        header,
+        &fractions,
         centre,
         neighbours,
-        transition_classes,
-        transition_cells,
-        transition_codes,
-        fine_columns,
         counts,
         store,
         vertices,

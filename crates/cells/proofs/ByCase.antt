@@ -1,7 +1,7 @@
 -- A cell by its case: the rows of the tables describe it, and they can be followed.
-use Prim.Native.Nat.{ℕ, _+_, _*_, _/_, _%_, _≤_, _<_}
+use Prim.Native.Nat.{ℕ, _+_, _*_, _≤_, _<_}
 use mathlib.Core.Path.{_≡_}
-use mathlib.Core.Bool.{Bool, true, false, cond}
+use mathlib.Core.Bool.{Bool, false}
 use mathlib.Core.List.{List}
 use native.Mathlib.Omega.{arith}
 use lib.Ieee.{Float}
@@ -17,10 +17,8 @@ use Rattle.tables.specs.RulesBorder.{transition-code-right}
 use Rattle.model.specs.declared.Xyz.{Xyz}
 use Rattle.model.specs.declared.FacePoint.{FacePoint}
 use Rattle.model.specs.Star.{Star}
-use Rattle.model.specs.Formulas.{inside, insideBit}
-use Rattle.model.specs.Points.{regularCase, fineSample, transitionCase}
+use Rattle.model.specs.Points.{regularCase, transitionCase}
 use Rattle.model.specs.Mesh.{Cell, fillTo, regularCell, transitionCell}
-use Rattle.cases.specs.Scans.{allTransition}
 use Rattle.cells.specs.declared.CellIndex.{CellIndex}
 use Rattle.cells.specs.declared.CellIndex.the-variants.{Regular, Transition}
 use Rattle.cells.specs.Puts.{Room, CellPut, Adds}
@@ -90,18 +88,6 @@ module _ (case : ℕ) (small : case < 256) (codes row : List ℕ) (codes-are : c
   regular-is s at e = rw (codes-are, row-is, e)
 
 -- ---- transition cells
-
-inside-small : (b : Bool) → cond b 1 0 ≤ 1
-inside-small true = omega arith
-inside-small false = omega arith
-
--- the nine contributions add up to 511
-pub transition-case-small : (s : Star) (side u v : ℕ) → transitionCase s side u v ≤ allTransition
-unfolding transitionCase
-transition-case-small s side u v =
-    let bit : (k : ℕ) → insideBit (s .threshold) (fineSample s side (2 * u + k % 3) (2 * v + k / 3)) ≤ 1 =
-    λ k. inside-small (inside (s .threshold) (fineSample s side (2 * u + k % 3) (2 * v + k / 3))) in
-    omega (arith, bit 0, bit 1, bit 2, bit 3, bit 4, bit 5, bit 6, bit 7, bit 8)
 
 module _ (case : ℕ) (small : case < 512) (codes row : List ℕ) (codes-are : codes ≡ transitionCodes case) (row-is : row ≡ transitionRow case) where
   transition-right : Right 12 (transitionRow case)

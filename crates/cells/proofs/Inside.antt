@@ -51,8 +51,7 @@ module _ (at : Xyz) (hx : 0 < at .x) (hy : 0 < at .y) (hz : 0 < at .z) where
   made-new code (suc k) = ap₂ (λ (a b : ℕ). a + b) (made-new code k) (rw (makes-new (code k)) (one-is (eqb (isNew (code k)) 1)))
 
   module _ (case : ℕ) (small : case < 256) (codes row : List ℕ) (codes-are : codes ≡ regularCodes case) (row-is : row ≡ regularRow case)
-      (s : Star) (is : case ≡ regularCase s (at .x) (at .y) (at .z)) (dv dt : ℕ) (dv-is : dv ≡ crossedAtTop case) (dt-is : dt ≡ trianglesOf row)
-      (few : dv ≤ 3) (few-triangles : dt ≤ 12) where
+      (s : Star) (is : case ≡ regularCase s (at .x) (at .y) (at .z)) (dv dt : ℕ) (dv-is : dv ≡ crossedAtTop case) (dt-is : dt ≡ trianglesOf row) where
     counted : total (λ i. cond (makesAt (Regular at) (getD codes i 0)) 1 0) (verticesOf row) ≡ dv
     unfolding regularCode regularVertices
     counted = rw (codes-are, row-is) (made-new (λ i. getD (regularCodes case) i 0) (verticesOf (regularRow case)) ∙ new-codes case small ∙ sym dv-is)
@@ -61,7 +60,6 @@ module _ (at : Xyz) (hx : 0 < at .x) (hy : 0 < at .y) (hz : 0 < at .z) where
     inside-adds =
         adds-as (regular-is case small codes row codes-are row-is s at is)
         (record {
-          few = (omega arith, few-triangles);
           vertices = λ base store.
               made-total (cellOf s (Regular at) codes row false) (λ i. cond (makesAt (Regular at) (getD codes i 0)) 1 0) (λ i. use-count s (Regular at) (getD codes i 0)) base store (verticesOf row)
               ∙ counted;

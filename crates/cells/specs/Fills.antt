@@ -18,7 +18,7 @@ use Rattle.cells.specs.Buffers.{layTriangles, pad}
 use Rattle.laws.specs.Iterated.{iterate-upto, iterate-keeps}
 use Rattle.laws.specs.Lists.{length-listed, listed-same}
 use Rattle.laws.specs.Laying.{lay-none, lay-append, length-lay}
-use Rattle.cells.specs.Puts.{Room, CodePut, FillPut, CellPut, Adds, Nothing}
+use Rattle.cells.specs.Puts.{Room, CodePut, FillPut, CellPut}
 
 -- ---- twelve places
 
@@ -158,19 +158,3 @@ module _ (c : Cell) (nv nt : ℕ) (vertices : List Float) (triangles store : Lis
         triangles-are = cc (listed-same (triangleOf c (pad i)) (triangleOf c i) (triangle-pad c i) (c .triangles));
         store-is = f .store-is;
       }
-
-  -- a cell with no vertex and no triangle leaves all as it was
-  pub nothing-put : Nothing c → CellPut c nv nt vertices triangles store nv nt vertices triangles store
-  unfolding fillTo
-  nothing-put none =
-      record {
-        nv-is = rw (none .no-vertices, add-zero);
-        nt-is = rw (none .no-triangles, add-zero);
-        vertices-are = rw (none .no-vertices) (sym (lay-none 6 vertexFloats vertices nv));
-        triangles-are = rw (none .no-triangles) (sym (lay-none 3 triangleIndices triangles nt));
-        store-is = rw (none .no-vertices);
-      }
-
-pub nothing-adds : (c : Cell) → Nothing c → Adds c 0 0
-unfolding fillTo
-nothing-adds c none = record { few = omega arith; vertices = λ base store. rw (none .no-vertices); triangles = none .no-triangles }

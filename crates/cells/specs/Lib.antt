@@ -4,3 +4,4 @@ pub mod Rows
 pub mod Kinds
 pub mod Fills
 pub mod Uncut
+pub mod Numbers

@@ -6,6 +6,7 @@ use mathlib.Core.List.{List}
 use lib.Ieee.{Float}
 use lib.ListN.{length, getD, set}
 use Rattle.laws.specs.Steps.{listed}
+use Rattle.model.specs.declared.Counts.{Counts}
 use Rattle.model.specs.Mesh.{CodeUse, Cell, Fill, madeBy, fillTo, triangleOf}
 use Rattle.cells.specs.Buffers.{layVertices, layTriangles, pad}
 
@@ -43,9 +44,13 @@ pub record CellPut (c : Cell) (nv nt : ℕ) (vertices : List Float) (triangles s
 
 -- what a cell adds, whatever was there before it
 pub record Adds (c : Cell) (dv dt : ℕ) : Type 0 where
-  pub few : (dv ≤ 12) × (dt ≤ 12)
   pub vertices : (base : ℕ) (store : List ℕ) → length (fillTo c base store (c .vertices) .made) ≡ dv
   pub triangles : c .triangles ≡ dt
+
+-- so many cells make few vertices and triangles
+pub record Few (cells : ℕ) (counts : Counts) : Type 0 where
+  pub vertices : counts .vertices ≤ 12 * cells
+  pub triangles : counts .triangles ≤ 12 * cells
 
 -- a cell that adds nothing
 pub record Nothing (c : Cell) : Type 0 where

@@ -6,7 +6,7 @@ ghost use lib.ListN.{length};
 ghost use Rattle.tables.specs.Cases.{verticesOf, trianglesOf};
 ghost use Rattle.model.specs.Star.{Star, star};
 ghost use Rattle.model.specs.Mesh.{storeLength, fillTo};
-ghost use Rattle.cells.specs.Puts.{Room, CellPut, Adds};
+ghost use Rattle.cells.specs.Puts.{Room, CellPut, Adds, Few};
 ghost use Rattle.cells.specs.Rows.{Followed};
 ghost use Rattle.cells.specs.Kinds.{Ready, Coded, cellOf};
 use crate::CellIndex;
@@ -63,6 +63,7 @@ pub fn write_cell(
 
 pub fn count_cell(at: CellIndex, codes: &[u16], row: &[u8]) -> Counts
     requires { ⌜ Coded at (now codes) (verticesOf (now row)) × Followed (now row) ⌝ }
+    ensures { λ r. ⌜ Few 1 r ⌝ }
     ensures { λ r. ⌜ ((s : Star) (turned : Bool) → Adds (cellOf s at (now (codes .entry)) (now (row .entry)) turned) (r .vertices) (r .triangles)) ⌝ }
 {
     let count = vertex_count(row);

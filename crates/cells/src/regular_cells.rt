@@ -6,7 +6,7 @@ ghost use Rattle.model.specs.Star.{Star, star};
 ghost use Rattle.model.specs.Points.{regularCase};
 ghost use Rattle.model.specs.Mesh.{storeLength, fillTo, regularCell};
 ghost use Rattle.cells.specs.Kinds.{Ready};
-ghost use Rattle.cells.specs.Puts.{Room, CellPut, Adds};
+ghost use Rattle.cells.specs.Puts.{Room, CellPut, Adds, Few};
 ghost use Rattle.cells.specs.Rows.{RegularTables};
 use crate::CellIndex;
 use crate::cell::count_cell;
@@ -69,6 +69,7 @@ pub fn count_regular_cell(
     at: Xyz,
 ) -> Counts
     requires { ⌜ RegularTables (now classes) (now cells) (now codes) ⌝ }
+    ensures { λ r. ⌜ Few 1 r ⌝ }
     ensures { λ r. ⌜ ((s : Star) → case ≡ regularCase s (at .x) (at .y) (at .z) → Adds (regularCell s (at .x) (at .y) (at .z)) (r .vertices) (r .triangles)) ⌝ }
 {
     let number = wide(case);

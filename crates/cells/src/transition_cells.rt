@@ -7,7 +7,7 @@ ghost use Rattle.model.specs.Points.{transitionCase};
 ghost use Rattle.model.specs.Mesh.{storeLength, fillTo, transitionCell};
 ghost use Rattle.cases.specs.Scans.{allTransition};
 ghost use Rattle.cells.specs.Kinds.{Ready};
-ghost use Rattle.cells.specs.Puts.{Room, CellPut, Adds};
+ghost use Rattle.cells.specs.Puts.{Room, CellPut, Adds, Few};
 ghost use Rattle.cells.specs.Rows.{TransitionTables};
 use crate::CellIndex;
 use crate::cell::count_cell;
@@ -69,6 +69,7 @@ pub fn count_transition_cell(
 ) -> Counts
     requires { ⌜ TransitionTables (now classes) (now cells) (now codes) ⌝ }
     requires { ⌜ case ≤ allTransition ⌝ }
+    ensures { λ r. ⌜ Few 1 r ⌝ }
     ensures { λ r. ⌜ ((s : Star) → case ≡ transitionCase s (at .side) (at .u) (at .v) → Adds (transitionCell s (at .side) (at .u) (at .v)) (r .vertices) (r .triangles)) ⌝ }
 {
     let number = case as usize;

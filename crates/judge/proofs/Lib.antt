@@ -1,3 +1,4 @@
 pub mod Limits
 pub mod Bounds
 pub mod Walked
+pub mod Pinned

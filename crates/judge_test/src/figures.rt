@@ -1,12 +1,15 @@
-// Document 01, 'Figures to agree with', those with no starFrom that concern positions: with only LowX named, at n = 2 the point (0, 1, 1) moves
+// Document 01, 'Figures to agree with', those with no star that concern positions: with only LowX named, at n = 2 the point (0, 1, 1) moves
 // and (0, 0, 1) does not; at n = 1 nothing moves.
 ghost use Prim.Native.Nat.{_≤_};
+ghost use Rattle.model.specs.Limits.{mostSubdivisions};
 use crate::given::block;
 use crate::tally::Tally;
 use crate::tally::noted;
+use model::Header;
 use model::Vector;
 use model::Xyz;
 use points::block::regular_position;
+use points::fractions::fractions_of;
 
 const LOW_X: u8 = 1;
 
@@ -15,9 +18,15 @@ fn is_at(p: Vector, x: f32, y: f32, z: f32) -> bool {
 }
 
 fn position(n: usize, x: usize, y: usize, z: usize) -> Vector
-    requires { ⌜ (n ≤ 16) × (x ≤ n) × (y ≤ n) × (z ≤ n) ⌝ }
+    requires { ⌜ ((1 ≤ n) × (n ≤ mostSubdivisions)) × (x ≤ n) × (y ≤ n) × (z ≤ n) ⌝ }
 {
-    regular_position(block(n), LOW_X, Xyz { x, y, z })
+    let header = Header {
+        block: block(n),
+        mask: LOW_X,
+        threshold: 0.5,
+    };
+    let fractions = fractions_of(header.block.subdivisions);
+    regular_position(header, &fractions, Xyz { x, y, z })
 }
 
 // By 0.15 * (1 * (1/2)), toward the inside.

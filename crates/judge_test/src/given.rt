@@ -3,6 +3,7 @@ ghost use mathlib.Core.Path.{_≡_};
 use judge::faces::judge_faces;
 use judge::judge_star;
 use model::Block;
+use model::Header;
 use model::Vector;
 use model::Verdict;
 
@@ -28,11 +29,16 @@ pub fn judged(
     centre: &[f32],
     neighbours: &[f32],
 ) -> Verdict {
-    let verdict = judge_star(block, mask, threshold, centre, neighbours);
+    let header = Header {
+        block,
+        mask,
+        threshold,
+    };
+    let verdict = judge_star(header, centre, neighbours);
     if let Verdict::Refused(r) = verdict {
         return Verdict::Refused(r);
     }
-    judge_faces(block, mask, threshold, centre, neighbours)
+    judge_faces(header, centre, neighbours)
 }
 
 // With no neighbour lent, and every sample of the centre 0.

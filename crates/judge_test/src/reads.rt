@@ -2,10 +2,11 @@
 // base 32, x first. Each sample is laid down as its point's number, in the order in which document 01 lists the samples; each point is
 // then read by its coordinates, and gives its own number back or was never sampled.
 ghost use Prim.Native.Nat.{_≤_, _<_};
+ghost use Rattle.model.specs.Limits.{mostSubdivisions};
 use crate::tally::Tally;
 use crate::tally::read_gives;
 use crate::tally::read_refuses;
-use grid::voxel_blocks::read_point;
+use judge::point_read::read_point;
 
 // x runs from -2 to 18, y and z from -2 to 29.
 const NUMBERS: usize = 21504;
@@ -47,7 +48,7 @@ const SIGNED: [i32; 32] = [
 
 // What a coordinate is, two up: 0 in 0..n, 1 the step below, 2 the step above, 3 farther.
 fn outside(n: usize, c: usize) -> usize
-    requires { ⌜ n ≤ 16 ⌝ }
+    requires { ⌜ n ≤ mostSubdivisions ⌝ }
     ensures { λ r. ⌜ r ≤ 3 ⌝ }
 {
     if c == 1 {
@@ -64,7 +65,7 @@ fn outside(n: usize, c: usize) -> usize
 
 // Where a point's sample stands: 1 in the block, 2 to 7 on a face, in the order x=-1, x=n+1, y=-1, y=n+1, z=-1, z=n+1; 0 nowhere.
 fn part(n: usize, number: usize) -> usize
-    requires { ⌜ n ≤ 16 ⌝ }
+    requires { ⌜ n ≤ mostSubdivisions ⌝ }
 {
     let x = outside(n, number / 1024);
     let y = outside(n, number / 32 % 32);
@@ -89,7 +90,7 @@ fn mark(number: usize) -> f32
 
 // One sample, if its point is of the part that is wanted. Answers the next place.
 fn lay_one(n: usize, wanted: usize, samples: &mut [f32], at: usize, number: usize) -> usize
-    requires { ⌜ (n ≤ 16) × (number < 21504) ⌝ }
+    requires { ⌜ (n ≤ mostSubdivisions) × (number < 21504) ⌝ }
 {
     if part(n, number) == wanted {
         if at < samples.len() {
@@ -102,7 +103,7 @@ fn lay_one(n: usize, wanted: usize, samples: &mut [f32], at: usize, number: usiz
 
 // The samples of one part, from a place on. Answers the place after them.
 fn lay(n: usize, wanted: usize, samples: &mut [f32], from: usize) -> usize
-    requires { ⌜ n ≤ 16 ⌝ }
+    requires { ⌜ n ≤ mostSubdivisions ⌝ }
 {
     let mut at = from;
     for number in 0..NUMBERS {
@@ -113,7 +114,7 @@ fn lay(n: usize, wanted: usize, samples: &mut [f32], from: usize) -> usize
 
 // The block's samples, then its six faces.
 fn lay_all(n: usize, samples: &mut [f32])
-    requires { ⌜ n ≤ 16 ⌝ }
+    requires { ⌜ n ≤ mostSubdivisions ⌝ }
 {
     let mut at = 0;
     for wanted in 1..8 {
@@ -122,7 +123,7 @@ fn lay_all(n: usize, samples: &mut [f32])
 }
 
 fn read_back(t: Tally, n: usize, samples: &[f32], number: usize) -> Tally
-    requires { ⌜ (n ≤ 16) × (number < 21504) ⌝ }
+    requires { ⌜ (n ≤ mostSubdivisions) × (number < 21504) ⌝ }
 {
     let x = SIGNED[number / 1024];
     let y = SIGNED[number / 32 % 32];
@@ -135,7 +136,7 @@ fn read_back(t: Tally, n: usize, samples: &[f32], number: usize) -> Tally
 }
 
 fn read_all(t: Tally, n: usize, samples: &[f32]) -> Tally
-    requires { ⌜ n ≤ 16 ⌝ }
+    requires { ⌜ n ≤ mostSubdivisions ⌝ }
 {
     let mut t = t;
     for number in 0..NUMBERS {

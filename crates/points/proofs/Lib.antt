@@ -1,3 +1,4 @@
 pub mod Literals
 pub mod Shrinking
 pub mod Steps
+pub mod Pinned

@@ -10,3 +10,7 @@ half = refl
 pub factor : ofBits binary32 0x3e19_999a ≡ shrinkFactor
 unfolding ofBits round shrinkFactor
 factor = refl
+
+pub zero : ofBits binary32 0 ≡ whole 0
+unfolding ofBits ofInt
+zero = refl

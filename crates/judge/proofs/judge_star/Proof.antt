@@ -1,6 +1,7 @@
 -- `judge::judge_star` meets its contract: each way out is one of the laws of 1 to 7 in parts.
 use borrow.Author.Needs.{needs}
 use mathlib.Core.Path.{_≡_, sym, _∙_}
+use Rattle.model.specs.declared.Verdict.{Verdict}
 use Rattle.model.specs.declared.Verdict.the-variants.{Passed}
 use Rattle.model.specs.Refusals.{orElse}
 use Rattle.model.specs.Star.{Star, star}
@@ -27,7 +28,10 @@ start c = c .before .before .before .before .before
 abbrev star-of : tie.Start → Star
 star-of c = star (c .args .header) (c .args .centre .now) (c .args .neighbours .now)
 
-kind-is : (c : tie.After-or-else) → c .or-else .result ≡ judgeKind (start c .args .header .block .subdivisions) (start c .args .header .mask)
+abbrev kind-of : tie.Start → Verdict
+kind-of c = judgeKind (c .args .header .block .subdivisions) (c .args .header .mask)
+
+kind-is : (c : tie.After-or-else) → c .or-else .result ≡ kind-of (start c)
 kind-is c = c .or-else .ensures ∙ (λ i. orElse (c .before .before .judge-subdivisions .ensures i) (c .before .judge-mask .ensures i))
 
 returns : tie.Need-returns
@@ -39,8 +43,7 @@ enum-told : tie.Need-enum-told
 enum-told c = search needs
 
 -- 1 and 2 are passed
-passed-kind : (c : tie.After-enum-told) →
-    judgeKind (start (c .before .before) .args .header .block .subdivisions) (start (c .before .before) .args .header .mask) ≡ Passed
+passed-kind : (c : tie.After-enum-told) → kind-of (start (c .before .before)) ≡ Passed
 passed-kind c = sym (kind-is (c .before .before)) ∙ c .enum-told .given .1
 
 judge-measures-requires : tie.Need-judge-measures-requires
@@ -63,8 +66,10 @@ shape-is c = c .or-else2 .ensures ∙ (λ i. orElse (c .before .before .judge-me
 
 returns-2 : tie.Need-returns-2
 returns-2 c =
-    let shape = sym (shape-is (c .before .before .before)) ∙ c .before .shape .given .1 in
-    sym (shape-refused (star-of (start (c .before .before .before .before .before .before .before .before))) (passed-kind (c .before .before .before .before .before .before)) shape)
+    let judged = c .before .before .before in
+    let told = judged .before .before .before in
+    let shape = sym (shape-is judged) ∙ c .before .shape .given .1 in
+    sym (shape-refused (star-of (start (told .before .before))) (passed-kind told) shape)
 
 enum-told-2 : tie.Need-enum-told-2
 enum-told-2 c = search needs
@@ -74,8 +79,10 @@ judge-samples-requires c κs = search needs
 
 returns-3 : tie.Need-returns-3
 returns-3 c =
-    let shape = sym (shape-is (c .before .before .before)) ∙ c .before .enum-told2 .given .1 in
-    c .judge-samples .ensures ∙ sym (samples-left (star-of (start (c .before .before .before .before .before .before .before .before))) (passed-kind (c .before .before .before .before .before .before)) shape)
+    let judged = c .before .before .before in
+    let told = judged .before .before .before in
+    let shape = sym (shape-is judged) ∙ c .before .enum-told2 .given .1 in
+    c .judge-samples .ensures ∙ sym (samples-left (star-of (start (told .before .before))) (passed-kind told) shape)
 
 pub judge-star-spec : {M : Type 1} → statement M
 judge-star-spec =

@@ -1,7 +1,8 @@
--- What the regular cells add and what the transition cells add make up the mesh. Assumes nothing.
-use borrow.Author.Needs.{needs}
+-- `counting::count_mesh` meets its contract: what the regular cells add and what the transition cells add make up the mesh.
 use native.Mathlib.Omega.{arith}
-use Rattle.algorithm.proofs.Growth.{counted-mesh}
+use borrow.Author.Needs.{needs}
+use Rattle.model.specs.Star.{star}
+use Rattle.algorithm.proofs.Growth.{few-more, counted-mesh}
 use Rattle.algorithm.proofs.counting.count_mesh.Statement.{statement}
 use Rattle.algorithm.proofs.counting.count_mesh.Tie as tie
 
@@ -12,21 +13,16 @@ count-transition-cells-requires : tie.Need-count-transition-cells-requires
 count-transition-cells-requires c κs = search needs
 
 plus-requires : tie.Need-plus-requires
-plus-requires c κs =
-    let p = c .before .before .pre .1 .1 .0 in
-    let regular = c .before .count-regular-cells .ensures (p .0 .of) (p .0 .columns-are) in
-    let transition = c .count-transition-cells .ensures (p .1 .of) (p .1 .columns-are) (p .1 .mask-is) in (
-      omega (arith, regular .few-vertices, transition .few-vertices),
-      omega (arith, regular .few-triangles, transition .few-triangles),
-    )
+plus-requires c κs = search needs
 
 returns : tie.Need-returns
 returns c =
-    λ s h f e.
-    let regular = rw (← h .subdivisions-are) at (c .before .before .count-regular-cells .ensures s h) in
-    rw (c .plus .ensures) (counted-mesh s _ _ _ _ regular (c .before .count-transition-cells .ensures s f e))
+    let a = c .before .before .before .before .before .args in
+    let regular = c .before .before .count-regular-cells .ensures in
+    let transition = c .before .count-transition-cells .ensures in
+    rw (c .plus .ensures)
+    (few-more (regular .0) (transition .0), counted-mesh (star (a .header) (a .centre .now) (a .neighbours .now)) _ _ (regular .1 (a .neighbours .now)) (transition .1 (a .centre .now)))
 
 pub count-mesh-spec : {M : Type 1} → statement M
 count-mesh-spec =
-    tie.close
-    (tie.spec count-regular-cells-requires count-transition-cells-requires plus-requires returns)
+    tie.close (tie.spec count-regular-cells-requires count-transition-cells-requires plus-requires returns)

@@ -1,35 +1,63 @@
--- What a layer adds is added up, whatever was there before. Assumes nothing.
-use borrow.Author.Needs.{needs}
+-- `counting::count_regular_cells` meets its contract: what each layer adds is added up.
 use native.Mathlib.Omega.{arith}
-use Prim.Native.Nat.{_≤_, _*_, _-_}
+use borrow.Author.Needs.{needs}
+use Prim.Native.Nat.{ℕ, _-_, _*_, _≤_}
+use mathlib.Core.Path.{_≡_, refl, sym, _∙_}
+use mathlib.Core.List.{List}
+use lib.Ieee.{Float}
+use lib.ListN.{length, length-replicate}
 use Rattle.laws.specs.Steps.{iterate}
-use Rattle.model.specs.Star.{Star}
+use Rattle.model.specs.Star.{star}
 use Rattle.model.specs.Mesh.{regularLayer}
-use Rattle.cases.specs.Columns.{Columns}
+use Rattle.cases.specs.Sheets.{sheetPlaces}
+use Rattle.cells.specs.Puts.{Few}
 use Rattle.algorithm.specs.Passes.{Grows}
-use Rattle.algorithm.proofs.Growth.{grows-none, grows-more, grows-few, plus-fits, grows-all}
+use Rattle.algorithm.proofs.Growth.{few-none, few-more, few-of, plus-fits, grows-none, grows-more}
 use Rattle.algorithm.proofs.counting.count_regular_cells.Statement.{statement}
 use Rattle.algorithm.proofs.counting.count_regular_cells.Tie as tie
 
 abbrev Inv-loop : tie.InvT-loop
-Inv-loop n classes cells codes columns counts₀ x₀ counts x =
-    (x ≤ n) × ((s : Star) → Columns n s columns → Grows (iterate (regularLayer s) x) (256 * x) counts)
+Inv-loop header centre n classes cells codes cases₀ counts₀ x₀ cases counts x = (x ≤ n) × ((length cases ≡ sheetPlaces) × (Few (sheetPlaces * x) counts × ((ns : List Float) → Grows (iterate (regularLayer (star header centre ns)) x) counts)))
 
 abbrev μ-loop : tie.MeasureT-loop
-μ-loop n classes cells codes columns counts₀ x₀ counts x = n - x
+μ-loop header centre n classes cells codes cases₀ counts₀ x₀ cases counts x = n - x
+
+regular-cell-class-requires : tie.Need-regular-cell-class-requires Inv-loop μ-loop
+regular-cell-class-requires c κs = search needs
+
+regular-cell-data-requires : tie.Need-regular-cell-data-requires Inv-loop μ-loop
+regular-cell-data-requires c κs = search needs
+
+regular-vertex-data-requires : tie.Need-regular-vertex-data-requires Inv-loop μ-loop
+regular-vertex-data-requires c κs = search needs
+
+-- the sheet is as long as it was
+still-long : (c : tie.After-layer-cases Inv-loop μ-loop) → length (c .layer-cases .last .1 .1 .1 .0) ≡ sheetPlaces
+still-long c = c .layer-cases .kept .1 .1 .1 .0 ∙ c .before .before .before .loop .inv .1 .0
 
 loop-holds : tie.Need-loop-holds Inv-loop μ-loop
-loop-holds c = (omega arith, λ s h. grows-none)
+loop-holds c = (omega arith, (length-replicate {A = ℕ} sheetPlaces 0, (few-of _ (omega arith) few-none, λ ns. grows-none)))
+
+slice-aggregate-layer-cases : tie.Need-slice-aggregate-layer-cases Inv-loop μ-loop
+slice-aggregate-layer-cases c = sym (c .before .before .loop .inv .1 .0)
+
+layer-cases-requires : tie.Need-layer-cases-requires Inv-loop μ-loop
+layer-cases-requires c κs =
+    let l = c .before .before .loop in
+    let b = c .before .before .before .before .before .before .before in
+    (b .pre, (omega (arith, c .before .loop-test .taken), l .inv .1 .0))
+
+slice-aggregate-count-layer : tie.Need-slice-aggregate-count-layer Inv-loop μ-loop
+slice-aggregate-count-layer c = sym (still-long (c .before .before .before .before .before))
 
 count-layer-requires : tie.Need-count-layer-requires Inv-loop μ-loop
 count-layer-requires c κs =
-    let b = c .before .before in
-    (b .pre .0, (b .pre .1 .0, (b .pre .1 .1, omega (arith, c .loop-test .taken))))
+    let layer = c .before .before .before .before .before in
+    let codes = layer .before .before .before .before in
+    (record { classes-are = codes .before .before .regular-cell-class .ensures; cells-are = codes .before .regular-cell-data .ensures; codes-are = codes .regular-vertex-data .ensures }, (codes .before .before .before .before .pre .0, still-long layer))
 
 plus-requires : tie.Need-plus-requires Inv-loop μ-loop
-plus-requires c κs =
-    let some = c .before .before .before .pre .1 .0 in
-    plus-fits (c .before .before .loop .inv .1 (some .of) (some .columns-are)) (c .count-layer .ensures (some .of) (some .columns-are)) (omega arith)
+plus-requires c κs = plus-fits (c .before .before .before .before .before .before .before .before .before .loop .inv .1 .1 .0) (c .count-layer .ensures .0) (omega arith)
 
 add-x : tie.Need-add-x Inv-loop μ-loop
 add-x c = search needs
@@ -39,16 +67,22 @@ loop-less c = search needs
 
 loop-again : tie.Need-loop-again Inv-loop μ-loop
 loop-again c =
-    let l = c .before .before .before .loop in (
+    let layer = c .before .before .before .before .before .before .before in
+    let l = layer .before .before .before .loop in
+    let more = c .before .count-layer .ensures in (
       omega arith,
-      λ s h. rw (c .plus .ensures) (grows-few _ (omega arith) (grows-more _ (l .x) _ _ _ _ (l .inv .1 s h) (c .before .count-layer .ensures s h))),
+      (
+        still-long layer,
+        rw (c .plus .ensures)
+            (few-of _ (omega arith) (few-more (l .inv .1 .1 .0) (more .0)), λ ns. grows-more _ (l .x) (l .inv .1 .1 .1 ns) (more .1 _ refl (layer .layer-cases .ensures ns))),
+      ),
     )
 
 returns : tie.Need-returns Inv-loop μ-loop
 returns c =
-    let a = c .before .before .args in
     let l = c .before .loop in
-    λ s h. grows-few 4096 (omega arith) (grows-all (regularLayer s) (l .x) (a .n) _ _ (omega arith) (l .inv .1 s h))
+    let e : l .x ≡ c .before .before .before .before .before .before .args .header .block .subdivisions = omega arith in
+    (few-of _ (omega arith) (l .inv .1 .1 .0), λ ns. rw e at (l .inv .1 .1 .1 ns))
 
 pub count-regular-cells-spec : {M : Type 1} → statement M
 count-regular-cells-spec =
@@ -56,7 +90,13 @@ count-regular-cells-spec =
     (tie.spec
     Inv-loop
     μ-loop
+    regular-cell-class-requires
+    regular-cell-data-requires
+    regular-vertex-data-requires
     loop-holds
+    slice-aggregate-layer-cases
+    layer-cases-requires
+    slice-aggregate-count-layer
     count-layer-requires
     plus-requires
     add-x

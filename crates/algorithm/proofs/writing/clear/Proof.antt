@@ -4,7 +4,7 @@ use borrow.Author.Needs.{needs}
 use Prim.Native.Nat.{ℕ, _≤_, _-_}
 use mathlib.Core.Path.{_≡_, _∙_, ap}
 use mathlib.Core.List.{List, _++_}
-use Rattle.algorithm.proofs.Buffers.{zeros-all}
+use Rattle.laws.specs.Lists.{replicate-all}
 use lib.ListN.{length, set, drop, replicate}
 use borrow.Author.Fill.{fill-more}
 use Rattle.algorithm.proofs.writing.clear.Statement.{statement}
@@ -45,7 +45,7 @@ same-length : tie.Need-same-length Inv-loop μ-loop
 same-length c = search needs
 
 returns : tie.Need-returns Inv-loop μ-loop
-returns c = c .before .loop .inv .1 .1 ∙ zeros-all (c .before .before .args .store .now) (c .before .loop .i) (omega arith)
+returns c = c .before .loop .inv .1 .1 ∙ replicate-all 0 (c .before .before .args .store .now) (c .before .loop .i) (omega arith)
 
 pub clear-spec : {M : Type 1} → statement M
 clear-spec =

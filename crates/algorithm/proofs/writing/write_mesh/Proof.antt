@@ -1,56 +1,59 @@
--- The store is cleared, the regular cells are written and then the transition cells, and so all places are filled. Assumes nothing.
-use borrow.Author.Needs.{needs}
-use mathlib.Core.Path.{_∙_, refl, ap}
+-- `writing::write_mesh` meets its contract: the store is cleared, the regular cells are written and then the transition cells, and so all
+-- places are filled.
 use Prim.Native.Nat.{ℕ}
+use mathlib.Core.Path.{refl, ap, _∙_}
+use borrow.Author.Needs.{needs}
 use lib.ListN.{replicate}
-use Rattle.algorithm.proofs.Holding.{holds-all, fits-still, exact-still}
+use Rattle.algorithm.specs.Passes.{SameLengths}
+use Rattle.algorithm.proofs.Holding.{holds-all, same-then, fits-still, exact-still}
 use Rattle.algorithm.proofs.writing.write_mesh.Statement.{statement}
 use Rattle.algorithm.proofs.writing.write_mesh.Tie as tie
+
+-- the entry, from the place where the store is cleared
+abbrev start : tie.After-clear → tie.Start
+start c = c .before .before .before .before .before .before .before
+
+-- the place where it is cleared, and that where the regular cells are written
+abbrev cleared : tie.After-write-regular-cells → tie.After-clear
+cleared c = c .before .before .before .before .before .before .before .before
+
+abbrev regular : tie.After-write-transition-cells → tie.After-write-regular-cells
+regular c = c .before .before .before .before .before .before .before .before .before .before .before
 
 clear-requires : tie.Need-clear-requires
 clear-requires c κs = search needs
 
+fractions-of-requires : tie.Need-fractions-of-requires
+fractions-of-requires c κs = search needs
+
 write-regular-cells-requires : tie.Need-write-regular-cells-requires
 write-regular-cells-requires c κs =
-    let b = c .before .before .before .before .before .before .before .before .before .before .before .before in
-    let cleared = c .before .before .before .before .before .clear in
-    let exact = b .pre .1 .1 .1 .1 in (
-      b .pre .0,
+    let empty = c .before .before .before .before .before .before .before in
+    let b = start empty in
+    let fits = b .pre .1 .fits in (
+      (b .pre .0, c .before .before .before .before .fractions-of .ensures),
       (
-        b .pre .1 .1 .0 .0,
-        (
-          b .pre .1 .1 .1 .0,
-          (
-            fits-still (record { vertices-same = refl; triangles-same = refl; store-same = cleared .kept .0 }) (exact .fits),
-            cleared .ensures ∙ ap (λ (k : ℕ). replicate k 0) (exact .fits .store-fits),
-          ),
-        ),
+        fits-still (record { vertices-same = refl; triangles-same = refl; store-same = empty .clear .kept .0 }) fits,
+        empty .clear .ensures ∙ ap (λ (k : ℕ). replicate k 0) (fits .store-fits),
       ),
     )
 
+-- the buffers are as long as they were
+same : (c : tie.After-write-regular-cells) → let a = start (cleared c) .args in let w = c .write-regular-cells in
+    SameLengths (a .vertices .now) (w .last .1 .1 .1 .1 .1 .0) (a .triangles .now) (w .last .1 .1 .1 .1 .1 .1 .0) (a .store .now) (w .last .1 .1 .1 .1 .0)
+same c =
+    let w = c .write-regular-cells in
+    record {
+      vertices-same = w .kept .1 .1 .1 .1 .1 .0;
+      triangles-same = w .kept .1 .1 .1 .1 .1 .1 .0;
+      store-same = w .kept .1 .1 .1 .1 .0 ∙ cleared c .clear .kept .0;
+    }
+
 write-transition-cells-requires : tie.Need-write-transition-cells-requires
 write-transition-cells-requires c κs =
-    let b = c .before .before .before .before .before .before .before .before .before .before .before .before .before .before .before .before .before .before .before .before .before .before in
-    let cleared = c .before .before .before .before .before .before .before .before .before .before .before .before .before .before .before .clear in
-    let regular = c .before .before .before .before .before .before .before .before .before .write-regular-cells in (
-      b .pre .1 .0,
-      (
-        b .pre .1 .1 .0 .1,
-        (
-          b .pre .1 .1 .1 .0,
-          (
-            fits-still
-                (record {
-                  vertices-same = regular .kept .1 .1 .1 .1 .1 .1 .1 .1 .1 .1 .0;
-                  triangles-same = regular .kept .1 .1 .1 .1 .1 .1 .1 .1 .1 .1 .1 .0;
-                  store-same = regular .kept .1 .1 .1 .1 .1 .1 .1 .1 .1 .0 ∙ cleared .kept .0;
-                })
-                (b .pre .1 .1 .1 .1 .fits),
-            regular .ensures,
-          ),
-        ),
-      ),
-    )
+    let r = c .before .before .before .before .before .before .before .before .before .before in
+    let b = start (cleared r) in
+    ((b .pre .0, r .before .before .before .before .before .fractions-of .ensures), (fits-still (same r) (b .pre .1 .fits), r .write-regular-cells .ensures))
 
 same-length : tie.Need-same-length
 same-length c = search needs
@@ -63,21 +66,24 @@ same-length-3 c = search needs
 
 returns : tie.Need-returns
 returns c =
-    let b = c .before .before .before .before .before .before .before .before .before .before .before .before .before .before .before .before .before .before .before .before .before .before .before .before .before .before .before .before .before in
-    let cleared = c .before .before .before .before .before .before .before .before .before .before .before .before .before .before .before .before .before .before .before .before .before .before .clear in
-    let regular = c .before .before .before .before .before .before .before .before .before .before .before .before .before .before .before .before .write-regular-cells in
-    let transition = c .before .before .before .before .before .before .write-transition-cells in
-    holds-all _ _ _ _ _
-    (exact-still
+    let t = c .before .before .before .before .before .before in
+    let w = t .write-transition-cells in
+    holds-all _ _ _ _ _ (exact-still (same-then (same (regular t))
     (record {
-      vertices-same = transition .kept .1 .1 .1 .1 .1 .1 .1 .1 .1 .1 .1 .0 ∙ regular .kept .1 .1 .1 .1 .1 .1 .1 .1 .1 .1 .0;
-      triangles-same = transition .kept .1 .1 .1 .1 .1 .1 .1 .1 .1 .1 .1 .1 .0 ∙ regular .kept .1 .1 .1 .1 .1 .1 .1 .1 .1 .1 .1 .0;
-      store-same = transition .kept .1 .1 .1 .1 .1 .1 .1 .1 .1 .1 .0 ∙ regular .kept .1 .1 .1 .1 .1 .1 .1 .1 .1 .0 ∙ cleared .kept .0;
-    })
-    (b .pre .1 .1 .1 .1))
-    (transition .ensures)
+      vertices-same = w .kept .1 .1 .1 .1 .1 .1 .0;
+      triangles-same = w .kept .1 .1 .1 .1 .1 .1 .1 .0;
+      store-same = w .kept .1 .1 .1 .1 .1 .0;
+    })) (start (cleared (regular t)) .pre .1)) (w .ensures)
 
 pub write-mesh-spec : {M : Type 1} → statement M
 write-mesh-spec =
     tie.close
-    (tie.spec clear-requires write-regular-cells-requires write-transition-cells-requires same-length same-length-2 same-length-3 returns)
+    (tie.spec
+    clear-requires
+    fractions-of-requires
+    write-regular-cells-requires
+    write-transition-cells-requires
+    same-length
+    same-length-2
+    same-length-3
+    returns)

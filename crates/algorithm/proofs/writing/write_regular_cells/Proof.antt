@@ -1,10 +1,12 @@
--- The mesh grows by one layer in each turn. Assumes nothing.
-use borrow.Author.Needs.{needs}
+-- `writing::write_regular_cells` meets its contract: the mesh grows by one layer in each turn.
+use Prim.Native.Nat.{ℕ, _-_, _≤_}
+use mathlib.Core.Path.{_≡_, refl, sym, _∙_}
 use native.Mathlib.Omega.{arith}
-use Prim.Native.Nat.{_≤_, _<_, _-_}
-use mathlib.Core.Path.{refl}
-use Rattle.model.specs.Star.{starFrom}
+use borrow.Author.Needs.{needs}
+use lib.ListN.{length, length-replicate}
+use Rattle.model.specs.Star.{Star, star}
 use Rattle.model.specs.Mesh.{regularTo}
+use Rattle.cases.specs.Sheets.{sheetPlaces}
 use Rattle.algorithm.specs.Passes.{Holds, SameLengths}
 use Rattle.algorithm.proofs.Walk.{regular-start, regular-end}
 use Rattle.algorithm.proofs.Holding.{holds-none, same-then, fits-still}
@@ -12,68 +14,125 @@ use Rattle.algorithm.proofs.writing.write_regular_cells.Statement.{stat
 use Rattle.algorithm.proofs.writing.write_regular_cells.Tie as tie
 
 abbrev Inv-loop : tie.InvT-loop
-Inv-loop block mask threshold centre neighbours classes cells codes columns store₀ vertices₀ triangles₀ n counts₀ x₀ store vertices triangles counts x =
+Inv-loop header fractions centre neighbours store₀ vertices₀ triangles₀ n classes cells codes cases₀ counts₀ x₀ store vertices triangles cases counts x =
     (x ≤ n)
+    × ((length cases ≡ sheetPlaces)
     × (SameLengths vertices₀ vertices triangles₀ triangles store₀ store
-    × Holds (regularTo (starFrom block mask threshold centre neighbours) x 0 0) counts vertices triangles store)
+    × Holds (regularTo (star header centre neighbours) x 0 0) counts vertices triangles store))
 
 abbrev μ-loop : tie.MeasureT-loop
-μ-loop block mask threshold centre neighbours classes cells codes columns store₀ vertices₀ triangles₀ n counts₀ x₀ store vertices triangles counts x = n - x
+μ-loop header fractions centre neighbours store₀ vertices₀ triangles₀ n classes cells codes cases₀ counts₀ x₀ store vertices triangles cases counts x = n - x
 
-below : (c : tie.In-loop Inv-loop μ-loop) → c .before .loop .x < c .before .before .before .before .before .before .before .args .block .subdivisions
-below c = omega (arith, c .loop-test .taken, c .before .before .before .before .before .before .before .pre .1 .1 .0 .some)
+-- the entry, from a turn of the loop
+abbrev Entry : Type 0
+Entry = tie.Start Inv-loop μ-loop
+
+abbrev start : tie.In-loop Inv-loop μ-loop → Entry
+start c = c .before .before .before .before .before .before .before .before .before .before
+
+abbrev starOf : Entry → Star
+starOf b = star (b .args .header) (b .args .centre .now) (b .args .neighbours .now)
+
+-- the sheet is as long as it was
+still-long : (c : tie.After-layer-cases Inv-loop μ-loop) → length (c .layer-cases .last .1 .1 .1 .0) ≡ sheetPlaces
+still-long c = c .layer-cases .kept .1 .1 .1 .0 ∙ c .before .before .before .loop .inv .1 .0
+
+regular-cell-class-requires : tie.Need-regular-cell-class-requires Inv-loop μ-loop
+regular-cell-class-requires c κs = search needs
+
+regular-cell-data-requires : tie.Need-regular-cell-data-requires Inv-loop μ-loop
+regular-cell-data-requires c κs = search needs
+
+regular-vertex-data-requires : tie.Need-regular-vertex-data-requires Inv-loop μ-loop
+regular-vertex-data-requires c κs = search needs
 
 loop-holds : tie.Need-loop-holds Inv-loop μ-loop
 loop-holds c =
-    let b = c .before .before .before .before .before in
-    let a = b .args in
-    let s = starFrom (a .block) (a .mask) (a .threshold) (a .centre .now) (a .neighbours .now) in
-    (omega arith, (record { vertices-same = refl; triangles-same = refl; store-same = refl }, rw (regular-start s, b .pre .1 .1 .1 .1) (holds-none (a .block .subdivisions) (a .vertices .now) (a .triangles .now))))
+    let b = c .before .before .before .before .before .before .before .before in
+    let a = b .args in (
+      omega arith,
+      (
+        length-replicate {A = ℕ} sheetPlaces 0,
+        (
+          record { vertices-same = refl; triangles-same = refl; store-same = refl },
+          rw (regular-start (starOf b), b .pre .1 .1) (holds-none (a .header .block .subdivisions) (a .vertices .now) (a .triangles .now)),
+        ),
+      ),
+    )
+
+slice-aggregate-layer-cases : tie.Need-slice-aggregate-layer-cases Inv-loop μ-loop
+slice-aggregate-layer-cases c = sym (c .before .before .loop .inv .1 .0)
+
+layer-cases-requires : tie.Need-layer-cases-requires Inv-loop μ-loop
+layer-cases-requires c κs =
+    let here = c .before in
+    let shaped = start here .pre .0 .0 in
+    ((shaped .few, shaped .centre-is), (here .loop-test .taken, here .before .loop .inv .1 .0))
+
+slice-aggregate-write-layer : tie.Need-slice-aggregate-write-layer Inv-loop μ-loop
+slice-aggregate-write-layer c = sym (still-long (c .before .before .before .before .before))
 
 write-layer-requires : tie.Need-write-layer-requires Inv-loop μ-loop
 write-layer-requires c κs =
-    let b = c .before .before .before .before .before .before .before .before .before .before in
-    let i = c .before .before .before in
-    let l = i .before .loop in
-    (b .pre .0, (b .pre .1 .0, (b .pre .1 .1 .0, (below i, (fits-still (l .inv .1 .0) (b .pre .1 .1 .1 .0), l .inv .1 .1)))))
+    let filled = c .before .before .before .before .before .before .before .before in
+    let here = filled .before .before in
+    let codes = here .before .before in
+    let b = start here in
+    let l = here .before .loop in (
+      record { classes-are = codes .before .before .regular-cell-class .ensures; cells-are = codes .before .regular-cell-data .ensures; codes-are = codes .regular-vertex-data .ensures },
+      (
+        b .pre .0,
+        (
+          (still-long filled, filled .layer-cases .ensures (b .args .neighbours .now)),
+          (here .loop-test .taken, (fits-still (l .inv .1 .1 .0) (b .pre .1 .0), l .inv .1 .1 .1)),
+        ),
+      ),
+    )
 
 add-x : tie.Need-add-x Inv-loop μ-loop
-add-x c = omega (arith, below (c .before .before .before .before .before .before .before .before .before .before), c .before .before .before .before .before .before .before .before .before .before .before .before .before .before .before .before .before .pre .1 .1 .0 .few)
+add-x c =
+    let here = c .before .before .before .before .before .before .before .before .before .before .before .before .before .before .before .before .before in
+    omega (arith, here .loop-test .taken, start here .pre .0 .0 .few)
 
 loop-less : tie.Need-loop-less Inv-loop μ-loop
-loop-less c = search needs
+loop-less c = omega (arith, c .before .before .before .before .before .before .before .before .before .before .before .before .before .before .before .before .before .loop-test .taken)
 
 loop-again : tie.Need-loop-again Inv-loop μ-loop
 loop-again c =
-    let w = c .before .before .before .before .before .before .write-layer in
-    let i = c .before .before .before .before .before .before .before .before .before .before in (
-      omega (arith, below i),
+    let put = c .before .before .before .before .before .before in
+    let filled = put .before .before .before .before .before .before .before .before .before in
+    let here = filled .before .before in
+    let l = here .before .loop in
+    let w = put .write-layer in (
+      omega (arith, here .loop-test .taken),
       (
-        same-then (i .before .loop .inv .1 .0)
-            record {
-              vertices-same = w .kept .1 .1 .1 .1 .1 .1 .1 .1 .1 .1 .1 .1 .0;
-              triangles-same = w .kept .1 .1 .1 .1 .1 .1 .1 .1 .1 .1 .1 .1 .1 .0;
-              store-same = w .kept .1 .1 .1 .1 .1 .1 .1 .1 .1 .1 .1 .0;
-            },
-        w .ensures,
+        still-long filled,
+        (
+          same-then (l .inv .1 .1 .0)
+              record {
+                vertices-same = w .kept .1 .1 .1 .1 .1 .1 .1 .1 .1 .1 .1 .0;
+                triangles-same = w .kept .1 .1 .1 .1 .1 .1 .1 .1 .1 .1 .1 .1 .0;
+                store-same = w .kept .1 .1 .1 .1 .1 .1 .1 .1 .1 .1 .0;
+              },
+          w .ensures,
+        ),
       ),
     )
 
 same-length : tie.Need-same-length Inv-loop μ-loop
-same-length c = c .before .loop .inv .1 .0 .store-same
+same-length c = c .before .loop .inv .1 .1 .0 .store-same
 
 same-length-2 : tie.Need-same-length-2 Inv-loop μ-loop
-same-length-2 c = c .before .loop .inv .1 .0 .vertices-same
+same-length-2 c = c .before .loop .inv .1 .1 .0 .vertices-same
 
 same-length-3 : tie.Need-same-length-3 Inv-loop μ-loop
-same-length-3 c = c .before .loop .inv .1 .0 .triangles-same
+same-length-3 c = c .before .loop .inv .1 .1 .0 .triangles-same
 
 returns : tie.Need-returns Inv-loop μ-loop
 returns c =
-    let a = c .before .before .before .before .before .before .before .args in
+    let b = c .before .before .before .before .before .before .before .before .before .before in
     let l = c .before .loop in
-    let s = starFrom (a .block) (a .mask) (a .threshold) (a .centre .now) (a .neighbours .now) in
-    rw (← regular-end s (l .x) (omega arith)) (l .inv .1 .1)
+    rw (← regular-end (starOf b) (l .x) (omega arith)) (l .inv .1 .1 .1)
 
 pub write-regular-cells-spec : {M : Type 1} → statement M
 write-regular-cells-spec =
@@ -81,7 +140,13 @@ write-regular-cells-spec =
     (tie.spec
     Inv-loop
     μ-loop
+    regular-cell-class-requires
+    regular-cell-data-requires
+    regular-vertex-data-requires
     loop-holds
+    slice-aggregate-layer-cases
+    layer-cases-requires
+    slice-aggregate-write-layer
     write-layer-requires
     add-x
     loop-less

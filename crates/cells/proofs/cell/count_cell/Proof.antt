@@ -24,16 +24,17 @@ returns : tie.Need-returns
 returns c =
     let b = c .before .before .before .before .before in
     let a = b .args in
-    let count : c .before .before .vertex-count .result ≡ verticesOf (a .row .now) = c .before .before .vertex-count .ensures in
-    λ s turned.
-    record {
-      few = (omega (arith, b .pre .1), omega (arith, b .pre .1));
-      vertices = λ base store.
-          made-total (cellOf s (a .at) (a .codes .now) (a .row .now) turned) (λ i. cond (makesAt (a .at) (getD (a .codes .now) i 0)) 1 0)
-          (λ i. use-count s (a .at) (getD (a .codes .now) i 0)) base store (verticesOf (a .row .now))
-          ∙ sym (rw count at (c .before .count-made .ensures .0));
-      triangles = sym (c .triangle-count .ensures);
-    }
+    let count : c .before .before .vertex-count .result ≡ verticesOf (a .row .now) = c .before .before .vertex-count .ensures in (
+      record { vertices = omega (arith, b .pre .1); triangles = omega (arith, b .pre .1) },
+      λ s turned.
+          record {
+            vertices = λ base store.
+                made-total (cellOf s (a .at) (a .codes .now) (a .row .now) turned) (λ i. cond (makesAt (a .at) (getD (a .codes .now) i 0)) 1 0)
+                (λ i. use-count s (a .at) (getD (a .codes .now) i 0)) base store (verticesOf (a .row .now))
+                ∙ sym (rw count at (c .before .count-made .ensures .0));
+            triangles = sym (c .triangle-count .ensures);
+          },
+    )
 
 pub count-cell-spec : {M : Type 1} → statement M
 count-cell-spec =

@@ -34,10 +34,13 @@ returns c =
     let number = row .before .wide in
     let a = row .before .before .args in
     let within = all-three _ _ _ (c .before .before .if1 .taken) in
-    λ s is.
-    inside-adds (a .at) (ltb-true _ _ (within .0)) (ltb-true _ _ (within .1 .0)) (ltb-true _ _ (within .1 .1)) (number .result) (number .ensures .1)
-    _ _ refl (row .regular-case-cell .ensures) s (number .ensures .0 ∙ is) _ _ (c .before .count-made-inside .ensures .0)
-    (c .triangle-count .ensures) (c .before .count-made-inside .ensures .1) (omega (arith, row-followed row .few-triangles, c .triangle-count .ensures))
+    let few = row-followed row .few-triangles in (
+      record { vertices = omega (arith, c .before .count-made-inside .ensures .1); triangles = omega (arith, c .triangle-count .ensures) },
+      λ s is.
+          inside-adds (a .at) (ltb-true _ _ (within .0)) (ltb-true _ _ (within .1 .0)) (ltb-true _ _ (within .1 .1)) (number .result) (number .ensures .1)
+          _ _ refl (row .regular-case-cell .ensures) s (number .ensures .0 ∙ is) _ _ (c .before .count-made-inside .ensures .0)
+          (c .triangle-count .ensures),
+    )
 
 regular-case-codes-requires : tie.Need-regular-case-codes-requires
 regular-case-codes-requires c κs = search needs
@@ -53,11 +56,13 @@ count-cell-requires c κs =
 returns-2 : tie.Need-returns-2
 returns-2 c =
     let row = c .before .before .before .before .before .before in
-    let number = row .before .wide in
-    λ s is.
-    adds-as
-    (regular-is (number .result) (number .ensures .1) _ _ (c .before .regular-case-codes .ensures) (row .regular-case-cell .ensures) s (row .before .before .args .at)
-    (number .ensures .0 ∙ is)) (c .count-cell .ensures s false)
+    let number = row .before .wide in (
+      c .count-cell .ensures .0,
+      λ s is.
+          adds-as
+          (regular-is (number .result) (number .ensures .1) _ _ (c .before .regular-case-codes .ensures) (row .regular-case-cell .ensures) s (row .before .before .args .at)
+          (number .ensures .0 ∙ is)) (c .count-cell .ensures .1 s false),
+    )
 
 pub count-regular-cell-spec : {M : Type 1} → statement M
 count-regular-cell-spec =

@@ -22,11 +22,13 @@ count-cell-requires c κs =
 
 returns : tie.Need-returns
 returns c =
-    let a = c .before .before .before .args in
-    λ s is.
-    adds-as
-    (transition-is (a .case) (omega arith) _ _ (c .before .before .transition-case-codes .ensures) (c .before .transition-case-cell .ensures) s (a .at) (transitionTurned (a .case)) is refl)
-    (c .count-cell .ensures s (transitionTurned (a .case)))
+    let a = c .before .before .before .args in (
+      c .count-cell .ensures .0,
+      λ s is.
+          adds-as
+          (transition-is (a .case) (omega arith) _ _ (c .before .before .transition-case-codes .ensures) (c .before .transition-case-cell .ensures) s (a .at) (transitionTurned (a .case)) is refl)
+          (c .count-cell .ensures .1 s (transitionTurned (a .case))),
+    )
 
 pub count-transition-cell-spec : {M : Type 1} → statement M
 count-transition-cell-spec =

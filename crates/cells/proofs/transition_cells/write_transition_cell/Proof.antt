@@ -7,7 +7,8 @@ use Rattle.model.specs.Mesh.{transitionCell}
 use Rattle.model.specs.Star.{Star, star}
 use Rattle.cells.specs.Kinds.{cellOf}
 use Rattle.cells.specs.declared.CellIndex.the-variants.{Transition}
-use Rattle.cells.proofs.ByCase.{vertex-room, triangle-room, put-as, transition-case-small, transition-coded, transition-followed, transition-is}
+use Rattle.cells.specs.Numbers.{transition-case-small}
+use Rattle.cells.proofs.ByCase.{vertex-room, triangle-room, put-as, transition-coded, transition-followed, transition-is}
 use Rattle.cells.proofs.transition_cells.write_transition_cell.Statement.{statement}
 use Rattle.cells.proofs.transition_cells.write_transition_cell.Tie as tie
 

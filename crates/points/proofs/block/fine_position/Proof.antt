@@ -1,6 +1,7 @@
 -- `block::fine_position` meets its contract, coordinate by coordinate: the fraction at 1 is an nth.
 use borrow.Author.Needs.{needs}
 use Rattle.model.specs.Formulas.{finePosition}
+use Rattle.points.specs.Fractions.{fraction-at}
 use Rattle.points.proofs.block.fine_position.Statement.{statement}
 use Rattle.points.proofs.block.fine_position.Tie as tie
 
@@ -21,7 +22,7 @@ unfolding finePosition
 returns c =
     let x = c .before .before in
     let parts = x .before .before .pre .0 in
-    rw (x .fine-coordinate .ensures, c .before .fine-coordinate2 .ensures, c .fine-coordinate3 .ensures, parts .each 1 (parts .some))
+    rw (x .fine-coordinate .ensures, c .before .fine-coordinate2 .ensures, c .fine-coordinate3 .ensures, fraction-at parts 1 (parts .some))
 
 pub fine-position-spec : {M : Type 1} → statement M
 fine-position-spec =

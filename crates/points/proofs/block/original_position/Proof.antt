@@ -1,5 +1,6 @@
 -- `block::original_position` meets its contract, coordinate by coordinate: each is taken with its index's fraction.
 use borrow.Author.Needs.{needs}
+use Rattle.points.specs.Fractions.{fraction-at}
 use Rattle.points.proofs.block.original_position.Statement.{statement}
 use Rattle.points.proofs.block.original_position.Tie as tie
 
@@ -20,9 +21,9 @@ returns c =
     let h = x .before .pre .1 in
     cc (
       x .regular-coordinate .ensures,
-      parts .each (p .x) (h .x-in),
-      parts .each (p .y) (h .y-in),
-      parts .each (p .z) (h .z-in),
+      fraction-at parts (p .x) (h .x-in),
+      fraction-at parts (p .y) (h .y-in),
+      fraction-at parts (p .z) (h .z-in),
     )
 
 pub original-position-spec : {M : Type 1} → statement M

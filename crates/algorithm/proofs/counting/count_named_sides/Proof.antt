@@ -1,0 +1,146 @@
+-- `counting::count_named_sides` meets its contract: what each named side adds is added up, and the others add nothing.
+use native.Mathlib.Omega.{arith}
+use borrow.Author.Needs.{needs}
+use Prim.Native.Nat.{ℕ, _-_, _*_, _≤_, _<_}
+use mathlib.Core.Path.{_≡_, refl, sym, _∙_}
+use mathlib.Core.Bool.{true}
+use mathlib.Core.List.{List, []}
+use lib.Ieee.{Float}
+use lib.ListN.{length, length-replicate}
+use Rattle.laws.specs.Steps.{iterate}
+use Rattle.model.specs.Limits.{sideCount}
+use Rattle.model.specs.Sides.{named}
+use Rattle.model.specs.Star.{star}
+use Rattle.model.specs.Mesh.{transitionSide}
+use Rattle.cases.specs.Sheets.{sheetPlaces}
+use Rattle.cells.specs.Numbers.{transition-case-small}
+use Rattle.cells.specs.Puts.{Few}
+use Rattle.algorithm.specs.Passes.{Grows}
+use Rattle.algorithm.proofs.Walk.{sides-skip, side-sheet, sheet-numbered}
+use Rattle.algorithm.proofs.Growth.{few-none, few-more, few-of, plus-fits, grows-none, grows-more, grows-as}
+use Rattle.algorithm.proofs.counting.count_named_sides.Statement.{statement}
+use Rattle.algorithm.proofs.counting.count_named_sides.Tie as tie
+
+abbrev Inv-loop : tie.InvT-loop
+Inv-loop header neighbours n mask classes cells codes cases₀ counts₀ side₀ cases counts side = ((side ≤ sideCount) × (side < sideCount → named mask side ≡ true)) × ((length cases ≡ sheetPlaces) × (Few (sheetPlaces * side) counts × ((centre : List Float) → Grows (iterate (transitionSide (star header centre neighbours)) side) counts)))
+
+abbrev μ-loop : tie.MeasureT-loop
+μ-loop header neighbours n mask classes cells codes cases₀ counts₀ side₀ cases counts side = sideCount - side
+
+transition-cell-class-requires : tie.Need-transition-cell-class-requires Inv-loop μ-loop
+transition-cell-class-requires c κs = search needs
+
+transition-cell-data-requires : tie.Need-transition-cell-data-requires Inv-loop μ-loop
+transition-cell-data-requires c κs = search needs
+
+transition-vertex-data-requires : tie.Need-transition-vertex-data-requires Inv-loop μ-loop
+transition-vertex-data-requires c κs = search needs
+
+next-side-requires : tie.Need-next-side-requires Inv-loop μ-loop
+next-side-requires c κs = (c .before .before .before .before .pre .sides, omega arith)
+
+-- the sheet is as long as it was
+still-long : (c : tie.After-face-cases Inv-loop μ-loop) → length (c .face-cases .last .1 .1 .1 .0) ≡ sheetPlaces
+still-long c = c .face-cases .kept .1 .1 .1 .0 ∙ c .before .before .before .loop .inv .1 .0
+
+loop-holds : tie.Need-loop-holds Inv-loop μ-loop
+loop-holds c =
+    let next = c .next-side .ensures in
+    (
+      (next .le-six, next .is-named),
+      (length-replicate {A = ℕ} sheetPlaces 0, (few-of _ (omega arith) few-none, λ centre. grows-as (λ m. sym (sides-skip _ m 0 _ next)) grows-none)),
+    )
+
+slice-aggregate-face-cases : tie.Need-slice-aggregate-face-cases Inv-loop μ-loop
+slice-aggregate-face-cases c = sym (c .before .before .loop .inv .1 .0)
+
+face-cases-requires : tie.Need-face-cases-requires Inv-loop μ-loop
+face-cases-requires c κs =
+    let here = c .before in
+    let l = here .before .loop in
+    let there = here .before .before .before .before .before .before .before .pre in
+    (
+      record { few = there .few; sides = there .sides; side-is = here .loop-test .taken; is-named = l .inv .0 .1 (here .loop-test .taken); neighbours-are = there .neighbours-are },
+      (there .some, l .inv .1 .0),
+    )
+
+slice-aggregate-count-side : tie.Need-slice-aggregate-count-side Inv-loop μ-loop
+slice-aggregate-count-side c = sym (still-long (c .before .before .before .before .before))
+
+count-side-requires : tie.Need-count-side-requires Inv-loop μ-loop
+count-side-requires c κs =
+    let face = c .before .before .before .before .before in
+    let codes = face .before .before .before .before .before in
+    let b = codes .before .before .before .before in
+    let a = b .args in
+    let s = star (a .header) [] (a .neighbours .now) in
+    let side = face .before .before .before .loop .side in
+    (
+      record { classes-are = codes .before .before .transition-cell-class .ensures; cells-are = codes .before .transition-cell-data .ensures; codes-are = codes .transition-vertex-data .ensures },
+      (
+        (b .pre .few, still-long face),
+        sheet-numbered _ _ (side-sheet s _ side _ (face .face-cases .ensures [])) (λ j k. transition-case-small s side j k),
+      ),
+    )
+
+plus-requires : tie.Need-plus-requires Inv-loop μ-loop
+plus-requires c κs = plus-fits (c .before .before .before .before .before .before .before .before .before .loop .inv .1 .1 .0) (c .count-side .ensures .0) (omega arith)
+
+add-next-side : tie.Need-add-next-side Inv-loop μ-loop
+add-next-side c = omega (arith, c .before .before .before .before .before .before .before .before .before .loop-test .taken)
+
+next-side-requires-2 : tie.Need-next-side-requires-2 Inv-loop μ-loop
+next-side-requires-2 c κs =
+    let here = c .before .before .before .before .before .before .before .before .before in
+    (here .before .before .before .before .before .before .before .pre .sides, omega (arith, here .loop-test .taken))
+
+loop-less : tie.Need-loop-less Inv-loop μ-loop
+loop-less c = omega (arith, c .next-side2 .ensures .from-le, c .before .before .before .before .before .before .before .before .before .before .loop-test .taken)
+
+loop-again : tie.Need-loop-again Inv-loop μ-loop
+loop-again c =
+    let face = c .before .before .before .before .before .before .before .before in
+    let here = face .before .before in
+    let l = here .before .loop in
+    let more = c .before .before .count-side .ensures in
+    let next = c .next-side2 .ensures in
+    let named-here = l .inv .0 .1 (here .loop-test .taken) in
+    (
+      (next .le-six, next .is-named),
+      (
+        still-long face,
+        rw (c .before .plus .ensures)
+          (
+            few-of _ (omega (arith, next .from-le)) (few-more (l .inv .1 .1 .0) (more .0)),
+            λ centre. grows-as (λ m. sym (sides-skip _ m _ _ next)) (grows-more _ (l .side) (l .inv .1 .1 .1 centre) (more .1 _ refl named-here (face .face-cases .ensures centre))),
+          ),
+      ),
+    )
+
+returns : tie.Need-returns Inv-loop μ-loop
+returns c =
+    let l = c .before .loop in
+    let e : l .side ≡ sideCount = omega arith in
+    (few-of _ (omega arith) (l .inv .1 .1 .0), λ centre. rw e at (l .inv .1 .1 .1 centre))
+
+pub count-named-sides-spec : {M : Type 1} → statement M
+count-named-sides-spec =
+    tie.close
+    (tie.spec
+    Inv-loop
+    μ-loop
+    transition-cell-class-requires
+    transition-cell-data-requires
+    transition-vertex-data-requires
+    next-side-requires
+    loop-holds
+    slice-aggregate-face-cases
+    face-cases-requires
+    slice-aggregate-count-side
+    count-side-requires
+    plus-requires
+    add-next-side
+    next-side-requires-2
+    loop-less
+    loop-again
+    returns)

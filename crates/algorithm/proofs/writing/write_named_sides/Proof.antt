@@ -1,0 +1,173 @@
+-- `writing::write_named_sides` meets its contract: the mesh grows by one named side in each turn, and the sides between two named ones add nothing.
+use Prim.Native.Nat.{ℕ, _-_, _≤_, _<_, _+_}
+use mathlib.Core.Path.{_≡_, refl, sym, _∙_}
+use mathlib.Core.Bool.{true}
+use native.Mathlib.Omega.{arith}
+use borrow.Author.Needs.{needs}
+use lib.ListN.{length, length-replicate}
+use Rattle.model.specs.Limits.{sideCount}
+use Rattle.model.specs.Sides.{named}
+use Rattle.model.specs.Star.{Star, star}
+use Rattle.model.specs.Mesh.{transitionTo}
+use Rattle.cases.specs.Sheets.{sheetPlaces}
+use Rattle.algorithm.specs.Passes.{Holds, SameLengths}
+use Rattle.algorithm.proofs.Walk.{transition-start, transition-skip, transition-end}
+use Rattle.algorithm.proofs.Holding.{same-then, fits-still}
+use Rattle.algorithm.proofs.writing.write_named_sides.Statement.{statement}
+use Rattle.algorithm.proofs.writing.write_named_sides.Tie as tie
+
+abbrev Inv-loop : tie.InvT-loop
+Inv-loop header fractions centre neighbours counts₀ store₀ vertices₀ triangles₀ mask classes cells codes cases₀ side₀ counts store vertices triangles cases side =
+    ((side ≤ sideCount) × (side < sideCount → named mask side ≡ true))
+    × ((length cases ≡ sheetPlaces)
+    × (SameLengths vertices₀ vertices triangles₀ triangles store₀ store
+    × Holds (transitionTo (star header centre neighbours) side 0 0) counts vertices triangles store))
+
+abbrev μ-loop : tie.MeasureT-loop
+μ-loop header fractions centre neighbours counts₀ store₀ vertices₀ triangles₀ mask classes cells codes cases₀ side₀ counts store vertices triangles cases side = sideCount - side
+
+-- the entry, from a turn of the loop
+abbrev Entry : Type 0
+Entry = tie.Start Inv-loop μ-loop
+
+abbrev start : tie.In-loop Inv-loop μ-loop → Entry
+start c = c .before .before .before .before .before .before .before .before .before .before .before
+
+abbrev starOf : Entry → Star
+starOf b = star (b .args .header) (b .args .centre .now) (b .args .neighbours .now)
+
+-- the sheet is as long as it was
+still-long : (c : tie.After-face-cases Inv-loop μ-loop) → length (c .face-cases .last .1 .1 .1 .0) ≡ sheetPlaces
+still-long c = c .face-cases .kept .1 .1 .1 .0 ∙ c .before .before .before .loop .inv .1 .0
+
+transition-cell-class-requires : tie.Need-transition-cell-class-requires Inv-loop μ-loop
+transition-cell-class-requires c κs = search needs
+
+transition-cell-data-requires : tie.Need-transition-cell-data-requires Inv-loop μ-loop
+transition-cell-data-requires c κs = search needs
+
+transition-vertex-data-requires : tie.Need-transition-vertex-data-requires Inv-loop μ-loop
+transition-vertex-data-requires c κs = search needs
+
+next-side-requires : tie.Need-next-side-requires Inv-loop μ-loop
+next-side-requires c κs =
+    (c .before .before .before .before .before .before .before .before .pre .0 .0 .sides, omega arith)
+
+loop-holds : tie.Need-loop-holds Inv-loop μ-loop
+loop-holds c =
+    let b = c .before .before .before .before .before .before .before .before .before in
+    let next = c .next-side .ensures in (
+      (next .le-six, next .is-named),
+      (
+        length-replicate {A = ℕ} sheetPlaces 0,
+        (
+          record { vertices-same = refl; triangles-same = refl; store-same = refl },
+          rw (← transition-skip (starOf b) 0 _ next, transition-start) (b .pre .1 .1),
+        ),
+      ),
+    )
+
+slice-aggregate-face-cases : tie.Need-slice-aggregate-face-cases Inv-loop μ-loop
+slice-aggregate-face-cases c = sym (c .before .before .loop .inv .1 .0)
+
+face-cases-requires : tie.Need-face-cases-requires Inv-loop μ-loop
+face-cases-requires c κs =
+    let here = c .before in
+    let l = here .before .loop in
+    let shaped = start here .pre .0 .0 in (
+      record { few = shaped .few; sides = shaped .sides; side-is = here .loop-test .taken; is-named = l .inv .0 .1 (here .loop-test .taken); neighbours-are = shaped .neighbours-are },
+      (shaped .some, l .inv .1 .0),
+    )
+
+slice-aggregate-write-side : tie.Need-slice-aggregate-write-side Inv-loop μ-loop
+slice-aggregate-write-side c = sym (still-long (c .before .before .before .before .before))
+
+write-side-requires : tie.Need-write-side-requires Inv-loop μ-loop
+write-side-requires c κs =
+    let filled = c .before .before .before .before .before .before .before .before in
+    let here = filled .before .before in
+    let codes = here .before .before .before in
+    let b = start here in
+    let l = here .before .loop in (
+      record { classes-are = codes .before .before .transition-cell-class .ensures; cells-are = codes .before .transition-cell-data .ensures; codes-are = codes .transition-vertex-data .ensures },
+      (
+        b .pre .0,
+        (
+          (still-long filled, filled .face-cases .ensures (b .args .centre .now)),
+          ((here .loop-test .taken, l .inv .0 .1 (here .loop-test .taken)), (fits-still (l .inv .1 .1 .0) (b .pre .1 .0), l .inv .1 .1 .1)),
+        ),
+      ),
+    )
+
+add-next-side : tie.Need-add-next-side Inv-loop μ-loop
+add-next-side c = omega (arith, c .before .before .before .before .before .before .before .before .before .before .before .before .before .before .before .before .before .loop-test .taken)
+
+next-side-requires-2 : tie.Need-next-side-requires-2 Inv-loop μ-loop
+next-side-requires-2 c κs =
+    let here = c .before .before .before .before .before .before .before .before .before .before .before .before .before .before .before .before .before in
+    (start here .pre .0 .0 .sides, omega (arith, here .loop-test .taken))
+
+loop-less : tie.Need-loop-less Inv-loop μ-loop
+loop-less c = omega (arith, c .next-side2 .ensures .from-le, c .before .before .before .before .before .before .before .before .before .before .before .before .before .before .before .before .before .before .loop-test .taken)
+
+loop-again : tie.Need-loop-again Inv-loop μ-loop
+loop-again c =
+    let put = c .before .before .before .before .before .before .before in
+    let filled = put .before .before .before .before .before .before .before .before .before in
+    let here = filled .before .before in
+    let l = here .before .loop in
+    let w = put .write-side in
+    let next = c .next-side2 .ensures in (
+      (next .le-six, next .is-named),
+      (
+        still-long filled,
+        (
+          same-then (l .inv .1 .1 .0)
+              record {
+                vertices-same = w .kept .1 .1 .1 .1 .1 .1 .1 .1 .1 .1 .1 .0;
+                triangles-same = w .kept .1 .1 .1 .1 .1 .1 .1 .1 .1 .1 .1 .1 .0;
+                store-same = w .kept .1 .1 .1 .1 .1 .1 .1 .1 .1 .1 .0;
+              },
+          rw (← transition-skip (starOf (start here)) (l .side + 1) _ next) (w .ensures),
+        ),
+      ),
+    )
+
+same-length : tie.Need-same-length Inv-loop μ-loop
+same-length c = c .before .loop .inv .1 .1 .0 .store-same
+
+same-length-2 : tie.Need-same-length-2 Inv-loop μ-loop
+same-length-2 c = c .before .loop .inv .1 .1 .0 .vertices-same
+
+same-length-3 : tie.Need-same-length-3 Inv-loop μ-loop
+same-length-3 c = c .before .loop .inv .1 .1 .0 .triangles-same
+
+returns : tie.Need-returns Inv-loop μ-loop
+returns c =
+    let b = c .before .before .before .before .before .before .before .before .before .before .before in
+    let l = c .before .loop in
+    rw (← transition-end (starOf b) (l .side) (omega arith)) (l .inv .1 .1 .1)
+
+pub write-named-sides-spec : {M : Type 1} → statement M
+write-named-sides-spec =
+    tie.close
+    (tie.spec
+    Inv-loop
+    μ-loop
+    transition-cell-class-requires
+    transition-cell-data-requires
+    transition-vertex-data-requires
+    next-side-requires
+    loop-holds
+    slice-aggregate-face-cases
+    face-cases-requires
+    slice-aggregate-write-side
+    write-side-requires
+    add-next-side
+    next-side-requires-2
+    loop-less
+    loop-again
+    same-length
+    same-length-2
+    same-length-3
+    returns)

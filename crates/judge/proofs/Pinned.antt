@@ -1,0 +1,44 @@
+-- What the statement of each public judge allows is one answer: of two that it allows for the same inputs, each is the other.
+use mathlib.Core.Path.{_≡_}
+use contract.Lifetimes.{Lfts}
+use Rattle.model.specs.Pinned.{pinned}
+use Rattle.judge.proofs.numbers_of.Reads as numbers-of
+use Rattle.judge.proofs.unless.Reads as unless
+use Rattle.judge.proofs.judge_subdivisions.Reads as judge-subdivisions
+use Rattle.judge.proofs.judge_mask.Reads as judge-mask
+use Rattle.judge.proofs.judge_buffer.Reads as judge-buffer
+use Rattle.judge.proofs.judge_room.Reads as judge-room
+use Rattle.judge.proofs.judge_store.Reads as judge-store
+use Rattle.judge.proofs.judge_star.Reads as judge-star
+use Rattle.judge.proofs.faces.judge_faces.Reads as judge-faces
+use Rattle.judge.proofs.point_read.read_point.Reads as read-point
+
+pub numbers-of-pinned : (κs : Lfts 0) (a : _) (r r′ : _) (e e′ : _) → numbers-of.Learnt κs a r e → numbers-of.Learnt κs a r′ e′ → r ≡ r′
+numbers-of-pinned κs a r r′ e e′ h k = pinned h k
+
+pub unless-pinned : (κs : Lfts 0) (a : _) (r r′ : _) (e e′ : _) → unless.Learnt κs a r e → unless.Learnt κs a r′ e′ → r ≡ r′
+unless-pinned κs a r r′ e e′ h k = pinned h k
+
+pub judge-subdivisions-pinned : (κs : Lfts 0) (a : _) (r r′ : _) (e e′ : _) → judge-subdivisions.Learnt κs a r e → judge-subdivisions.Learnt κs a r′ e′ → r ≡ r′
+judge-subdivisions-pinned κs a r r′ e e′ h k = pinned h k
+
+pub judge-mask-pinned : (κs : Lfts 0) (a : _) (r r′ : _) (e e′ : _) → judge-mask.Learnt κs a r e → judge-mask.Learnt κs a r′ e′ → r ≡ r′
+judge-mask-pinned κs a r r′ e e′ h k = pinned h k
+
+pub judge-buffer-pinned : (κs : Lfts 0) (a : _) (r r′ : _) (e e′ : _) → judge-buffer.Learnt κs a r e → judge-buffer.Learnt κs a r′ e′ → r ≡ r′
+judge-buffer-pinned κs a r r′ e e′ h k = pinned h k
+
+pub judge-room-pinned : (κs : Lfts 0) (a : _) (r r′ : _) (e e′ : _) → judge-room.Learnt κs a r e → judge-room.Learnt κs a r′ e′ → r ≡ r′
+judge-room-pinned κs a r r′ e e′ h k = pinned h k
+
+pub judge-store-pinned : (κs : Lfts 0) (a : _) (r r′ : _) (e e′ : _) → judge-store.Learnt κs a r e → judge-store.Learnt κs a r′ e′ → r ≡ r′
+judge-store-pinned κs a r r′ e e′ h k = pinned h k
+
+pub judge-star-pinned : (κs : Lfts 2) (a : _) (r r′ : _) (e e′ : _) → judge-star.Learnt κs a r e → judge-star.Learnt κs a r′ e′ → r ≡ r′
+judge-star-pinned κs a r r′ e e′ h k = pinned h k
+
+pub judge-faces-pinned : (κs : Lfts 2) (a : _) (r r′ : _) (e e′ : _) → judge-faces.Learnt κs a r e → judge-faces.Learnt κs a r′ e′ → r ≡ r′
+judge-faces-pinned κs a r r′ e e′ h k = pinned h k
+
+pub read-point-pinned : (κs : Lfts 1) (a : _) (r r′ : _) (e e′ : _) → read-point.Learnt κs a r e → read-point.Learnt κs a r′ e′ → r ≡ r′
+read-point-pinned κs a r r′ e e′ h k = pinned h k

@@ -1,0 +1,26 @@
+-- What the statement of each public function allows is one answer: of two that it allows for the same inputs, each is the other. A grid point
+-- of the centre does not go by the neighbours, so that any list of them will do.
+use mathlib.Core.Path.{_≡_}
+use mathlib.Core.List.{[]}
+use contract.Lifetimes.{Lfts}
+use Rattle.model.specs.Pinned.{pinned}
+use Rattle.points.proofs.block.regular_position.Reads as regular-position
+use Rattle.points.proofs.block.fine_position.Reads as fine-position
+use Rattle.points.proofs.formulas.vertex_between.Reads as vertex-between
+use Rattle.points.proofs.fractions.fractions_of.Reads as fractions-of
+use Rattle.points.proofs.grid_point.regular_point.Reads as regular-point
+
+pub regular-position-pinned : (κs : Lfts 1) (a : _) (r r′ : _) (e e′ : _) → regular-position.Learnt κs a r e → regular-position.Learnt κs a r′ e′ → r ≡ r′
+regular-position-pinned κs a r r′ e e′ h k = pinned h k
+
+pub fine-position-pinned : (κs : Lfts 1) (a : _) (r r′ : _) (e e′ : _) → fine-position.Learnt κs a r e → fine-position.Learnt κs a r′ e′ → r ≡ r′
+fine-position-pinned κs a r r′ e e′ h k = pinned h k
+
+pub vertex-between-pinned : (κs : Lfts 0) (a : _) (r r′ : _) (e e′ : _) → vertex-between.Learnt κs a r e → vertex-between.Learnt κs a r′ e′ → r ≡ r′
+vertex-between-pinned κs a r r′ e e′ h k = pinned h k
+
+pub fractions-of-pinned : (κs : Lfts 0) (a : _) (r r′ : _) (e e′ : _) → fractions-of.Learnt κs a r e → fractions-of.Learnt κs a r′ e′ → r ≡ r′
+fractions-of-pinned κs a r r′ e e′ h k = pinned (h .are) (k .are)
+
+pub regular-point-pinned : (κs : Lfts 2) (a : _) (r r′ : _) (e e′ : _) → regular-point.Learnt κs a r e → regular-point.Learnt κs a r′ e′ → r ≡ r′
+regular-point-pinned κs a r r′ e e′ h k = pinned (h []) (k [])
