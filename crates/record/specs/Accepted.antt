@@ -1,28 +1,27 @@
 -- What holds of a record that no judge refuses, by name, and that this is all that the judges ask. Assumes nothing.
 use Prim.Native.Nat.{ℕ, zero, suc, _+_, _-_, _*_, _/_, _≤_, _<_, zero-le}
-use native.Mathlib.Nat.{mul-le-mul, not-suc-le-zero, le-of-suc-le-suc, eq-or-lt-of-le}
+use native.Mathlib.Nat.{not-suc-le-zero, le-of-suc-le-suc, eq-or-lt-of-le}
 use native.Mathlib.Omega.{arith}
 use mathlib.Core.Path.{_≡_, refl, sym, ap, _∙_}
 use mathlib.Core.Bool.{true, not, and-eq-true-iff}
 use mathlib.Core.Logic.{⊎-elim}
 use mathlib.Core.List.{List}
 use borrow.Author.Tests.{leb-true, eqb-true, le-leb, eq-eqb}
-use lib.Count.{ones, ones-le}
 use lib.Dec.{T, leb, eqb}
-use lib.Ieee.{Float, nan, isNan}
+use lib.Ieee.{Float, nan, isNan, binary32, toBits}
+use lib.Ieee.Bits.{toBits-ofBits}
 use lib.ListN.{length, getD}
 use Rattle.model.specs.declared.Block.{Block}
 use Rattle.model.specs.declared.Refusal.the-variants.{Subdivisions, Mask, Measure, BadSample, RecordLength, Version, SampleCount}
 use Rattle.model.specs.declared.Verdict.{Verdict}
 use Rattle.model.specs.declared.Verdict.the-variants.{Passed}
+use Rattle.model.specs.Limits.{mostSubdivisions, mostMask}
 use Rattle.model.specs.Refusals.{unless, first}
 use Rattle.model.specs.Judging.{usable, measureUsable, judgeMeasures, judgeSamples, sampleUsable}
-use Rattle.model.specs.Sides.{neighbourLength}
-use Rattle.grid.specs.Places.{small}
-use Rattle.model.specs.Record.{wordAt, floatAt, headerOf, countOf, samplesOf, judgeRecord}
+use Rattle.model.specs.Record.{versionAt, thresholdAt, headerLength, sampleFrom, wordAt, floatAt, headerOf, countOf, samplesOf, judgeRecord}
 use Rattle.laws.specs.Lists.{length-listed, getD-listed}
 use Rattle.judge.specs.First.{unless-passed, both-passed, passed-over}
-use Rattle.record.specs.Words.{usable-number, size-number}
+use Rattle.record.specs.Words.{Bytes, word-lt, usable-number, size-number}
 
 each-passed : (f : ℕ → Verdict) (n k : ℕ) → first f n ≡ Passed → k < n → f k ≡ Passed
 each-passed f zero k e h = absurd (not-suc-le-zero h)
@@ -32,22 +31,13 @@ each-passed f (suc n) k e h =
 
 -- ---- samples
 
-pub count-small : (n mask : ℕ) → n ≤ 16 → mask ≤ 63 → sampleCount n mask ≤ 297297
-count-small n mask few sides =
-    let one = small n (omega arith) in
-    let two = small (2 * n) (omega arith) in
-    let named : ones mask ≤ 6 = ones-le 6 mask (omega arith) in
-    let part : neighbourLength n ≤ 42471 = omega (arith, two .square, two .cube) in
-    let parts : ones mask * neighbourLength n ≤ 6 * 42471 = mul-le-mul named part in
-    omega (arith, one .square, one .cube)
-
 pub length-samples : (bytes : List ℕ) → length (samplesOf bytes) ≡ countOf bytes
 unfolding samplesOf
-length-samples bytes = length-listed (λ k. floatAt bytes (27 + 4 * k)) (countOf bytes)
+length-samples bytes = length-listed (λ k. floatAt bytes (sampleFrom k)) (countOf bytes)
 
-pub sample-is : (bytes : List ℕ) (k : ℕ) → k < countOf bytes → getD (samplesOf bytes) k nan ≡ floatAt bytes (27 + 4 * k)
+pub sample-is : (bytes : List ℕ) (k : ℕ) → k < countOf bytes → getD (samplesOf bytes) k nan ≡ floatAt bytes (sampleFrom k)
 unfolding samplesOf
-sample-is bytes k h = getD-listed (λ k. floatAt bytes (27 + 4 * k)) (countOf bytes) k nan h
+sample-is bytes k h = getD-listed (λ k. floatAt bytes (sampleFrom k)) (countOf bytes) k nan h
 
 pub samples-usable : (samples : List Float) (k : ℕ) → judgeSamples samples ≡ Passed → k < length samples → usable (getD samples k nan) ≡ true
 unfolding judgeSamples
@@ -84,18 +74,18 @@ measure-number block threshold (suc (suc (suc (suc k)))) e = size-number (block 
 -- ---- the whole record
 
 pub record Accepted (bytes : List ℕ) : Type 0 where
-  pub long : 27 ≤ length bytes
+  pub long : headerLength ≤ length bytes
   pub told : wordAt bytes 0 ≡ length bytes - 4
-  pub version : getD bytes 4 0 ≡ 1
-  pub some : 1 ≤ getD bytes 5 0
-  pub few : getD bytes 5 0 ≤ 16
-  pub sides : getD bytes 6 0 ≤ 63
+  pub version : getD bytes versionAt 0 ≡ 1
+  pub some : 1 ≤ headerOf bytes .block .subdivisions
+  pub few : headerOf bytes .block .subdivisions ≤ mostSubdivisions
+  pub sides : headerOf bytes .mask ≤ mostMask
   pub measures : judgeMeasures (headerOf bytes .block) (headerOf bytes .threshold) ≡ Passed
-  pub counted : length bytes ≡ 27 + 4 * countOf bytes
-  pub usable-samples : (k : ℕ) → k < countOf bytes → usable (floatAt bytes (27 + 4 * k)) ≡ true
+  pub counted : length bytes ≡ sampleFrom (countOf bytes)
+  pub usable-samples : (k : ℕ) → k < countOf bytes → usable (floatAt bytes (sampleFrom k)) ≡ true
 
 module _ (bytes : List ℕ) (a : Accepted bytes) where
-  pub measured : (k : ℕ) → k < 5 → T (not (isNan (floatAt bytes (7 + 4 * k))))
+  pub measured : (k : ℕ) → k < 5 → T (not (isNan (floatAt bytes (thresholdAt + 4 * k))))
   unfolding headerOf
   measured zero l = measure-number (headerOf bytes .block) (headerOf bytes .threshold) 0 (a .measures)
   measured (suc zero) l = measure-number (headerOf bytes .block) (headerOf bytes .threshold) 1 (a .measures)
@@ -104,30 +94,38 @@ module _ (bytes : List ℕ) (a : Accepted bytes) where
   measured (suc (suc (suc (suc zero)))) l = measure-number (headerOf bytes .block) (headerOf bytes .threshold) 4 (a .measures)
   measured (suc (suc (suc (suc (suc k))))) l = absurd (omega arith)
 
-  pub count-by-length : (length bytes - 27) / 4 ≡ countOf bytes
+  -- a sample's bits are those that the record holds
+  pub sample-bits : Bytes bytes → (k : ℕ) → k < countOf bytes → wordAt bytes (sampleFrom k) ≡ toBits binary32 (getD (samplesOf bytes) k nan)
+  sample-bits small k l =
+      sym
+      (ap (toBits binary32) (sample-is bytes k l)
+      ∙ toBits-ofBits binary32 (wordAt bytes (sampleFrom k)) (word-lt bytes small (sampleFrom k))
+      (usable-number (floatAt bytes (sampleFrom k)) (a .usable-samples k l)))
+
+  pub count-by-length : (length bytes - headerLength) / 4 ≡ countOf bytes
   count-by-length = rw (a .counted) (omega arith)
 
 pub accepted : (bytes : List ℕ) → judgeRecord bytes ≡ Passed → Accepted bytes
 unfolding judgeRecord headerOf
 accepted bytes e =
-    let n = getD bytes 5 0 in
+    let n = headerOf bytes .block .subdivisions in
     let length-passed = both-passed _ _ e in
     let version-passed = both-passed _ _ (length-passed .1) in
     let subdivisions-passed = both-passed _ _ (version-passed .1) in
     let mask-passed = both-passed _ _ (subdivisions-passed .1) in
     let measures-passed = both-passed _ _ (mask-passed .1) in
     let count-passed = both-passed _ _ (measures-passed .1) in
-    let whole = and-eq-true-iff (leb 27 (length bytes)) (eqb (wordAt bytes 0) (length bytes - 4)) .0 (unless-passed _ RecordLength (length-passed .0)) in
-    let ranged = and-eq-true-iff (leb 1 n) (leb n 16) .0 (unless-passed _ (Subdivisions n) (subdivisions-passed .0)) in
-    let long = leb-true 27 (length bytes) (whole .0) in
-    let counted = eqb-true (length bytes - 27) (4 * countOf bytes) (unless-passed _ (SampleCount (countOf bytes)) (count-passed .0)) in
+    let whole = and-eq-true-iff (leb headerLength (length bytes)) (eqb (wordAt bytes 0) (length bytes - 4)) .0 (unless-passed _ RecordLength (length-passed .0)) in
+    let ranged = and-eq-true-iff (leb 1 n) (leb n mostSubdivisions) .0 (unless-passed _ (Subdivisions n) (subdivisions-passed .0)) in
+    let long = leb-true headerLength (length bytes) (whole .0) in
+    let counted = eqb-true (length bytes - headerLength) (4 * countOf bytes) (unless-passed _ (SampleCount (countOf bytes)) (count-passed .0)) in
     record {
       long = long;
       told = eqb-true (wordAt bytes 0) (length bytes - 4) (whole .1);
-      version = eqb-true (getD bytes 4 0) 1 (unless-passed _ (Version (getD bytes 4 0)) (version-passed .0));
+      version = eqb-true (getD bytes versionAt 0) 1 (unless-passed _ (Version (getD bytes versionAt 0)) (version-passed .0));
       some = leb-true 1 n (ranged .0);
-      few = leb-true n 16 (ranged .1);
-      sides = leb-true (getD bytes 6 0) 63 (unless-passed _ (Mask (getD bytes 6 0)) (mask-passed .0));
+      few = leb-true n mostSubdivisions (ranged .1);
+      sides = leb-true (headerOf bytes .mask) mostMask (unless-passed _ (Mask (headerOf bytes .mask)) (mask-passed .0));
       measures = measures-passed .0;
       counted = omega arith;
       usable-samples = λ k h.
@@ -138,19 +136,19 @@ accepted bytes e =
 pub passes : (bytes : List ℕ) → Accepted bytes → judgeRecord bytes ≡ Passed
 unfolding judgeRecord headerOf
 passes bytes a =
-    let n = getD bytes 5 0 in
-    let counted : length bytes - 27 ≡ 4 * countOf bytes = omega (arith, a .counted) in
+    let n = headerOf bytes .block .subdivisions in
+    let counted : length bytes - headerLength ≡ 4 * countOf bytes = omega (arith, a .counted) in
     let samples : judgeSamples (samplesOf bytes) ≡ Passed =
     samples-pass (samplesOf bytes)
     (λ k h. let l : k < countOf bytes = rw (length-samples bytes) at h in ap usable (sample-is bytes k l) ∙ a .usable-samples k l) in
     rw (
-      le-leb 27 (length bytes) (a .long),
+      le-leb headerLength (length bytes) (a .long),
       eq-eqb (wordAt bytes 0) (length bytes - 4) (a .told),
-      eq-eqb (getD bytes 4 0) 1 (a .version),
+      eq-eqb (getD bytes versionAt 0) 1 (a .version),
       le-leb 1 n (a .some),
-      le-leb n 16 (a .few),
-      le-leb (getD bytes 6 0) 63 (a .sides),
+      le-leb n mostSubdivisions (a .few),
+      le-leb (headerOf bytes .mask) mostMask (a .sides),
       a .measures,
-      eq-eqb (length bytes - 27) (4 * countOf bytes) counted,
+      eq-eqb (length bytes - headerLength) (4 * countOf bytes) counted,
       samples,
     )

@@ -1,6 +1,6 @@
 -- Document 01, 'Block record': the bytes of a header and its samples, read back; and an accepted record's bytes, put back.
 -- Assumes nothing.
-use Prim.Native.Nat.{ℕ, zero, suc, _+_, _*_, _^_, _≤_, _<_}
+use Prim.Native.Nat.{ℕ, zero, suc, _+_, _-_, _*_, _^_, _≤_, _<_}
 use native.Mathlib.Nat.{zero-add}
 use native.Mathlib.Omega.{arith}
 use mathlib.Core.Path.{_≡_, refl, sym, ap, ap₂, _∙_}
@@ -10,7 +10,7 @@ use lib.ListN.{length, getD, take, drop, length-append, length-drop, take-append
 use lib.Seq.{drop-cons, take-add, take-all, drop-drop, getD-append-add, sets}
 use Rattle.model.specs.declared.Header.{Header}
 use Rattle.laws.specs.Steps.{listed, each, laid}
-use Rattle.model.specs.Record.{wordAt, wordBytes, floatAt, floatBytes, headerOf, countOf, samplesOf, recordOf}
+use Rattle.model.specs.Record.{versionAt, subdivisionsAt, maskAt, thresholdAt, headerLength, sampleFrom, wordAt, wordBytes, floatAt, floatBytes, headerOf, countOf, samplesOf, recordOf}
 use Rattle.laws.specs.Lists.{each-append, length-each, listed-is, sets-append, sets-first}
 use Rattle.record.specs.Words.{Bytes, Fit, word-after, word-back, floats-back, floats-after, usable-number}
 use Rattle.record.specs.Accepted.{Accepted, length-samples, measured}
@@ -19,30 +19,34 @@ use Rattle.record.specs.Accepted.{Accepted, length-samples, measured}
 abbrev pub measuresOf : Header → List Float
 measuresOf h = h .threshold ∷ h .block .base .x ∷ h .block .base .y ∷ h .block .base .z ∷ h .block .size ∷ []
 
+-- what the length field tells: the bytes that follow it
+abbrev pub lengthField : ℕ → ℕ
+lengthField count = headerLength - 4 + 4 * count
+
 -- the bytes before the floats
 abbrev pub startOf : Header → ℕ → List ℕ
-startOf h count = wordBytes (23 + 4 * count) ++ (1 ∷ h .block .subdivisions ∷ h .mask ∷ [])
+startOf h count = wordBytes (lengthField count) ++ (1 ∷ h .block .subdivisions ∷ h .mask ∷ [])
 
 pub by-floats : (h : Header) (samples : List Float) → recordOf h samples ≡ startOf h (length samples) ++ each floatBytes (measuresOf h ++ samples)
 unfolding recordOf
 by-floats h samples = simp append-assoc
 
-pub length-record : (h : Header) (samples : List Float) → length (recordOf h samples) ≡ 27 + 4 * length samples
+pub length-record : (h : Header) (samples : List Float) → length (recordOf h samples) ≡ sampleFrom (length samples)
 unfolding wordBytes
 length-record h samples =
     ap length (by-floats h samples)
     ∙ length-append (startOf h (length samples)) (each floatBytes (measuresOf h ++ samples))
-    ∙ ap (λ (k : ℕ). 7 + k) (length-each floatBytes 4 (measuresOf h ++ samples) (λ x. refl))
-    ∙ (let e : 7 + 4 * (5 + length samples) ≡ 27 + 4 * length samples = omega arith in rw length-append e)
+    ∙ ap (λ (k : ℕ). thresholdAt + k) (length-each floatBytes 4 (measuresOf h ++ samples) (λ x. refl))
+    ∙ (let e : thresholdAt + 4 * (5 + length samples) ≡ sampleFrom (length samples) = omega arith in rw length-append e)
 
 -- ---- read back
 
-pub length-told : (h : Header) (samples : List Float) → 23 + 4 * length samples < 2 ^ 32 → wordAt (recordOf h samples) 0 ≡ 23 + 4 * length samples
+pub length-told : (h : Header) (samples : List Float) → lengthField (length samples) < 2 ^ 32 → wordAt (recordOf h samples) 0 ≡ lengthField (length samples)
 length-told h samples l =
     let rest = each floatBytes (measuresOf h ++ samples) in
     let start : List ℕ = 1 ∷ h .block .subdivisions ∷ h .mask ∷ [] in
-    ap (λ (b : List ℕ). wordAt b 0) (by-floats h samples ∙ append-assoc (wordBytes (23 + 4 * length samples)) start rest)
-    ∙ word-after [] (start ++ rest) (23 + 4 * length samples) l
+    ap (λ (b : List ℕ). wordAt b 0) (by-floats h samples ∙ append-assoc (wordBytes (lengthField (length samples))) start rest)
+    ∙ word-after [] (start ++ rest) (lengthField (length samples)) l
 
 pub version-told : (h : Header) (samples : List Float) → getD (recordOf h samples) 4 0 ≡ 1
 unfolding wordBytes
@@ -57,10 +61,10 @@ module _ (h : Header) (samples : List Float) (fit-measures : Fit (measuresOf h))
   fit-all (suc (suc (suc (suc zero)))) = fit-measures 4
   fit-all (suc (suc (suc (suc (suc k))))) = fit k
 
-  float-is : (k : ℕ) → k < 5 + length samples → floatAt (recordOf h samples) (7 + 4 * k) ≡ getD (measuresOf h ++ samples) k nan
+  float-is : (k : ℕ) → k < 5 + length samples → floatAt (recordOf h samples) (thresholdAt + 4 * k) ≡ getD (measuresOf h ++ samples) k nan
   unfolding wordBytes
   float-is k l =
-      ap (λ (b : List ℕ). floatAt b (7 + 4 * k)) (by-floats h samples)
+      ap (λ (b : List ℕ). floatAt b (thresholdAt + 4 * k)) (by-floats h samples)
       ∙ floats-after (startOf h (length samples)) (measuresOf h ++ samples) k fit-all (rw length-append l)
 
   pub header-back : headerOf (recordOf h samples) ≡ h
@@ -72,36 +76,36 @@ module _ (h : Header) (samples : List Float) (fit-measures : Fit (measuresOf h))
         block = record {
           base = record { x = float-is 1 (omega arith) i; y = float-is 2 (omega arith) i; z = float-is 3 (omega arith) i };
           size = float-is 4 (omega arith) i;
-          subdivisions = byte 5 i;
+          subdivisions = byte subdivisionsAt i;
         };
-        mask = byte 6 i;
+        mask = byte maskAt i;
         threshold = float-is 0 (omega arith) i;
       }
 
   pub samples-back : countOf (recordOf h samples) ≡ length samples → samplesOf (recordOf h samples) ≡ samples
   unfolding samplesOf
   samples-back e =
-      ap (listed (λ k. floatAt (recordOf h samples) (27 + 4 * k))) e
-      ∙ listed-is (λ k. floatAt (recordOf h samples) (27 + 4 * k)) samples nan
-      (λ k l. ap (floatAt (recordOf h samples)) (let q : 27 + 4 * k ≡ 7 + 4 * (5 + k) = omega arith in q) ∙ float-is (5 + k) (omega arith) ∙ getD-append-add (measuresOf h) samples k nan)
+      ap (listed (λ k. floatAt (recordOf h samples) (sampleFrom k))) e
+      ∙ listed-is (λ k. floatAt (recordOf h samples) (sampleFrom k)) samples nan
+      (λ k l. ap (floatAt (recordOf h samples)) (let q : sampleFrom k ≡ thresholdAt + 4 * (5 + k) = omega arith in q) ∙ float-is (5 + k) (omega arith) ∙ getD-append-add (measuresOf h) samples k nan)
 
 -- ---- written by parts
 
 -- the header's bytes, then those of the centre's samples, then those of the neighbours'
-pub parts-laid : (h : Header) (centre neighbours : List Float) (bytes : List ℕ) → 27 + 4 * (length centre + length neighbours) ≤ length bytes
-    → sets (sets (sets bytes 0 (startOf h (length centre + length neighbours) ++ each floatBytes (measuresOf h))) 27 (each floatBytes centre))
-    (27 + 4 * length centre) (each floatBytes neighbours)
+pub parts-laid : (h : Header) (centre neighbours : List Float) (bytes : List ℕ) → sampleFrom (length centre + length neighbours) ≤ length bytes
+    → sets (sets (sets bytes 0 (startOf h (length centre + length neighbours) ++ each floatBytes (measuresOf h))) (sampleFrom 0) (each floatBytes centre))
+    (sampleFrom (length centre)) (each floatBytes neighbours)
     ≡ laid (recordOf h (centre ++ neighbours)) bytes
 unfolding wordBytes
 parts-laid h centre neighbours bytes room =
     let head = startOf h (length centre + length neighbours) ++ each floatBytes (measuresOf h) in
     let c = each floatBytes centre in
     let n = each floatBytes neighbours in
-    let past : 27 + 4 * length centre ≡ 0 + length (head ++ c) =
-    sym (zero-add (length (head ++ c)) ∙ length-append head c ∙ ap (λ (k : ℕ). 27 + k) (length-each floatBytes 4 centre (λ x. refl))) in
+    let past : sampleFrom (length centre) ≡ 0 + length (head ++ c) =
+    sym (zero-add (length (head ++ c)) ∙ length-append head c ∙ ap (λ (k : ℕ). headerLength + k) (length-each floatBytes 4 centre (λ x. refl))) in
     let all : (head ++ c) ++ n ≡ recordOf h (centre ++ neighbours) =
     sym (by-floats h (centre ++ neighbours) ∙ simp (length-append, each-append, append-assoc)) in
-    ap (λ (l : List ℕ). sets l (27 + 4 * length centre) n) (sets-append bytes 0 head c)
+    ap (λ (l : List ℕ). sets l (sampleFrom (length centre)) n) (sets-append bytes 0 head c)
     ∙ ap (λ (k : ℕ). sets (sets bytes 0 (head ++ c)) k n) past
     ∙ sets-append bytes 0 (head ++ c) n
     ∙ ap (sets bytes 0) all
@@ -110,25 +114,25 @@ parts-laid h centre neighbours bytes room =
 -- ---- put back
 
 module _ (bytes : List ℕ) (small : Bytes bytes) (a : Accepted bytes) where
-  start-back : startOf (headerOf bytes) (length (samplesOf bytes)) ≡ take 7 bytes
+  start-back : startOf (headerOf bytes) (length (samplesOf bytes)) ≡ take thresholdAt bytes
   unfolding headerOf
   start-back =
-      let long : 27 ≤ length bytes = a .long in
-      let told : 23 + 4 * length (samplesOf bytes) ≡ wordAt bytes 0 = rw (length-samples bytes) (omega (arith, a .told, a .counted)) in
-      let three : take 3 (drop 4 bytes) ≡ 1 ∷ getD bytes 5 0 ∷ getD bytes 6 0 ∷ [] =
-      rw (drop-cons bytes 4 0 (omega arith), drop-cons bytes 5 0 (omega arith), drop-cons bytes 6 0 (omega arith), a .version) in
-      ap₂ _++_ (ap wordBytes told ∙ word-back bytes small 0 (omega arith)) (sym three) ∙ sym (take-add 4 3 bytes)
+      let long : headerLength ≤ length bytes = a .long in
+      let told : lengthField (length (samplesOf bytes)) ≡ wordAt bytes 0 = rw (length-samples bytes) (omega (arith, a .told, a .counted)) in
+      let three : take 3 (drop versionAt bytes) ≡ 1 ∷ headerOf bytes .block .subdivisions ∷ headerOf bytes .mask ∷ [] =
+      rw (drop-cons bytes versionAt 0 (omega arith), drop-cons bytes subdivisionsAt 0 (omega arith), drop-cons bytes maskAt 0 (omega arith), a .version) in
+      ap₂ _++_ (ap wordBytes told ∙ word-back bytes small 0 (omega arith)) (sym three) ∙ sym (take-add versionAt 3 bytes)
 
-  floats-are : each floatBytes (measuresOf (headerOf bytes) ++ samplesOf bytes) ≡ drop 7 bytes
+  floats-are : each floatBytes (measuresOf (headerOf bytes) ++ samplesOf bytes) ≡ drop thresholdAt bytes
   unfolding headerOf samplesOf
   floats-are =
       let count = countOf bytes in
       each-append floatBytes (measuresOf (headerOf bytes)) (samplesOf bytes)
-      ∙ ap₂ _++_ (floats-back bytes small 7 5 (omega (arith, a .long)) (measured bytes a))
-      (floats-back bytes small 27 count (omega (arith, a .counted)) (λ k l. usable-number (floatAt bytes (27 + 4 * k)) (a .usable-samples k l))
-      ∙ ap (take (4 * count)) (sym (drop-drop 20 7 bytes)))
-      ∙ sym (take-add 20 (4 * count) (drop 7 bytes))
-      ∙ take-all (20 + 4 * count) (drop 7 bytes) (rw length-drop (omega (arith, a .counted)))
+      ∙ ap₂ _++_ (floats-back bytes small thresholdAt 5 (omega (arith, a .long)) (measured bytes a))
+      (floats-back bytes small headerLength count (omega (arith, a .counted)) (λ k l. usable-number (floatAt bytes (sampleFrom k)) (a .usable-samples k l))
+      ∙ ap (take (4 * count)) (sym (drop-drop (4 * 5) thresholdAt bytes)))
+      ∙ sym (take-add (4 * 5) (4 * count) (drop thresholdAt bytes))
+      ∙ take-all (4 * 5 + 4 * count) (drop thresholdAt bytes) (rw length-drop (omega (arith, a .counted)))
 
   pub record-back : recordOf (headerOf bytes) (samplesOf bytes) ≡ bytes
-  record-back = by-floats (headerOf bytes) (samplesOf bytes) ∙ ap₂ _++_ start-back floats-are ∙ take-append-drop 7 bytes
+  record-back = by-floats (headerOf bytes) (samplesOf bytes) ∙ ap₂ _++_ start-back floats-are ∙ take-append-drop thresholdAt bytes

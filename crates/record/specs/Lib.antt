@@ -1,7 +1,8 @@
 pub mod Patterns
 pub mod Words
 pub mod Accepted
-pub mod Parts
+pub mod ReadingOrder
 pub mod Bytes
 pub mod Writable
+pub mod Reading
 pub mod RoundTrip

@@ -19,29 +19,31 @@ use Rattle.model.specs.declared.RecordRead.the-variants as RecordRead
 use Rattle.model.specs.declared.RecordWritten.the-variants as RecordWritten
 use Rattle.laws.specs.Steps.{laid}
 use Rattle.model.specs.Samples.{sampleLength}
-use Rattle.model.specs.Sides.{named, namedBelow, neighbourLength, neighboursLength}
+use Rattle.model.specs.Limits.{mostSubdivisions, mostMask, sideCount}
+use Rattle.model.specs.Sides.{named, namedBelow, neighbourLength, neighboursLength, sampleCount}
 use Rattle.model.specs.Refusals.{unless, orElse}
-use Rattle.model.specs.Star.{starFrom}
+use Rattle.model.specs.Star.{star}
 use Rattle.model.specs.Judging.{judgeMeasures, judgeMissing, sideThere, usable, judgeSamples, judgeBuffer, judgeStar}
-use Rattle.model.specs.Sides.{sampleCount}
-use Rattle.model.specs.Record.{countOf, headerOf, samplesOf, recordOf, judgeRecord, readAnswer, readRecord, writeAnswer, writeRecord}
+use Rattle.model.specs.Record.{sampleFrom, countOf, headerOf, samplesOf, recordOf, judgeRecord, readAnswer, readRecord, writeAnswer, writeRecord}
+use Rattle.grid.specs.Counts.{mostSamples, count-small}
 use Rattle.grid.specs.Shape.{Shaped}
 use Rattle.grid.specs.SideLaws.{named-below}
 use Rattle.judge.specs.First.{both-passed, passed-over}
 use Rattle.judge.specs.Passing.{star-shaped}
 use Rattle.record.specs.Words.{Bytes, Fit}
 use Rattle.record.specs.Writable.{star-parts}
-use Rattle.record.specs.Accepted.{Accepted, accepted, passes, length-samples, sample-is, samples-pass, samples-usable, count-small}
+use Rattle.record.specs.Accepted.{Accepted, passes, length-samples, sample-is, samples-pass, samples-usable}
+use Rattle.record.specs.Reading.{was-read}
 use Rattle.record.specs.Bytes.{measuresOf, length-record, length-told, version-told, header-back, samples-back, record-back}
 
 -- ---- reading then writing
 
 -- no neighbour is missing of a list that is long enough
-none-missing : (n mask held : ℕ) → mask ≤ 63 → neighboursLength n mask ≤ held → judgeMissing n mask held ≡ Passed
+none-missing : (n mask held : ℕ) → mask ≤ mostMask → neighboursLength n mask ≤ held → judgeMissing n mask held ≡ Passed
 unfolding judgeMissing
-none-missing n mask held sides h = passed-over (sideThere n mask held) 0 6 refl (λ side from l. by side l (named mask side) refl) zero-le
+none-missing n mask held sides h = passed-over (sideThere n mask held) 0 sideCount refl (λ side from l. by side l (named mask side) refl) zero-le
   where
-    by : (side : ℕ) → side < 6 → (b : Bool) → named mask side ≡ b
+    by : (side : ℕ) → side < sideCount → (b : Bool) → named mask side ≡ b
         → cond b (unless (leb ((namedBelow mask side + 1) * neighbourLength n) held) (MissingNeighbour side)) Passed ≡ Passed
     by side l true e =
         let fits : (namedBelow mask side + 1) * neighbourLength n ≤ ones mask * neighbourLength n =
@@ -51,13 +53,13 @@ none-missing n mask held sides h = passed-over (sideThere n mask held) 0 6 refl 
 
 module _ (bytes : List ℕ) (a : Accepted bytes) where
   abbrev n : ℕ
-  n = getD bytes 5 0
+  n = headerOf bytes .block .subdivisions
 
   abbrev mask : ℕ
-  mask = getD bytes 6 0
+  mask = headerOf bytes .mask
 
   star-passes : (centre neighbours : List Float) → centre ++ neighbours ≡ samplesOf bytes → length centre ≡ sampleLength n
-      → judgeStar (starFrom (headerOf bytes .block) mask (headerOf bytes .threshold) centre neighbours) ≡ Passed
+      → judgeStar (star (headerOf bytes) centre neighbours) ≡ Passed
   unfolding judgeStar headerOf
   star-passes centre neighbours whole centre-is =
       let neighbours-are : length neighbours ≡ neighboursLength n mask =
@@ -68,8 +70,8 @@ module _ (bytes : List ℕ) (a : Accepted bytes) where
       (λ k h. let l : k < countOf bytes = rw (length-samples bytes) at h in ap usable (sample-is bytes k l) ∙ a .usable-samples k l) in
       rw (
         le-leb 1 n (a .some),
-        le-leb n 16 (a .few),
-        le-leb mask 63 (a .sides),
+        le-leb n mostSubdivisions (a .few),
+        le-leb mask mostMask (a .sides),
         a .measures,
         eq-eqb (length centre) (sampleLength n) centre-is,
         none-missing n mask (length neighbours) (a .sides) (omega arith),
@@ -94,21 +96,15 @@ module _ (bytes : List ℕ) (a : Accepted bytes) where
       let centre = take (sampleLength n) (samplesOf bytes) in
       let neighbours = drop (sampleLength n) (samplesOf bytes) in
       let whole : centre ++ neighbours ≡ samplesOf bytes = take-append-drop (sampleLength n) (samplesOf bytes) in
-      let long : 27 + 4 * length (samplesOf bytes) ≡ length bytes = rw (length-samples bytes) (sym (a .counted)) in
+      let long : sampleFrom (length (samplesOf bytes)) ≡ length bytes = rw (length-samples bytes) (sym (a .counted)) in
       let centre-is : length centre ≡ sampleLength n = length-take-le (sampleLength n) (samplesOf bytes) (rw (length-samples bytes) (omega arith)) in
       rw (
         star-passes centre neighbours whole centre-is,
         whole,
-        le-leb (27 + 4 * length (samplesOf bytes)) (length out) (omega arith),
+        le-leb (sampleFrom (length (samplesOf bytes))) (length out) (omega arith),
         record-back bytes small a,
         long,
       )
-
--- a block is answered only by a record that passes
-answered : (bytes : List ℕ) (samples : List Float) (h : Header) (v : Verdict) → readAnswer bytes samples v .answer ≡ RecordRead.Block h
-    → (v ≡ Passed) × (headerOf bytes ≡ h)
-answered bytes samples h Passed e = (refl, cc)
-answered bytes samples h (Refused r) e = (cc, cc)
 
 pub read-write : (bytes : List ℕ) (samples : List Float) (out : List ℕ) (h : Header)
     → Bytes bytes → readRecord bytes samples .answer ≡ RecordRead.Block h → length bytes ≤ length out
@@ -116,29 +112,27 @@ pub read-write : (bytes : List ℕ) (samples : List Float) (out : List ℕ) (h :
     let read = readRecord bytes samples .samples in
     writeRecord h (take (sampleLength n) read) (take (neighboursLength n (h .mask)) (drop (sampleLength n) read)) out
     ≡ record { answer = RecordWritten.Bytes (length bytes); bytes = laid bytes out }
-unfolding readRecord headerOf
 read-write bytes samples out h small e room =
-    let passed = answered bytes samples h (orElse (judgeRecord bytes) (judgeBuffer (countOf bytes) (length samples))) e in
-    let a = accepted bytes (both-passed _ _ (passed .0) .0) in
+    let was = was-read bytes samples h e in
+    let a = was .whole in
     let beyond = drop (length (samplesOf bytes)) samples in
     let read = readRecord bytes samples .samples in
-    let read-is : read ≡ samplesOf bytes ++ beyond = ap (λ (v : Verdict). readAnswer bytes samples v .samples) (passed .0) in
-    let c = sampleLength (getD bytes 5 0) in
-    let k = neighboursLength (getD bytes 5 0) (getD bytes 6 0) in
+    let c = sampleLength (headerOf bytes .block .subdivisions) in
+    let k = neighboursLength (headerOf bytes .block .subdivisions) (headerOf bytes .mask) in
     subst
     (λ (h : Header).
     writeRecord h (take (sampleLength (h .block .subdivisions)) read)
     (take (neighboursLength (h .block .subdivisions) (h .mask)) (drop (sampleLength (h .block .subdivisions)) read)) out
     ≡ record { answer = RecordWritten.Bytes (length bytes); bytes = laid bytes out })
-    (passed .1)
+    (was .header-is)
     (ap₂ (λ (centre neighbours : List Float). writeRecord (headerOf bytes) centre neighbours out)
-    (ap (take c) read-is ∙ centre-part bytes a beyond) (ap (λ (r : List Float). take k (drop c r)) read-is ∙ neighbours-part bytes a beyond)
+    (ap (take c) (was .filled) ∙ centre-part bytes a beyond) (ap (λ (r : List Float). take k (drop c r)) (was .filled) ∙ neighbours-part bytes a beyond)
     ∙ written bytes a small out room)
 
 -- ---- writing then reading
 
 module _ (h : Header) (centre neighbours : List Float) (fit-measures : Fit (measuresOf h)) (fit : Fit (centre ++ neighbours))
-    (passed : judgeStar (starFrom (h .block) (h .mask) (h .threshold) centre neighbours) ≡ Passed) (shaped : Shaped (starFrom (h .block) (h .mask) (h .threshold) centre neighbours)) where
+    (passed : judgeStar (star h centre neighbours) ≡ Passed) (shaped : Shaped (star h centre neighbours)) where
   abbrev samples : List Float
   samples = centre ++ neighbours
 
@@ -148,11 +142,11 @@ module _ (h : Header) (centre neighbours : List Float) (fit-measures : Fit (meas
   header-is : headerOf bytes ≡ h
   header-is = header-back h samples fit-measures fit
 
-  n-is : getD bytes 5 0 ≡ h .block .subdivisions
+  n-is : headerOf bytes .block .subdivisions ≡ h .block .subdivisions
   unfolding headerOf
   n-is = ap (λ (k : Header). k .block .subdivisions) header-is
 
-  mask-is : getD bytes 6 0 ≡ h .mask
+  mask-is : headerOf bytes .mask ≡ h .mask
   unfolding headerOf
   mask-is = ap (λ (k : Header). k .mask) header-is
 
@@ -167,8 +161,8 @@ module _ (h : Header) (centre neighbours : List Float) (fit-measures : Fit (meas
   read-back =
       let n = h .block .subdivisions in
       let long = length-record h samples in
-      let parts = star-parts (starFrom (h .block) (h .mask) (h .threshold) centre neighbours) passed in
-      let few : length samples ≤ 297297 = rw (← count-is, n-is, mask-is) (count-small n (h .mask) (shaped .few) (shaped .sides)) in
+      let parts = star-parts (star h centre neighbours) passed in
+      let few : length samples ≤ mostSamples = rw (← count-is, n-is, mask-is) (count-small n (h .mask) (shaped .few) (shaped .sides)) in
       record {
         long = omega arith;
         told = length-told h samples (omega arith) ∙ rw long (omega arith);
@@ -185,7 +179,7 @@ module _ (h : Header) (centre neighbours : List Float) (fit-measures : Fit (meas
 
 -- bytes are answered only for a block that passes
 wrote : (h : Header) (samples : List Float) (out : List ℕ) (k : ℕ) (v : Verdict) → writeAnswer h samples out v .answer ≡ RecordWritten.Bytes k
-    → (v ≡ Passed) × (27 + 4 * length samples ≡ k)
+    → (v ≡ Passed) × (sampleFrom (length samples) ≡ k)
 wrote h samples out k Passed e = (refl, cc)
 wrote h samples out k (Refused r) e = (cc, cc)
 
@@ -196,8 +190,8 @@ pub write-read : (h : Header) (centre neighbours : List Float) (out : List ℕ) 
     ≡ record { answer = RecordRead.Block h; samples = laid (centre ++ neighbours) samples }
 unfolding readRecord writeRecord
 write-read h centre neighbours out samples k fit-measures fit e room =
-    let s = starFrom (h .block) (h .mask) (h .threshold) centre neighbours in
-    let written = wrote h (centre ++ neighbours) out k (orElse (judgeStar s) (judgeBuffer (27 + 4 * length (centre ++ neighbours)) (length out))) e in
+    let s = star h centre neighbours in
+    let written = wrote h (centre ++ neighbours) out k (orElse (judgeStar s) (judgeBuffer (sampleFrom (length (centre ++ neighbours))) (length out))) e in
     let passed = both-passed (judgeStar s) _ (written .0) .0 in
     let shaped = star-shaped s passed in
     let bytes = recordOf h (centre ++ neighbours) in

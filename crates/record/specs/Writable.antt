@@ -10,12 +10,14 @@ use lib.ListN.{length, getD, length-append, List·getD-append}
 use lib.Seq.{getD-append-add}
 use Rattle.model.specs.declared.Header.{Header}
 use Rattle.model.specs.declared.Verdict.the-variants.{Passed}
-use Rattle.model.specs.Star.{Star, starFrom, subdivisions}
+use Rattle.model.specs.Limits.{mostSubdivisions}
+use Rattle.model.specs.Star.{Star, star, subdivisions}
 use Rattle.model.specs.Judging.{judgeSubdivisions, judgeMask, judgeMeasures, judgeCentre, judgeMissing, judgeTooLong, judgeSamples, judgeStar}
 use Rattle.judge.specs.First.{both-passed}
 use Rattle.judge.specs.Passing.{star-shaped}
 use Rattle.record.specs.Words.{Numbers, usable-number}
-use Rattle.record.specs.Accepted.{count-small, measure-number, samples-usable}
+use Rattle.grid.specs.Counts.{mostSamples, count-small}
+use Rattle.record.specs.Accepted.{measure-number, samples-usable}
 use Rattle.record.specs.Bytes.{measuresOf}
 
 pub star-parts : (s : Star) → judgeStar s ≡ Passed → (judgeMeasures (s .block) (s .threshold) ≡ Passed) × (judgeSamples (s .centre ++ s .neighbours) ≡ Passed)
@@ -31,8 +33,8 @@ star-parts s passed =
     (past-3 .0, both-passed (judgeTooLong n (s .mask) held) (judgeSamples (s .centre ++ s .neighbours)) past-5 .1)
 
 pub record Writable (h : Header) (centre neighbours : List Float) : Type 0 where
-  pub few : h .block .subdivisions ≤ 16
-  pub counted : length centre + length neighbours ≤ 297297
+  pub few : h .block .subdivisions ≤ mostSubdivisions
+  pub counted : length centre + length neighbours ≤ mostSamples
   pub measures : Numbers (measuresOf h)
   pub centre-numbers : Numbers centre
   pub neighbour-numbers : Numbers neighbours
@@ -45,10 +47,10 @@ measures-are h e (suc (suc (suc zero))) l = measure-number (h .block) (h .thresh
 measures-are h e (suc (suc (suc (suc zero)))) l = measure-number (h .block) (h .threshold) 4 e
 measures-are h e (suc (suc (suc (suc (suc k))))) l = absurd (omega arith)
 
-pub writable : (h : Header) (centre neighbours : List Float) → judgeStar (starFrom (h .block) (h .mask) (h .threshold) centre neighbours) ≡ Passed
+pub writable : (h : Header) (centre neighbours : List Float) → judgeStar (star h centre neighbours) ≡ Passed
     → Writable h centre neighbours
 writable h centre neighbours passed =
-    let s = starFrom (h .block) (h .mask) (h .threshold) centre neighbours in
+    let s = star h centre neighbours in
     let shaped = star-shaped s passed in
     let parts = star-parts s passed in
     let number : (k : ℕ) → k < length centre + length neighbours → T (not (isNan (getD (centre ++ neighbours) k nan))) =

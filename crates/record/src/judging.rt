@@ -4,20 +4,23 @@ ghost use Prim.Native.Nat.{_+_, _*_, _≤_, _<_};
 ghost use lib.ListN.{length};
 ghost use Rattle.model.specs.Refusals.{first};
 ghost use Rattle.model.specs.Judging.{usable, usableSize, measureUsable, judgeMeasures};
-ghost use Rattle.model.specs.Sides.{sampleCount};
-ghost use Rattle.model.specs.Record.{floatAt, headerOf, judgeLength, judgeRecord};
-ghost use Rattle.record.specs.Parts.{HeadPassed, sampleUsableAt, judgeHead, judgeBody};
+ghost use Rattle.model.specs.Record.{headerLength, sampleFrom, floatAt, headerOf, judgeLength, judgeRecord};
+ghost use Rattle.record.specs.ReadingOrder.{HeadPassed, sampleUsableAt, judgeHead, judgeBody};
+use crate::fields::BASE_AT;
+use crate::fields::HEADER_LENGTH;
+use crate::fields::SIZE_AT;
+use crate::fields::THRESHOLD_AT;
+use crate::fields::VERSION_AT;
+use crate::fields::mask_of;
+use crate::fields::sample_from;
+use crate::fields::subdivisions_of;
 use crate::words::word_at;
-use grid::transition_sides::count;
-use grid::voxel_blocks::sample_length;
+use grid::transition_sides::sample_count;
 use judge::judge_mask;
 use judge::judge_subdivisions;
 use judge::unless;
 use model::Refusal;
 use model::Verdict;
-
-// The bytes before the samples.
-pub const HEADER: usize = 27;
 
 // The bit patterns of 1,048,576 and of 1/1024, and the weight of the sign in a pattern.
 const LIMIT: u32 = 0x4980_0000;
@@ -46,7 +49,7 @@ fn is_usable_size_at(bytes: &[u8], at: usize) -> bool
 fn judge_length(bytes: &[u8]) -> Verdict
     ensures { λ r. ⌜ r ≡ judgeLength (now (bytes .entry)) ⌝ }
 {
-    if bytes.len() < HEADER {
+    if bytes.len() < HEADER_LENGTH {
         return Verdict::Refused(Refusal::RecordLength);
     }
     unless(
@@ -57,20 +60,20 @@ fn judge_length(bytes: &[u8]) -> Verdict
 
 // Base x, y and z are 0 to 2, size is 3 and threshold 4.
 fn is_measure_usable(bytes: &[u8], which: usize) -> bool
-    requires { ⌜ (27 ≤ length (now bytes)) × (which < 5) ⌝ }
+    requires { ⌜ (headerLength ≤ length (now bytes)) × (which < 5) ⌝ }
     ensures { λ r. ⌜ r ≡ measureUsable (headerOf (now (bytes .entry)) .block) (headerOf (now (bytes .entry)) .threshold) which ⌝ }
 {
     if which == 3 {
-        return is_usable_size_at(bytes, 23);
+        return is_usable_size_at(bytes, SIZE_AT);
     }
     if which == 4 {
-        return is_usable_at(bytes, 7);
+        return is_usable_at(bytes, THRESHOLD_AT);
     }
-    is_usable_at(bytes, 11 + 4 * which)
+    is_usable_at(bytes, BASE_AT + 4 * which)
 }
 
 fn judge_measures(bytes: &[u8]) -> Verdict
-    requires { ⌜ 27 ≤ length (now bytes) ⌝ }
+    requires { ⌜ headerLength ≤ length (now bytes) ⌝ }
     ensures { λ r. ⌜ r ≡ judgeMeasures (headerOf (now (bytes .entry)) .block) (headerOf (now (bytes .entry)) .threshold) ⌝ }
 {
     for which in 0..5 {
@@ -83,19 +86,19 @@ fn judge_measures(bytes: &[u8]) -> Verdict
 
 // 12, 1, 2 and 3.
 fn judge_head(bytes: &[u8]) -> Verdict
-    requires { ⌜ 27 ≤ length (now bytes) ⌝ }
+    requires { ⌜ headerLength ≤ length (now bytes) ⌝ }
     ensures { λ r. ⌜ r ≡ judgeHead (now (bytes .entry)) ⌝ }
 {
-    let version = bytes[4];
+    let version = bytes[VERSION_AT];
     let known = unless(version == 1, Refusal::Version(version as usize));
     if let Verdict::Refused(r) = known {
         return Verdict::Refused(r);
     }
-    let subdivisions = judge_subdivisions(bytes[5] as usize);
+    let subdivisions = judge_subdivisions(subdivisions_of(bytes));
     if let Verdict::Refused(r) = subdivisions {
         return Verdict::Refused(r);
     }
-    let sides = judge_mask(bytes[6]);
+    let sides = judge_mask(mask_of(bytes));
     if let Verdict::Refused(r) = sides {
         return Verdict::Refused(r);
     }
@@ -103,11 +106,11 @@ fn judge_head(bytes: &[u8]) -> Verdict
 }
 
 fn judge_samples(bytes: &[u8], count: usize) -> Verdict
-    requires { ⌜ length (now bytes) ≡ 27 + 4 * count ⌝ }
+    requires { ⌜ length (now bytes) ≡ sampleFrom count ⌝ }
     ensures { λ r. ⌜ r ≡ first (sampleUsableAt (now (bytes .entry))) count ⌝ }
 {
     for k in 0..count {
-        if !is_usable_at(bytes, HEADER + 4 * k) {
+        if !is_usable_at(bytes, sample_from(k)) {
             return Verdict::Refused(Refusal::BadSample(k));
         }
     }
@@ -119,8 +122,8 @@ fn judge_body(bytes: &[u8]) -> Verdict
     requires { ⌜ HeadPassed (now bytes) ⌝ }
     ensures { λ r. ⌜ r ≡ judgeBody (now (bytes .entry)) ⌝ }
 {
-    let count = sample_count(bytes[5] as usize, bytes[6]);
-    if bytes.len() - HEADER != 4 * count {
+    let count = sample_count(subdivisions_of(bytes), mask_of(bytes));
+    if bytes.len() - HEADER_LENGTH != 4 * count {
         return Verdict::Refused(Refusal::SampleCount(count));
     }
     judge_samples(bytes, count)

@@ -5,46 +5,22 @@ ghost use lib.ListN.{length};
 ghost use Rattle.laws.specs.Steps.{laid};
 ghost use Rattle.model.specs.Refusals.{orElse};
 ghost use Rattle.model.specs.Judging.{judgeBuffer};
-ghost use Rattle.model.specs.Record.{headerOf, countOf, samplesOf, judgeRecord, readRecord};
+ghost use Rattle.model.specs.Record.{countOf, samplesOf, judgeRecord, readRecord};
 ghost use Rattle.record.specs.Accepted.{Accepted};
-use crate::judging::HEADER;
+use crate::fields::count_of;
+use crate::fields::header_of;
+use crate::fields::sample_of;
 use crate::judging::judge_record;
-use crate::words::float_at;
 use judge::judge_buffer;
-use model::Block;
-use model::Header;
 use model::RecordRead;
-use model::Vector;
 use model::Verdict;
-
-fn header_of(bytes: &[u8]) -> Header
-    requires { ⌜ Accepted (now bytes) ⌝ }
-    ensures { λ r. ⌜ r ≡ headerOf (now (bytes .entry)) ⌝ }
-{
-    let base = Vector {
-        x: float_at(bytes, 11),
-        y: float_at(bytes, 15),
-        z: float_at(bytes, 19),
-    };
-    let block = Block {
-        base,
-        size: float_at(bytes, 23),
-        subdivisions: bytes[5] as usize,
-    };
-    Header {
-        block,
-        mask: bytes[6],
-        threshold: float_at(bytes, 7),
-    }
-}
 
 fn fill_samples(bytes: &[u8], samples: &mut [f32])
     requires { ⌜ Accepted (now bytes) × (countOf (now bytes) ≤ length (now samples)) ⌝ }
     ensures { λ _. ⌜ now (samples .exit) ≡ laid (samplesOf (now (bytes .entry))) (now (samples .entry)) ⌝ }
 {
-    let count = (bytes.len() - HEADER) / 4;
-    for k in 0..count {
-        samples[k] = float_at(bytes, HEADER + 4 * k);
+    for k in 0..count_of(bytes) {
+        samples[k] = sample_of(bytes, k);
     }
 }
 
@@ -56,7 +32,7 @@ fn judge_reading(bytes: &[u8], held: usize) -> Verdict
     if let Verdict::Refused(r) = whole {
         return Verdict::Refused(r);
     }
-    judge_buffer((bytes.len() - HEADER) / 4, held)
+    judge_buffer(count_of(bytes), held)
 }
 
 pub fn read_record(bytes: &[u8], samples: &mut [f32]) -> RecordRead

@@ -6,27 +6,24 @@ ghost use lib.ListN.{length};
 ghost use lib.Seq.{sets};
 ghost use Rattle.laws.specs.Steps.{each};
 ghost use Rattle.model.specs.Refusals.{orElse};
-ghost use Rattle.model.specs.Star.{starFrom};
+ghost use Rattle.grid.specs.Counts.{mostSamples};
+ghost use Rattle.model.specs.Star.{star};
 ghost use Rattle.model.specs.Judging.{judgeBuffer, judgeStar};
-ghost use Rattle.model.specs.Record.{wordBytes, floatBytes, writeRecord};
+ghost use Rattle.model.specs.Record.{headerLength, sampleFrom, floatBytes, writeRecord};
 ghost use Rattle.record.specs.Words.{Numbers};
 ghost use Rattle.record.specs.Bytes.{measuresOf, startOf};
-use crate::judging::HEADER;
+use crate::fields::HEADER_LENGTH;
+use crate::fields::MASK_AT;
+use crate::fields::SUBDIVISIONS_AT;
+use crate::fields::THRESHOLD_AT;
+use crate::fields::VERSION_AT;
+use crate::fields::sample_from;
+use crate::words::put_word;
 use judge::judge_buffer;
 use judge::judge_star;
 use model::Header;
 use model::RecordWritten;
 use model::Verdict;
-
-fn put_word(bytes: &mut [u8], at: usize, word: u32)
-    requires { ⌜ at + 4 ≤ length (now bytes) ⌝ }
-    ensures { λ _. ⌜ now (bytes .exit) ≡ sets (now (bytes .entry)) at (wordBytes word) ⌝ }
-{
-    bytes[at] = (word / 16777216 % 256) as u8;
-    bytes[at + 1] = (word / 65536 % 256) as u8;
-    bytes[at + 2] = (word / 256 % 256) as u8;
-    bytes[at + 3] = (word % 256) as u8;
-}
 
 // The floats from a place on, one after another.
 fn put_floats(bytes: &mut [u8], at: usize, floats: &[f32])
@@ -40,43 +37,37 @@ fn put_floats(bytes: &mut [u8], at: usize, floats: &[f32])
 
 // Length, version, n and mask.
 fn put_start(bytes: &mut [u8], header: Header, count: usize)
-    requires { ⌜ (27 ≤ length (now bytes)) × ((header .block .subdivisions < 256) × (count ≤ 297297)) ⌝ }
+    requires { ⌜ (headerLength ≤ length (now bytes)) × ((header .block .subdivisions < 256) × (count ≤ mostSamples)) ⌝ }
     ensures { λ _. ⌜ now (bytes .exit) ≡ sets (now (bytes .entry)) 0 (startOf header count) ⌝ }
 {
     let n = header.block.subdivisions as u8;
-    put_word(bytes, 0, (HEADER - 4 + 4 * count) as u32);
-    bytes[4] = 1;
-    bytes[5] = n;
-    bytes[6] = header.mask;
+    put_word(bytes, 0, (HEADER_LENGTH - 4 + 4 * count) as u32);
+    bytes[VERSION_AT] = 1;
+    bytes[SUBDIVISIONS_AT] = n;
+    bytes[MASK_AT] = header.mask;
 }
 
 fn put_header(bytes: &mut [u8], header: Header, count: usize)
-    requires { ⌜ (27 ≤ length (now bytes)) × ((header .block .subdivisions < 256) × ((count ≤ 297297) × Numbers (measuresOf header))) ⌝ }
+    requires { ⌜ (headerLength ≤ length (now bytes)) × ((header .block .subdivisions < 256) × ((count ≤ mostSamples) × Numbers (measuresOf header))) ⌝ }
     ensures { λ _. ⌜ now (bytes .exit) ≡ sets (now (bytes .entry)) 0 (startOf header count ++ each floatBytes (measuresOf header)) ⌝ }
 {
     put_start(bytes, header, count);
     let block = header.block;
     let base = block.base;
     let measures = [header.threshold, base.x, base.y, base.z, block.size];
-    put_floats(bytes, 7, &measures);
+    put_floats(bytes, THRESHOLD_AT, &measures);
 }
 
 // 1 to 7, and 14.
 fn judge_writing(header: Header, centre: &[f32], neighbours: &[f32], held: usize) -> Verdict
-    ensures { λ r. ⌜ r ≡ orElse (judgeStar (starFrom (header .block) (header .mask) (header .threshold) (now (centre .entry)) (now (neighbours .entry))))
-        (judgeBuffer (27 + 4 * length (now (centre .entry) ++ now (neighbours .entry))) held) ⌝ }
+    ensures { λ r. ⌜ r ≡ orElse (judgeStar (star header (now (centre .entry)) (now (neighbours .entry))))
+        (judgeBuffer (sampleFrom (length (now (centre .entry) ++ now (neighbours .entry)))) held) ⌝ }
 {
-    let whole = judge_star(
-        header.block,
-        header.mask,
-        header.threshold,
-        centre,
-        neighbours,
-    );
+    let whole = judge_star(header, centre, neighbours);
     if let Verdict::Refused(r) = whole {
         return Verdict::Refused(r);
     }
-    judge_buffer(HEADER + 4 * (centre.len() + neighbours.len()), held)
+    judge_buffer(sample_from(centre.len() + neighbours.len()), held)
 }
 
 pub fn write_record(
@@ -93,7 +84,7 @@ pub fn write_record(
     }
     let count = centre.len() + neighbours.len();
     put_header(bytes, header, count);
-    put_floats(bytes, HEADER, centre);
-    put_floats(bytes, HEADER + 4 * centre.len(), neighbours);
-    RecordWritten::Bytes(HEADER + 4 * count)
+    put_floats(bytes, sample_from(0), centre);
+    put_floats(bytes, sample_from(centre.len()), neighbours);
+    RecordWritten::Bytes(sample_from(count))
 }

@@ -8,9 +8,9 @@ use judge::numbers_of;
 use model::Header;
 use model::RecordRead;
 use record::reader::read_record;
-use viewer::sirveshan_blank;
-use viewer::sirveshan_sample;
-use viewer::sirveshan_subdivisions;
+use viewer::blank;
+use viewer::sample;
+use viewer::subdivisions;
 
 // The places lent at most.
 const ROOM: usize = 8192;
@@ -96,7 +96,7 @@ fn point_agrees(vector: &[u8], at: usize, src: &[u8]) -> bool
     let x = coordinate(word(vector, at));
     let y = coordinate(word(vector, at + 4));
     let z = coordinate(word(vector, at + 8));
-    let found = sirveshan_sample(src, x, y, z);
+    let found = sample(src, x, y, z);
     found % 4294967296 == word(vector, at + 12) as u64
         && found / 4294967296 == word(vector, at + 16) as u64
 }
@@ -113,8 +113,7 @@ fn points_agree(vector: &[u8], from: usize, points: usize, src: &[u8]) -> bool
 }
 
 fn calls_agree(vector: &[u8], src: &[u8]) -> bool {
-    sirveshan_subdivisions(src) == word(vector, 56) as u64
-        && sirveshan_blank(src) == word(vector, 60) as u64
+    subdivisions(src) == word(vector, 56) as u64 && blank(src) == word(vector, 60) as u64
 }
 
 fn read_agrees(vector: &[u8], samples: &mut [f32]) -> bool

@@ -23,7 +23,7 @@ use model::Header;
 use model::Numbers;
 use model::RecordRead;
 use model::Vector;
-use record::judging::HEADER;
+use record::fields::HEADER_LENGTH;
 
 fn numbers_of(extraction: Extraction) -> Numbers {
     match extraction {
@@ -61,9 +61,7 @@ fn mesh_agrees(
         return false;
     }
     let extraction = algorithm::extract(
-        header.block,
-        header.mask,
-        header.threshold,
+        header,
         centre,
         neighbours,
         &mut store[0..places],
@@ -107,10 +105,10 @@ fn read_agrees(
     triangles: &mut [u32],
 ) -> bool {
     let src = part(vector, 1);
-    if src.len() < HEADER {
+    if src.len() < HEADER_LENGTH {
         return false;
     }
-    let read = &src[HEADER..];
+    let read = &src[HEADER_LENGTH..];
     if !floats_agree(samples, read) {
         return false;
     }

@@ -2,9 +2,9 @@
 use mathlib.Core.Path.{_≡_}
 use contract.Lifetimes.{Lfts}
 use Rattle.model.specs.Pinned.{pinned}
-use Rattle.viewer.proofs.sirveshan_subdivisions.Reads as subdivisions
-use Rattle.viewer.proofs.sirveshan_blank.Reads as blank
-use Rattle.viewer.proofs.sirveshan_sample.Reads as sample
+use Rattle.viewer.proofs.subdivisions.Reads as subdivisions
+use Rattle.viewer.proofs.blank.Reads as blank
+use Rattle.viewer.proofs.sample.Reads as sample
 
 pub subdivisions-pinned : (κs : Lfts 1) (a : _) (r r′ : _) (e e′ : _) → subdivisions.Learnt κs a r e → subdivisions.Learnt κs a r′ e′ → r ≡ r′
 subdivisions-pinned κs a r r′ e e′ h k = pinned h k

@@ -1,3 +1,4 @@
+-- `count` is safe and ends: each turn leaves one less.
 use borrow.Author.Needs.{needs}
 use Rattle.record_test.proofs.count.Statement.{statement}
 use Rattle.record_test.proofs.count.Tie as tie

@@ -1,16 +1,15 @@
 -- `count_inside` meets its contract. The loop's invariant: so many of the samples passed lie inside.
-use Prim.Native.Nat.{ℕ, _+_, _-_, _*_, _≤_, _<_}
-use mathlib.Core.Path.{_≡_, refl, sym, ap₂, _∙_}
+use Prim.Native.Nat.{ℕ, _+_, _-_, _≤_}
+use mathlib.Core.Path.{_≡_, refl, ap, ap₂, _∙_}
 use mathlib.Core.List.{List}
 use native.Mathlib.Numerals.{add-one}
 use native.Mathlib.Omega.{arith}
 use lib.Ieee.{nan}
 use lib.ListN.{getD}
+use Rattle.model.specs.declared.Header.{Header}
 use Rattle.laws.specs.Steps.{total}
 use Rattle.model.specs.Formulas.{insideBit}
-use Rattle.model.specs.Record.{floatAt, countOf, headerOf, samplesOf}
-use Rattle.record.specs.Words.{usable-number}
-use Rattle.record.specs.Accepted.{measured, sample-is}
+use Rattle.model.specs.Record.{headerOf, samplesOf}
 use Rattle.viewer.proofs.count_inside.Statement.{statement}
 use Rattle.viewer.proofs.count_inside.Tie as tie
 
@@ -24,26 +23,16 @@ Inv-loop src points threshold insides₀ k₀ insides k = (k ≤ points) × ((in
 abbrev μ-loop : tie.MeasureT-loop
 μ-loop src points threshold insides₀ k₀ insides k = points - k
 
-float-at-requires : tie.Need-float-at-requires Inv-loop μ-loop
-float-at-requires c κs = (omega arith, measured _ (c .before .pre .0) 0 (omega arith))
+header-of-requires : tie.Need-header-of-requires Inv-loop μ-loop
+header-of-requires c κs = c .before .pre .0
 
 loop-holds : tie.Need-loop-holds Inv-loop μ-loop
 loop-holds c = (omega arith, (omega arith, refl))
 
-mul-float-at : tie.Need-mul-float-at Inv-loop μ-loop
-mul-float-at c = omega arith
-
-add-float-at : tie.Need-add-float-at Inv-loop μ-loop
-add-float-at c = omega arith
-
-float-at-requires-2 : tie.Need-float-at-requires-2 Inv-loop μ-loop
-float-at-requires-2 c κs =
+sample-of-requires : tie.Need-sample-of-requires Inv-loop μ-loop
+sample-of-requires c κs =
     let start = c .before .before .before .before in
-    let k = c .before .loop .k in
-    let here : k < countOf (start .args .src .now) = omega arith in (
-      omega (arith, start .pre .0 .counted),
-      usable-number (floatAt (start .args .src .now) (27 + 4 * k)) (start .pre .0 .usable-samples k here),
-    )
+    (start .pre .0, omega (arith, start .pre .1))
 
 inside-bit-requires : tie.Need-inside-bit-requires Inv-loop μ-loop
 inside-bit-requires c κs = tt
@@ -58,16 +47,13 @@ loop-less : tie.Need-loop-less Inv-loop μ-loop
 loop-less c = omega arith
 
 loop-again : tie.Need-loop-again Inv-loop μ-loop
-unfolding headerOf
 loop-again c =
-    let start = c .before .before .before .before .before .before in
-    let bytes = start .args .src .now in
-    let turn = c .before .before .before .loop in
-    let here : turn .k < countOf bytes = omega arith in
-    let one : c .inside-bit .result ≡ bit bytes (turn .k) =
-    c .inside-bit .ensures .0
-    ∙ ap₂ insideBit (c .before .before .before .before .float-at .ensures) (c .before .float-at2 .ensures ∙ sym (sample-is bytes (turn .k) here)) in
-    (omega arith, (omega arith, rw add-one (ap₂ _+_ (turn .inv .1 .1) one)))
+    let turn = c .before .before .before in
+    let read = turn .before in
+    let bytes = read .before .before .args .src .now in
+    let one : c .inside-bit .result ≡ bit bytes (turn .loop .k) =
+    c .inside-bit .ensures .0 ∙ ap₂ insideBit (ap (λ (h : Header). h .threshold) (read .header-of .ensures)) (c .before .sample-of .ensures) in
+    (omega arith, (omega arith, rw add-one (ap₂ _+_ (turn .loop .inv .1 .1) one)))
 
 returns : tie.Need-returns Inv-loop μ-loop
 returns c =
@@ -80,11 +66,9 @@ count-inside-spec =
     (tie.spec
     Inv-loop
     μ-loop
-    float-at-requires
+    header-of-requires
     loop-holds
-    mul-float-at
-    add-float-at
-    float-at-requires-2
+    sample-of-requires
     inside-bit-requires
     add-insides
     add-k

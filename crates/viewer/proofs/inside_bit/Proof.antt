@@ -1,3 +1,4 @@
+-- `inside_bit` meets its contract, case by case.
 use mathlib.Core.Path.{refl, sym, _∙_}
 use borrow.Author.Needs.{needs}
 use Rattle.viewer.proofs.inside_bit.Statement.{statement}

@@ -1,10 +1,11 @@
+-- `packed_refusal` meets its contract: a refusal's number is at most 15, so the sum fits.
 use Prim.Native.Nat.{ℕ, _+_}
 use mathlib.Core.Path.{_≡_, ap}
 use native.Mathlib.Omega.{arith}
 use borrow.Author.Needs.{needs}
 use Rattle.model.specs.declared.Numbers.{Numbers}
 use Rattle.model.specs.Refusals.{numbersOf}
-use Rattle.viewer.specs.Answers.{number-small}
+use Rattle.viewer.specs.Packed.{number-small}
 use Rattle.viewer.proofs.packed_refusal.Statement.{statement}
 use Rattle.viewer.proofs.packed_refusal.Tie as tie
 

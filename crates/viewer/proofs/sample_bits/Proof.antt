@@ -1,22 +1,22 @@
-use Prim.Native.Nat.{ℕ, _+_, _*_, _<_}
+-- `sample_bits` meets its contract: at most one step outside the sample's bits are read at the point's place, farther out there are none.
+use Prim.Native.Nat.{ℕ, _+_, _<_}
 use mathlib.Core.Path.{_≡_, ap, _∙_}
 use mathlib.Core.Bool.{false}
 use native.Mathlib.Omega.{arith}
 use borrow.Author.Needs.{needs}
 use borrow.Author.Tests.{lt-leb}
+use lib.Ieee.{nan, binary32, toBits}
 use lib.ListN.{getD}
-use Rattle.model.specs.Samples.{placeOf, outside, sampled}
-use Rattle.model.specs.Record.{wordAt, countOf, samplesOf}
+use Rattle.model.specs.Samples.{outside, sampled, sampleLength, readingAt}
+use Rattle.model.specs.Record.{headerOf, samplesOf}
+use Rattle.model.specs.Viewer.{sampleBits}
 use Rattle.grid.specs.Places.{sum-sampled}
-use Rattle.viewer.specs.Answers.{point-bits, never-bits}
+use Rattle.viewer.specs.Packed.{point-bits, never-bits}
 use Rattle.viewer.proofs.sample_bits.Statement.{statement}
 use Rattle.viewer.proofs.sample_bits.Tie as tie
 
-shared-slice-read-n : tie.Need-shared-slice-read-n
-shared-slice-read-n c = search needs
-
-cast-n : tie.Need-cast-n
-cast-n c = search needs
+subdivisions-of-requires : tie.Need-subdivisions-of-requires
+subdivisions-of-requires c κs = search needs
 
 outside-by-requires : tie.Need-outside-by-requires
 outside-by-requires c κs = search needs
@@ -35,18 +35,17 @@ add-steps-2 c = search needs
 
 place-requires : tie.Need-place-requires
 place-requires c κs =
-    let start = c .before .before .before .before .before .before in
+    let read = c .before .before .before .before in
+    let start = read .before .before in
     let args = start .args in
-    (omega (arith, start .pre .few), sum-sampled (getD (args .src .now) 5 0) (args .x) (args .y) (args .z) (omega arith))
+    (omega (arith, start .pre .few, read .subdivisions-of .ensures), sum-sampled (read .subdivisions-of .result) (args .x) (args .y) (args .z) (omega arith))
 
-mul-word-at : tie.Need-mul-word-at
-mul-word-at c = search needs
-
-add-word-at : tie.Need-add-word-at
-add-word-at c = search needs
-
-word-at-requires : tie.Need-word-at-requires
-word-at-requires c κs = search needs
+sample-bits-of-requires : tie.Need-sample-bits-of-requires
+sample-bits-of-requires c κs =
+    let read = c .before .before .before .before .before in
+    let start = read .before .before in
+    let in-centre : c .place .result < sampleLength (headerOf (start .args .src .now) .block .subdivisions) = rw (read .subdivisions-of .ensures) at (c .place .ensures .1) in
+    (start .pre, omega arith)
 
 cast-result : tie.Need-cast-result
 cast-result c = search needs
@@ -56,39 +55,40 @@ packed-refusal-requires c κs = search needs
 
 returns : tie.Need-returns
 returns c =
-    let start = c .before .before .before .before .before .before .before .before in
-    let args = start .args in
-    let bytes = args .src .now in
-    let n = getD bytes 5 0 in
+    let read = c .before .before .before .before .before .before in
+    let args = read .before .before .args in
+    let samples = samplesOf (args .src .now) in
+    let n = read .subdivisions-of .result in
     let is-sampled = sum-sampled n (args .x) (args .y) (args .z) (omega (arith, c .before .before .if1 .taken)) in
-    let in-centre : placeOf n (args .x) (args .y) (args .z) < countOf bytes = omega (arith, c .before .place .ensures) in
-    c .word-at .ensures
-    ∙ ap (λ (k : ℕ). wordAt bytes (27 + 4 * k)) (c .before .place .ensures .0)
-    ∙ point-bits bytes (λ k. c .before .before .before .before .before .before .shared-slice-known2 .given k .fits) (start .pre) n (args .x) (args .y) (args .z) is-sampled in-centre
+    c .sample-bits-of .ensures
+    ∙ ap (λ (k : ℕ). toBits binary32 (getD samples k nan)) (c .before .place .ensures .0)
+    ∙ point-bits n samples (args .x) (args .y) (args .z) is-sampled
+    ∙ ap (λ (n : ℕ). sampleBits (readingAt n samples (args .x) (args .y) (args .z))) (read .subdivisions-of .ensures)
 
 returns-2 : tie.Need-returns-2
 unfolding sampled
 returns-2 c =
-    let args = c .before .before .before .before .before .before .before .args in
-    let n = getD (args .src .now) 5 0 in
+    let read = c .before .before .before .before .before in
+    let args = read .before .before .args in
+    let samples = samplesOf (args .src .now) in
+    let n = read .subdivisions-of .result in
     let far : sampled n (args .x) (args .y) (args .z) ≡ false = lt-leb (outside n (args .x) + outside n (args .y) + outside n (args .z)) 1 (omega (arith, c .before .if1 .left)) in
-    c .packed-refusal .ensures ∙ never-bits n (samplesOf (args .src .now)) (args .x) (args .y) (args .z) far
+    c .packed-refusal .ensures
+    ∙ never-bits n samples (args .x) (args .y) (args .z) far
+    ∙ ap (λ (n : ℕ). sampleBits (readingAt n samples (args .x) (args .y) (args .z))) (read .subdivisions-of .ensures)
 
 pub sample-bits-spec : {M : Type 1} → statement M
 sample-bits-spec =
     tie.close
     (tie.spec
-    shared-slice-read-n
-    cast-n
+    subdivisions-of-requires
     outside-by-requires
     outside-by-requires-2
     add-steps
     outside-by-requires-3
     add-steps-2
     place-requires
-    mul-word-at
-    add-word-at
-    word-at-requires
+    sample-bits-of-requires
     cast-result
     packed-refusal-requires
     returns

@@ -1,8 +1,9 @@
+-- `is_measure_usable` meets its contract: each measure is judged where it stands in the record.
 use mathlib.Core.Path.{_∙_}
 use native.Mathlib.Omega.{arith}
 use borrow.Author.Needs.{needs}
 use Rattle.model.specs.Record.{headerOf}
-use Rattle.record.specs.Parts.{base-usable}
+use Rattle.record.specs.ReadingOrder.{base-usable}
 use Rattle.record.proofs.judging.is_measure_usable.Statement.{statement}
 use Rattle.record.proofs.judging.is_measure_usable.Tie as tie
 

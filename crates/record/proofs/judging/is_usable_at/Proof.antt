@@ -1,3 +1,4 @@
+-- `is_usable_at` meets its contract: without the sign, sizes are ordered as their bit patterns are.
 use Prim.Native.Nat.{ℕ, _%_}
 use mathlib.Core.Path.{ap, sym, _∙_}
 use lib.Dec.{leb}

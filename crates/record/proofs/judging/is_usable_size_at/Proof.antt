@@ -1,3 +1,4 @@
+-- `is_usable_size_at` meets its contract: sizes are ordered as their bit patterns are.
 use Prim.Native.Nat.{ℕ}
 use mathlib.Core.Path.{ap, sym, _∙_}
 use mathlib.Core.Bool.{_&&_}

@@ -8,7 +8,7 @@ use Rattle.model.specs.declared.Refusal.the-variants.{BadSample}
 use Rattle.model.specs.declared.Verdict.the-variants.{Passed, Refused}
 use Rattle.model.specs.Refusals.{first}
 use Rattle.judge.specs.First.{not-yet, hit}
-use Rattle.record.specs.Parts.{sampleUsableAt}
+use Rattle.record.specs.ReadingOrder.{sampleUsableAt}
 use Rattle.record.proofs.judging.judge_samples.Statement.{statement}
 use Rattle.record.proofs.judging.judge_samples.Tie as tie
 
@@ -21,22 +21,20 @@ abbrev μ-loop : tie.MeasureT-loop
 loop-holds : tie.Need-loop-holds Inv-loop μ-loop
 loop-holds c = search needs
 
-mul-is-usable-at : tie.Need-mul-is-usable-at Inv-loop μ-loop
-mul-is-usable-at c = omega arith
-
-add-is-usable-at : tie.Need-add-is-usable-at Inv-loop μ-loop
-add-is-usable-at c = omega arith
+sample-from-requires : tie.Need-sample-from-requires Inv-loop μ-loop
+sample-from-requires c κs = omega arith
 
 is-usable-at-requires : tie.Need-is-usable-at-requires Inv-loop μ-loop
 is-usable-at-requires c κs = omega arith
 
 returns : tie.Need-returns Inv-loop μ-loop
 returns c =
-    let start = c .before .before .before .before .before .args in
-    let k = c .before .before .before .loop .k in
-    let bad = not-true (c .before .is-usable-at .result) (c .if1 .taken) in
-    let here : sampleUsableAt (start .bytes .now) k ≡ Refused (BadSample k) = rw (← c .before .is-usable-at .ensures, bad) in
-    sym (hit (sampleUsableAt (start .bytes .now)) k (start .count) (BadSample k) (c .before .before .before .loop .inv .1) here (omega arith))
+    let judged = c .before .is-usable-at in
+    let turn = c .before .before .before .before .loop in
+    let args = c .before .before .before .before .before .before .args in
+    let here : sampleUsableAt (args .bytes .now) (turn .k) ≡ Refused (BadSample (turn .k)) =
+    rw (← c .before .before .sample-from .ensures, ← judged .ensures, not-true (judged .result) (c .if1 .taken)) in
+    sym (hit (sampleUsableAt (args .bytes .now)) (turn .k) (args .count) (BadSample (turn .k)) (turn .inv .1) here (omega arith))
 
 add-k : tie.Need-add-k Inv-loop μ-loop
 add-k c = search needs
@@ -46,11 +44,12 @@ loop-less c = omega arith
 
 loop-again : tie.Need-loop-again Inv-loop μ-loop
 loop-again c =
-    let start = c .before .before .before .before .before .args in
-    let k = c .before .before .before .loop .k in
-    let good = not-false (c .before .is-usable-at .result) (c .if1 .left) in
-    let here : sampleUsableAt (start .bytes .now) k ≡ Passed = rw (← c .before .is-usable-at .ensures, good) in
-    (omega arith, not-yet (sampleUsableAt (start .bytes .now)) k (c .before .before .before .loop .inv .1) here)
+    let judged = c .before .is-usable-at in
+    let turn = c .before .before .before .before .loop in
+    let args = c .before .before .before .before .before .before .args in
+    let here : sampleUsableAt (args .bytes .now) (turn .k) ≡ Passed =
+    rw (← c .before .before .sample-from .ensures, ← judged .ensures, not-false (judged .result) (c .if1 .left)) in
+    (omega arith, not-yet (sampleUsableAt (args .bytes .now)) (turn .k) (turn .inv .1) here)
 
 returns-2 : tie.Need-returns-2 Inv-loop μ-loop
 returns-2 c =
@@ -64,8 +63,7 @@ judge-samples-spec =
     Inv-loop
     μ-loop
     loop-holds
-    mul-is-usable-at
-    add-is-usable-at
+    sample-from-requires
     is-usable-at-requires
     returns
     add-k

@@ -1,3 +1,4 @@
+-- `read_record` meets its contract: a refusal leaves the samples; otherwise they are filled and the header is answered.
 use Prim.Native.Nat.{ℕ, _≤_}
 use mathlib.Core.Path.{_≡_, sym, ap, _∙_}
 use mathlib.Core.List.{List}
@@ -11,7 +12,7 @@ use Rattle.model.specs.Judging.{judgeBuffer}
 use Rattle.model.specs.Record.{countOf, judgeRecord, readAnswer, readRecord}
 use Rattle.judge.specs.First.{both-passed}
 use Rattle.record.specs.Accepted.{Accepted, accepted}
-use Rattle.record.specs.Parts.{buffer-holds}
+use Rattle.record.specs.ReadingOrder.{buffer-holds}
 use Rattle.record.proofs.reader.read_record.Statement.{statement}
 use Rattle.record.proofs.reader.read_record.Tie as tie
 
@@ -27,12 +28,15 @@ returns c =
     let args = c .before .before .before .before .before .before .args in
     sym (ap (readAnswer (args .bytes .now) (args .samples .now)) (sym (c .before .before .before .judge-reading .ensures) ∙ c .before .verdict .given .1))
 
+abbrev start : tie.After-enum-told → tie.Start
+start c = c .before .before .before .before .before
+
 module _ (c : tie.After-enum-told) where
   abbrev bytes : List ℕ
-  bytes = c .before .before .before .before .before .args .bytes .now
+  bytes = start c .args .bytes .now
 
   abbrev samples : List Float
-  samples = c .before .before .before .before .before .args .samples .now
+  samples = start c .args .samples .now
 
   passed : orElse (judgeRecord bytes) (judgeBuffer (countOf bytes) (length samples)) ≡ Passed
   passed = sym (c .before .before .judge-reading .ensures) ∙ c .enum-told .given .1
@@ -58,9 +62,10 @@ same-length c = search needs
 returns-2 : tie.Need-returns-2
 unfolding readRecord
 returns-2 c =
-    let args = c .before .before .before .before .before .before .before .before .before .before .args in
-    (λ i. record { answer = RecordRead.Block (c .header-of .ensures i); samples = c .before .before .before .fill-samples .ensures i })
-    ∙ sym (ap (readAnswer (args .bytes .now) (args .samples .now)) (passed (c .before .before .before .before .before)))
+    let filled = c .before .before .before in
+    let told = filled .before .before in
+    (λ i. record { answer = RecordRead.Block (c .header-of .ensures i); samples = filled .fill-samples .ensures i })
+    ∙ sym (ap (readAnswer (bytes told) (samples told)) (passed told))
 
 pub read-record-spec : {M : Type 1} → statement M
 read-record-spec =

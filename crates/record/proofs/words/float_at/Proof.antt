@@ -1,3 +1,4 @@
+-- `float_at` meets its contract: the word is no pattern of a NaN, so it has a float.
 use mathlib.Core.Path.{ap}
 use lib.Ieee.{binary32, ofBits}
 use lib.Ieee.Bits.{nanBits-is}

@@ -1,3 +1,4 @@
+-- `word_at` meets its contract: each byte is below 256, so the sum fits and is the model's.
 use borrow.Author.Needs.{needs}
 use Rattle.model.specs.Record.{wordAt}
 use Rattle.record.proofs.words.word_at.Statement.{statement}

@@ -1,10 +1,11 @@
+-- `put_header` meets its contract: the five measures stand right after the start.
 use Prim.Native.Nat.{ℕ}
 use mathlib.Core.Path.{ap, _∙_}
 use mathlib.Core.List.{List}
 use borrow.Author.Needs.{needs}
 use lib.Seq.{sets}
 use Rattle.laws.specs.Steps.{each}
-use Rattle.model.specs.Record.{wordBytes, floatBytes}
+use Rattle.model.specs.Record.{thresholdAt, wordBytes, floatBytes}
 use Rattle.laws.specs.Lists.{sets-append}
 use Rattle.record.specs.Bytes.{startOf, measuresOf}
 use Rattle.record.proofs.writer.put_header.Statement.{statement}
@@ -25,10 +26,11 @@ same-length c = search needs
 returns : tie.Need-returns
 unfolding wordBytes
 returns c =
-    let args = c .before .before .before .before .before .before .before .before .before .before .before .before .args in
+    let started = c .before .before .before .before .before .before .before .before .before in
+    let args = started .before .before .before .args in
     let measures = each floatBytes (measuresOf (args .header)) in
     c .before .before .put-floats .ensures
-    ∙ ap (λ (l : List ℕ). sets l 7 measures) (c .before .before .before .before .before .before .before .before .before .put-start .ensures)
+    ∙ ap (λ (l : List ℕ). sets l thresholdAt measures) (started .put-start .ensures)
     ∙ sets-append (args .bytes .now) 0 (startOf (args .header) (args .count)) measures
 
 pub put-header-spec : {M : Type 1} → statement M

@@ -1,12 +1,14 @@
-use Prim.Native.Nat.{ℕ, _+_, _*_}
+-- `put_start` meets its contract: the length field's four bytes, then three bytes more.
+use Prim.Native.Nat.{ℕ}
 use mathlib.Core.Path.{ap, _∙_}
 use mathlib.Core.List.{List, [], _∷_}
 use native.Mathlib.Omega.{arith}
 use borrow.Author.Needs.{needs}
 use lib.ListN.{length-set}
 use lib.Seq.{sets}
-use Rattle.model.specs.Record.{wordBytes}
+use Rattle.model.specs.Record.{versionAt, wordBytes}
 use Rattle.laws.specs.Lists.{sets-append}
+use Rattle.record.specs.Bytes.{lengthField}
 use Rattle.record.proofs.writer.put_start.Statement.{statement}
 use Rattle.record.proofs.writer.put_start.Tie as tie
 
@@ -46,8 +48,8 @@ returns c =
     let args = c .before .before .before .before .before .before .args in
     let h = args .header in
     let rest : List ℕ = 1 ∷ h .block .subdivisions ∷ h .mask ∷ [] in
-    ap (λ (l : List ℕ). sets l 4 rest) (c .before .before .put-word .ensures)
-    ∙ sets-append (args .bytes .now) 0 (wordBytes (23 + 4 * args .count)) rest
+    ap (λ (l : List ℕ). sets l versionAt rest) (c .before .before .put-word .ensures)
+    ∙ sets-append (args .bytes .now) 0 (wordBytes (lengthField (args .count))) rest
 
 pub put-start-spec : {M : Type 1} → statement M
 put-start-spec =

@@ -1,4 +1,6 @@
-use Prim.Native.Nat.{ℕ, _+_, _*_, _≤_}
+-- `write_record` meets its contract: a refusal leaves the bytes; otherwise header, centre and neighbours are put one after another, which is
+-- the whole record.
+use Prim.Native.Nat.{ℕ, _+_, _≤_}
 use mathlib.Core.Path.{_≡_, sym, ap, _∙_}
 use mathlib.Core.List.{List, _++_}
 use native.Mathlib.Omega.{arith}
@@ -12,11 +14,11 @@ use Rattle.model.specs.declared.Verdict.the-variants.{Passed}
 use Rattle.model.specs.declared.RecordWritten.the-variants as RecordWritten
 use Rattle.laws.specs.Steps.{each, laid}
 use Rattle.model.specs.Refusals.{orElse}
-use Rattle.model.specs.Star.{starFrom}
+use Rattle.model.specs.Star.{star}
 use Rattle.model.specs.Judging.{judgeBuffer, judgeStar}
-use Rattle.model.specs.Record.{floatBytes, recordOf, writeAnswer, writeRecord}
+use Rattle.model.specs.Record.{sampleFrom, floatBytes, recordOf, writeAnswer, writeRecord}
 use Rattle.judge.specs.First.{both-passed}
-use Rattle.record.specs.Parts.{buffer-holds}
+use Rattle.record.specs.ReadingOrder.{buffer-holds}
 use Rattle.record.specs.Bytes.{parts-laid}
 use Rattle.record.specs.Writable.{Writable, writable}
 use Rattle.record.proofs.writer.write_record.Statement.{statement}
@@ -36,32 +38,36 @@ returns c =
     (ap (writeAnswer (args .header) (args .centre .now ++ args .neighbours .now) (args .bytes .now))
     (sym (c .before .before .before .judge-writing .ensures) ∙ c .before .verdict .given .1))
 
+abbrev start : tie.After-enum-told → tie.Start
+start c = c .before .before .before .before .before .before
+
+-- what is lent, and what the judges that passed tell of it
 module _ (c : tie.After-enum-told) where
   abbrev h : Header
-  h = c .before .before .before .before .before .before .args .header
+  h = start c .args .header
 
   abbrev centre : List Float
-  centre = c .before .before .before .before .before .before .args .centre .now
+  centre = start c .args .centre .now
 
   abbrev neighbours : List Float
-  neighbours = c .before .before .before .before .before .before .args .neighbours .now
+  neighbours = start c .args .neighbours .now
 
-  abbrev before : List ℕ
-  before = c .before .before .before .before .before .before .args .bytes .now
+  abbrev lent : List ℕ
+  lent = start c .args .bytes .now
 
   abbrev whole : Verdict
-  whole = judgeStar (starFrom (h .block) (h .mask) (h .threshold) centre neighbours)
+  whole = judgeStar (star h centre neighbours)
 
-  passed : orElse whole (judgeBuffer (27 + 4 * length (centre ++ neighbours)) (length before)) ≡ Passed
+  passed : orElse whole (judgeBuffer (sampleFrom (length (centre ++ neighbours))) (length lent)) ≡ Passed
   passed = sym (c .before .before .judge-writing .ensures) ∙ c .enum-told .given .1
 
   is-writable : Writable h centre neighbours
   is-writable = writable h centre neighbours (both-passed whole _ passed .0)
 
-  room : 27 + 4 * (length centre + length neighbours) ≤ length before
+  room : sampleFrom (length centre + length neighbours) ≤ length lent
   room =
       rw length-append at
-      (buffer-holds (27 + 4 * length (centre ++ neighbours)) (length before) (both-passed whole _ passed .1))
+      (buffer-holds (sampleFrom (length (centre ++ neighbours))) (length lent) (both-passed whole _ passed .1))
 
 enum-told : tie.Need-enum-told
 enum-told c = search needs
@@ -71,26 +77,30 @@ add-count c = search needs
 
 put-header-requires : tie.Need-put-header-requires
 put-header-requires c κs =
-    let w = is-writable (c .before) in
-    (omega (arith, room (c .before)), (omega (arith, w .few), (w .counted, w .measures)))
+    let told = c .before in
+    let w = is-writable told in
+    (omega (arith, room told), (omega (arith, w .few), (w .counted, w .measures)))
+
+sample-from-requires : tie.Need-sample-from-requires
+sample-from-requires c κs = search needs
 
 put-floats-requires : tie.Need-put-floats-requires
-put-floats-requires c κs = (omega (arith, room (c .before .before .before .before .before)), is-writable (c .before .before .before .before .before) .centre-numbers)
+put-floats-requires c κs =
+    let told = c .before .before .before .before .before .before in
+    (omega (arith, room told), is-writable told .centre-numbers)
 
-mul-put-floats : tie.Need-mul-put-floats
-mul-put-floats c = search needs
-
-add-put-floats : tie.Need-add-put-floats
-add-put-floats c = search needs
+sample-from-requires-2 : tie.Need-sample-from-requires-2
+sample-from-requires-2 c κs = search needs
 
 put-floats-requires-2 : tie.Need-put-floats-requires-2
-put-floats-requires-2 c κs = (omega (arith, room (c .before .before .before .before .before .before .before .before .before)), is-writable (c .before .before .before .before .before .before .before .before .before) .neighbour-numbers)
+put-floats-requires-2 c κs =
+    let told = c .before .before .before .before .before .before .before .before .before .before .before in
+    (omega (arith, room told), is-writable told .neighbour-numbers)
 
-mul-t8 : tie.Need-mul-t8
-mul-t8 c = search needs
-
-add-t17 : tie.Need-add-t17
-add-t17 c = omega (arith, is-writable (c .before .before .before .before .before .before .before .before .before .before .before .before) .counted)
+sample-from-requires-3 : tie.Need-sample-from-requires-3
+sample-from-requires-3 c κs =
+    let told = c .before .before .before .before .before .before .before .before .before .before .before .before .before .before in
+    omega (arith, is-writable told .counted)
 
 same-length : tie.Need-same-length
 same-length c = search needs
@@ -98,16 +108,19 @@ same-length c = search needs
 returns-2 : tie.Need-returns-2
 unfolding writeRecord
 returns-2 c =
-    let told = c .before .before .before .before .before .before .before .before .before .before .before .before in
+    let after-neighbours = c .before .before .before in
+    let after-centre = after-neighbours .before .before .before .before .before in
+    let after-header = after-centre .before .before .before .before .before in
+    let told = after-header .before .before in
     let c′ = centre told in
     let n′ = neighbours told in
-    let put : c .before .before .put-floats2 .last .0 ≡ laid (recordOf (h told) (c′ ++ n′)) (before told) =
-    c .before .before .put-floats2 .ensures
-    ∙ ap (λ (l : List ℕ). sets l (27 + 4 * length c′) (each floatBytes n′))
-    (c .before .before .before .before .before .before .put-floats .ensures ∙ ap (λ (l : List ℕ). sets l 27 (each floatBytes c′)) (c .before .before .before .before .before .before .before .before .before .before .put-header .ensures))
-    ∙ parts-laid (h told) c′ n′ (before told) (room told) in
-    (λ i. record { answer = RecordWritten.Bytes (27 + 4 * sym (length-append c′ n′) i); bytes = put i })
-    ∙ sym (ap (writeAnswer (h told) (c′ ++ n′) (before told)) (passed told))
+    let put : after-neighbours .put-floats2 .last .0 ≡ laid (recordOf (h told) (c′ ++ n′)) (lent told) =
+    after-neighbours .put-floats2 .ensures
+    ∙ (λ i. sets (after-centre .put-floats .ensures i) (after-neighbours .before .sample-from2 .ensures i) (each floatBytes n′))
+    ∙ (λ i. sets (sets (after-header .put-header .ensures i) (after-centre .before .sample-from .ensures i) (each floatBytes c′)) (sampleFrom (length c′)) (each floatBytes n′))
+    ∙ parts-laid (h told) c′ n′ (lent told) (room told) in
+    (λ i. record { answer = RecordWritten.Bytes ((c .sample-from3 .ensures ∙ ap sampleFrom (sym (length-append c′ n′))) i); bytes = put i })
+    ∙ sym (ap (writeAnswer (h told) (c′ ++ n′) (lent told)) (passed told))
 
 pub write-record-spec : {M : Type 1} → statement M
 write-record-spec =
@@ -119,11 +132,10 @@ write-record-spec =
     enum-told
     add-count
     put-header-requires
+    sample-from-requires
     put-floats-requires
-    mul-put-floats
-    add-put-floats
+    sample-from-requires-2
     put-floats-requires-2
-    mul-t8
-    add-t17
+    sample-from-requires-3
     same-length
     returns-2)

@@ -1,3 +1,4 @@
+-- `points_agree` is safe. The loop's invariant: so many points at most.
 use Prim.Native.Nat.{_-_, _≤_}
 use native.Mathlib.Omega.{arith}
 use borrow.Author.Needs.{needs}

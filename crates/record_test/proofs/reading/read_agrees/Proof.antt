@@ -1,3 +1,4 @@
+-- `read_agrees` is safe: what is lent lies in the vector and in the list.
 use native.Mathlib.Omega.{arith}
 use borrow.Author.Needs.{needs}
 use lib.ListN.{length-take}

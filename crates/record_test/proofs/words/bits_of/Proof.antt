@@ -1,3 +1,4 @@
+-- `bits_of` is safe: what is no NaN has bits.
 use mathlib.Core.Path.{_≡_, subst}
 use mathlib.Core.Bool.{false, not}
 use borrow.Author.Needs.{needs}

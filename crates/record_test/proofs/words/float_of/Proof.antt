@@ -1,3 +1,4 @@
+-- `float_of` is safe: what is no pattern of a NaN has a float.
 use borrow.Author.Needs.{needs}
 use borrow.Author.Tests.{le-ltb}
 use lib.Ieee.Bits.{nanBits-above}

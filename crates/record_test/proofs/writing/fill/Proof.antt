@@ -1,3 +1,4 @@
+-- `fill` is safe. The loop's invariant: the place is in the list, whose length stays.
 use Prim.Native.Nat.{_-_, _≤_}
 use mathlib.Core.Path.{_≡_}
 use native.Mathlib.Omega.{arith}

@@ -1,3 +1,4 @@
+-- `write_agrees` is safe: what is lent lies in the lists.
 use native.Mathlib.Omega.{arith}
 use borrow.Author.Needs.{needs}
 use lib.ListN.{length-take}

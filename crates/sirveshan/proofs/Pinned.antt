@@ -1,0 +1,36 @@
+-- What the statement of each call allows is one outcome: of two that it allows for the same inputs, the answers are equal, and so is what each
+-- buffer that is lent to be written holds.
+use mathlib.Core.Path.{_≡_}
+use contract.Lifetimes.{Lfts}
+use denote.Ref.{now}
+use Rattle.model.specs.Pinned.{pinned}
+use Rattle.sirveshan.proofs.sirveshan_extract.Reads as extract
+use Rattle.sirveshan.proofs.sirveshan_read.Reads as read
+use Rattle.sirveshan.proofs.sirveshan_write.Reads as write
+use Rattle.sirveshan.proofs.sirveshan_subdivisions.Reads as subdivisions
+use Rattle.sirveshan.proofs.sirveshan_blank.Reads as blank
+use Rattle.sirveshan.proofs.sirveshan_sample.Reads as sample
+
+pub sirveshan-extract-pinned : (κs : Lfts 5) (a : _) (r r′ : _) (e e′ : _) → extract.Learnt κs a r e → extract.Learnt κs a r′ e′
+    → (r ≡ r′)
+    × ((now (e .1 .1 .1 .0) ≡ now (e′ .1 .1 .1 .0))
+    × ((now (e .1 .1 .1 .1 .0) ≡ now (e′ .1 .1 .1 .1 .0)) × (now (e .1 .1 .1 .1 .1 .0) ≡ now (e′ .1 .1 .1 .1 .1 .0))))
+sirveshan-extract-pinned κs a r r′ e e′ h k =
+    (λ i. pinned h k i .answer, (λ i. pinned h k i .store, (λ i. pinned h k i .vertices, λ i. pinned h k i .triangles)))
+
+pub sirveshan-read-pinned : (κs : Lfts 2) (a : _) (r r′ : _) (e e′ : _) → read.Learnt κs a r e → read.Learnt κs a r′ e′
+    → (r ≡ r′) × (now (e .1 .0) ≡ now (e′ .1 .0))
+sirveshan-read-pinned κs a r r′ e e′ h k = (λ i. pinned h k i .answer, λ i. pinned h k i .samples)
+
+pub sirveshan-write-pinned : (κs : Lfts 3) (a : _) (r r′ : _) (e e′ : _) → write.Learnt κs a r e → write.Learnt κs a r′ e′
+    → (r ≡ r′) × (now (e .1 .1 .1 .0) ≡ now (e′ .1 .1 .1 .0))
+sirveshan-write-pinned κs a r r′ e e′ h k = (λ i. pinned h k i .answer, λ i. pinned h k i .bytes)
+
+pub sirveshan-subdivisions-pinned : (κs : Lfts 1) (a : _) (r r′ : _) (e e′ : _) → subdivisions.Learnt κs a r e → subdivisions.Learnt κs a r′ e′ → r ≡ r′
+sirveshan-subdivisions-pinned κs a r r′ e e′ h k = pinned h k
+
+pub sirveshan-blank-pinned : (κs : Lfts 1) (a : _) (r r′ : _) (e e′ : _) → blank.Learnt κs a r e → blank.Learnt κs a r′ e′ → r ≡ r′
+sirveshan-blank-pinned κs a r r′ e e′ h k = pinned h k
+
+pub sirveshan-sample-pinned : (κs : Lfts 1) (a : _) (r r′ : _) (e e′ : _) → sample.Learnt κs a r e → sample.Learnt κs a r′ e′ → r ≡ r′
+sirveshan-sample-pinned κs a r r′ e e′ h k = pinned h k

@@ -1,0 +1,72 @@
+-- What the C calls answer and leave, from what the model says: a refusal as its four numbers beside zeros, or zeros beside the answer.
+-- Definitions only.
+use Prim.Native.Nat.{ℕ}
+use mathlib.Core.List.{List}
+use lib.Ieee.{Float, binary32, ofBits}
+use Rattle.model.specs.declared.Header.{Header}
+use Rattle.model.specs.declared.Numbers.{Numbers}
+use Rattle.model.specs.declared.Extraction.{Extraction}
+use Rattle.model.specs.declared.Extraction.the-variants as Extraction
+use Rattle.model.specs.declared.RecordRead.{RecordRead}
+use Rattle.model.specs.declared.RecordRead.the-variants as RecordRead
+use Rattle.model.specs.declared.RecordWritten.{RecordWritten}
+use Rattle.model.specs.declared.RecordWritten.the-variants as RecordWritten
+use Rattle.model.specs.Formulas.{vector}
+use Rattle.model.specs.Refusals.{numbers, numbersOf}
+use Rattle.model.specs.Extraction.{Outcome}
+use Rattle.model.specs.Record.{ReadOutcome, WriteOutcome}
+use Rattle.sirveshan.specs.declared.Extracted.{Extracted}
+use Rattle.sirveshan.specs.declared.HeaderRead.{HeaderRead}
+use Rattle.sirveshan.specs.declared.Written.{Written}
+
+abbrev pub notRefused : Numbers
+notRefused = numbers 0 0 0 0
+
+-- the f32 whose bits are all 0
+abbrev pub zero : Float
+zero = ofBits binary32 0
+
+abbrev pub noHeader : Header
+noHeader =
+    record {
+      block = record { base = vector zero zero zero; size = zero; subdivisions = 0 };
+      mask = 0;
+      threshold = zero;
+    }
+
+abbrev pub asExtracted : Extraction → Extracted
+asExtracted (Extraction.Mesh counts) = record { refused = notRefused; counts = counts }
+asExtracted (Extraction.Refused r) = record { refused = numbersOf r; counts = record { vertices = 0; triangles = 0 } }
+
+abbrev pub asHeaderRead : RecordRead → HeaderRead
+asHeaderRead (RecordRead.Block header) = record { refused = notRefused; header = header }
+asHeaderRead (RecordRead.Refused r) = record { refused = numbersOf r; header = noHeader }
+
+abbrev pub asWritten : RecordWritten → Written
+asWritten (RecordWritten.Bytes length) = record { refused = notRefused; length = length }
+asWritten (RecordWritten.Refused r) = record { refused = numbersOf r; length = 0 }
+
+-- ---- the answer, and every buffer that is lent to be written
+
+pub record ExtractCall : Type 0 where
+  pub answer : Extracted
+  pub store : List ℕ
+  pub vertices : List Float
+  pub triangles : List ℕ
+
+abbrev pub extractCall : Outcome → ExtractCall
+extractCall o = record { answer = asExtracted (o .answer); store = o .store; vertices = o .vertices; triangles = o .triangles }
+
+pub record ReadCall : Type 0 where
+  pub answer : HeaderRead
+  pub samples : List Float
+
+abbrev pub readCall : ReadOutcome → ReadCall
+readCall o = record { answer = asHeaderRead (o .answer); samples = o .samples }
+
+pub record WriteCall : Type 0 where
+  pub answer : Written
+  pub bytes : List ℕ
+
+abbrev pub writeCall : WriteOutcome → WriteCall
+writeCall o = record { answer = asWritten (o .answer); bytes = o .bytes }

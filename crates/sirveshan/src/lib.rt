@@ -1,0 +1,166 @@
+// The C face: every call that code in C or Rust makes of this project. Each requires nothing, answers by value, and writes to no lent
+// buffer but those that the definition it cites fills.
+ghost use mathlib.Core.Path.{_≡_};
+ghost use Rattle.model.specs.Star.{star};
+ghost use Rattle.model.specs.Extraction.{extract};
+ghost use Rattle.model.specs.Record.{readRecord, writeRecord};
+ghost use Rattle.model.specs.Viewer.{subdivisionsAnswer, blankAnswer, sampleAnswer};
+ghost use Rattle.sirveshan.specs.Calls.{asExtracted, asHeaderRead, asWritten, extractCall, readCall, writeCall};
+use judge::numbers_of;
+use model::Block;
+use model::Counts;
+use model::Extraction;
+use model::Header;
+use model::Numbers;
+use model::RecordRead;
+use model::RecordWritten;
+use model::Vector;
+use record::reader::read_record;
+use record::writer::write_record;
+
+// In each answer the refusal's number is 0 where nothing is refused, and what stands beside it is 0 where something is.
+#[repr(C)]
+pub struct Extracted {
+    pub refused: Numbers,
+    pub counts: Counts,
+}
+
+#[repr(C)]
+pub struct HeaderRead {
+    pub refused: Numbers,
+    pub header: Header,
+}
+
+#[repr(C)]
+pub struct Written {
+    pub refused: Numbers,
+    pub length: usize,
+}
+
+const NOT_REFUSED: Numbers = Numbers {
+    number: 0,
+    first: 0,
+    second: 0,
+    third: 0,
+};
+
+const NO_HEADER: Header = Header {
+    block: Block {
+        base: Vector {
+            x: 0.0,
+            y: 0.0,
+            z: 0.0,
+        },
+        size: 0.0,
+        subdivisions: 0,
+    },
+    mask: 0,
+    threshold: 0.0,
+};
+
+fn as_extracted(answer: Extraction) -> Extracted
+    ensures { λ r. ⌜ r ≡ asExtracted answer ⌝ }
+{
+    match answer {
+        Extraction::Mesh(counts) => Extracted {
+            refused: NOT_REFUSED,
+            counts,
+        },
+        Extraction::Refused(refusal) => Extracted {
+            refused: numbers_of(refusal),
+            counts: Counts {
+                vertices: 0,
+                triangles: 0,
+            },
+        },
+    }
+}
+
+fn as_header_read(answer: RecordRead) -> HeaderRead
+    ensures { λ r. ⌜ r ≡ asHeaderRead answer ⌝ }
+{
+    match answer {
+        RecordRead::Block(header) => HeaderRead {
+            refused: NOT_REFUSED,
+            header,
+        },
+        RecordRead::Refused(refusal) => HeaderRead {
+            refused: numbers_of(refusal),
+            header: NO_HEADER,
+        },
+    }
+}
+
+fn as_written(answer: RecordWritten) -> Written
+    ensures { λ r. ⌜ r ≡ asWritten answer ⌝ }
+{
+    match answer {
+        RecordWritten::Bytes(length) => Written {
+            refused: NOT_REFUSED,
+            length,
+        },
+        RecordWritten::Refused(refusal) => Written {
+            refused: numbers_of(refusal),
+            length: 0,
+        },
+    }
+}
+
+// The mesh of a block and its finer neighbours.
+#[no_mangle]
+pub extern "C" fn sirveshan_extract(
+    header: Header,
+    centre: &[f32],
+    neighbours: &[f32],
+    store: &mut [u32],
+    vertices: &mut [f32],
+    triangles: &mut [u32],
+) -> Extracted
+    ensures { λ r. ⌜ record { answer = r; store = now (store .exit); vertices = now (vertices .exit); triangles = now (triangles .exit) }
+        ≡ extractCall (extract (star header (now (centre .entry)) (now (neighbours .entry))) (now (store .entry)) (now (vertices .entry)) (now (triangles .entry))) ⌝ }
+{
+    as_extracted(algorithm::extract(header, centre, neighbours, store, vertices, triangles))
+}
+
+// The block that a record tells, and its samples, the centre's and then the neighbours', in the first places of a lent list.
+#[no_mangle]
+pub extern "C" fn sirveshan_read(src: &[u8], samples: &mut [f32]) -> HeaderRead
+    ensures { λ r. ⌜ record { answer = r; samples = now (samples .exit) } ≡ readCall (readRecord (now (src .entry)) (now (samples .entry))) ⌝ }
+{
+    as_header_read(read_record(src, samples))
+}
+
+// A block and its samples as a record, in the first places of a lent buffer.
+#[no_mangle]
+pub extern "C" fn sirveshan_write(
+    header: Header,
+    centre: &[f32],
+    neighbours: &[f32],
+    bytes: &mut [u8],
+) -> Written
+    ensures { λ r. ⌜ record { answer = r; bytes = now (bytes .exit) } ≡ writeCall (writeRecord header (now (centre .entry)) (now (neighbours .entry)) (now (bytes .entry))) ⌝ }
+{
+    as_written(write_record(header, centre, neighbours, bytes))
+}
+
+// The viewer's three calls.
+#[no_mangle]
+pub extern "C" fn sirveshan_subdivisions(src: &[u8]) -> u64
+    ensures { λ r. ⌜ r ≡ subdivisionsAnswer (now (src .entry)) ⌝ }
+{
+    viewer::subdivisions(src)
+}
+
+#[no_mangle]
+pub extern "C" fn sirveshan_blank(src: &[u8]) -> u64
+    ensures { λ r. ⌜ r ≡ blankAnswer (now (src .entry)) ⌝ }
+{
+    viewer::blank(src)
+}
+
+#[no_mangle]
+pub extern "C" fn sirveshan_sample(src: &[u8], x: i32, y: i32, z: i32) -> u64
+    ensures { λ r. ⌜ r ≡ sampleAnswer (now (src .entry)) x y z ⌝ }
+{
+    viewer::sample(src, x, y, z)
+}

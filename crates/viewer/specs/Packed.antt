@@ -1,0 +1,62 @@
+-- The viewer's packed numbers, by what the record's judges find. Assumes nothing.
+use Prim.Native.Nat.{ℕ, _+_, _*_, _^_, _≤_}
+use mathlib.Core.Path.{_≡_}
+use mathlib.Core.Bool.{Bool, true, false, cond, _||_}
+use mathlib.Core.List.{List}
+use lib.Dec.{eqb, lit≤}
+use lib.Ieee.{Float, nan, binary32, toBits}
+use lib.ListN.{getD}
+use Rattle.model.specs.declared.Refusal.{Refusal}
+use Rattle.model.specs.declared.Refusal.the-variants.{Subdivisions, Mask, Measure, CentreLength, MissingNeighbour, NeighboursTooLong, BadSample, FaceMismatch, IndexStoreTooShort, NoRoom, RecordLength, Version, SampleCount, BufferTooShort, PointNeverSampled}
+use Rattle.model.specs.declared.Verdict.{Verdict}
+use Rattle.model.specs.declared.Verdict.the-variants.{Passed, Refused}
+use Rattle.laws.specs.Steps.{total}
+use Rattle.model.specs.Formulas.{insideBit}
+use Rattle.model.specs.Samples.{placeOf, sampled, valueAt, readingAt}
+use Rattle.model.specs.Refusals.{numbersOf}
+use Rattle.model.specs.Record.{headerOf, samplesOf, judgeRecord}
+use Rattle.model.specs.Viewer.{packed, sampleBits, blankAnswer}
+
+pub number-small : (r : Refusal) → numbersOf r .number ≤ 15
+number-small (Subdivisions n) = lit≤ tt
+number-small (Mask mask) = lit≤ tt
+number-small (Measure which) = lit≤ tt
+number-small (CentreLength wanted) = lit≤ tt
+number-small (MissingNeighbour side) = lit≤ tt
+number-small (NeighboursTooLong wanted) = lit≤ tt
+number-small (BadSample place) = lit≤ tt
+number-small (FaceMismatch at) = lit≤ tt
+number-small (IndexStoreTooShort wanted) = lit≤ tt
+number-small (NoRoom wanted) = lit≤ tt
+number-small RecordLength = lit≤ tt
+number-small (Version byte) = lit≤ tt
+number-small (SampleCount wanted) = lit≤ tt
+number-small (BufferTooShort wanted) = lit≤ tt
+number-small PointNeverSampled = lit≤ tt
+
+module _ (base : ℕ) (v : Verdict) (answer : ℕ) where
+  pub packed-refused : (r : Refusal) → v ≡ Refused r → base + numbersOf r .number ≡ packed base v answer
+  packed-refused r e = rw e
+
+  pub packed-passed : v ≡ Passed → answer ≡ packed base v answer
+  packed-passed e = rw e
+
+-- ---- blank, by the inside points among the n + 1 to the third of a block
+
+pub blank-passed : (bytes : List ℕ) (n insides : ℕ) {t : Bool} → judgeRecord bytes ≡ Passed → n ≡ headerOf bytes .block .subdivisions
+    → insides ≡ total (λ k. insideBit (headerOf bytes .threshold) (getD (samplesOf bytes) k nan)) ((n + 1) * (n + 1) * (n + 1))
+    → eqb insides 0 || eqb insides ((n + 1) * (n + 1) * (n + 1)) ≡ t → cond t 1 0 ≡ blankAnswer bytes
+unfolding blankAnswer
+blank-passed bytes n insides passed n-is is e = rw (passed, ← n-is, ← is, e)
+
+-- ---- a sample's bits
+
+pub point-bits : (n : ℕ) (samples : List Float) (x y z : ℕ) → sampled n x y z ≡ true
+    → toBits binary32 (getD samples (placeOf n x y z) nan) ≡ sampleBits (readingAt n samples x y z)
+unfolding readingAt valueAt
+point-bits n samples x y z e = rw e
+
+pub never-bits : (n : ℕ) (samples : List Float) (x y z : ℕ) → sampled n x y z ≡ false
+    → 2 ^ 32 + numbersOf PointNeverSampled .number ≡ sampleBits (readingAt n samples x y z)
+unfolding readingAt
+never-bits n samples x y z e = rw e
