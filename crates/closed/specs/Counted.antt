@@ -12,7 +12,7 @@ use Rattle.tables.specs.Sides.{side, sidesOf, regular-sides}
 use Rattle.model.specs.Steps.{total as sum}
 use Rattle.model.specs.Points.{Star, subdivisions, regularCase}
 use Rattle.model.specs.Mesh.{Made, Mesh, triangleOf, blank, regularMesh}
-use Rattle.closed.specs.Clauses.{Edge, number, noVertex, edgeAt, run, sides, runs, meshTo, IsCell, OwnVertex}
+use Rattle.closed.specs.Clauses.{Edge, number, noVertex, edgeAt, run, around, sides, runs, meshTo, IsCell, OwnVertex}
 use Rattle.closed.specs.Sums.{sum-same, sum-more, total-gather, square, cube}
 use Rattle.closed.specs.Places.{rank}
 use Rattle.closed.specs.Cells.{codeEdge, codeAt, byte-edge}
@@ -35,7 +35,7 @@ edge-kept : (made more : List Made) (i : ℕ) → i < length made → edgeAt (ma
 edge-kept made more i h = ap (λ (m : Made). m .edge) (List·getD-append made more noVertex i h)
 
 three : (g h a b c a′ b′ c′ : ℕ) → a ≡ a′ → b ≡ b′ → c ≡ c′
-    → run g h a b + run g h b c + run g h c a ≡ run g h a′ b′ + run g h b′ c′ + run g h c′ a′
+    → around g h a b c ≡ around g h a′ b′ c′
 three g h a b c a′ b′ c′ p q r = rw (p, q, r)
 
 module _ (s : Star) (g h x y z : ℕ) (c : IsCell s x y z) (p : Whole s (rank s x y z) (meshTo s x y z)) where

@@ -8,8 +8,7 @@ use Rattle.model.specs.declared.Triangle.{Triangle}
 use Rattle.model.specs.Sides.{named}
 use Rattle.model.specs.Steps.{iterate}
 use Rattle.model.specs.Points.{Star, subdivisions}
-use Rattle.model.specs.Mesh.{Made, Cell, Mesh, cellStep, transitionCell, transitionRow, transitionSide, meshOf}
-use Rattle.closed.specs.NoHole.{subject}
+use Rattle.model.specs.Mesh.{Made, Cell, Mesh, cellStep, transitionCell, transitionRow, transitionSide, regularMesh, meshOf}
 
 pub record Begins (first all : Mesh) : Type 0 where
   pub made : List Made
@@ -53,6 +52,6 @@ side-added s side m = go (named (s .mask) side)
     go true = all-added (transitionRow s side) (row-added s side) (subdivisions s) m
     go false = none-added m
 
-pub regular-first : (s : Star) → Begins (subject s) (meshOf s)
-unfolding subject meshOf
+pub regular-first : (s : Star) → Begins (regularMesh s) (meshOf s)
+unfolding meshOf
 regular-first s = all-added (transitionSide s) (side-added s) 6 _

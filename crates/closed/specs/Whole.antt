@@ -16,10 +16,10 @@ use Rattle.model.specs.declared.Triangle.{Triangle}
 use Rattle.model.specs.Steps.{listed}
 use Rattle.model.specs.Points.{Star, subdivisions, regularCase}
 use Rattle.model.specs.Mesh.{Fill, Mesh, filled, cornerIndex, triangleOf, cellStep, blank, storeLength, regularCell, regularColumn, regularLayer, regularMesh}
-use Rattle.closed.specs.Clauses.{number, Crossed, Names, triangleAt, meshTo, IsCell, OwnVertex, OwnTriangle, Corners}
+use Rattle.closed.specs.Clauses.{number, Crossed, Names, triangleAt, meshTo, IsCell, OwnVertex, OwnTriangle, Corners, Lying}
 use Rattle.closed.specs.Places.{rank, cells-up-to}
 use Rattle.closed.specs.Cells.{codeEdge, codes, codeAt, slotEdge, code-own, case-small, code-right, crossed-slot}
-use Rattle.closed.specs.Stored.{Holds, Stored, AllCrossed, names-more, Filled, cell-filled}
+use Rattle.closed.specs.Stored.{Holds, Stored, names-more, Filled, cell-filled}
 
 module _ {A : Type 0} where
   length-listed : (f : ℕ → A) (k : ℕ) → length (listed f k) ≡ k
@@ -41,7 +41,7 @@ module _ {A : Type 0} where
 pub record Whole (s : Star) (here : ℕ) (m : Mesh) : Type 0 where
   pub stored : Stored s here (m .made) (m .store)
   pub long : length (m .store) ≡ storeLength (subdivisions s)
-  pub crossed : AllCrossed s (m .made)
+  pub lying : Lying s (m .made)
   pub carried : (x y z : ℕ) → IsCell s x y z → rank s x y z < here → (j : ℕ) → j < codes s x y z
       → (i : ℕ) × Names (m .made) i (number s (codeEdge x y z (codeAt s x y z j)))
   pub corners : Corners s m
@@ -88,7 +88,7 @@ module _ (s : Star) (x y z : ℕ) where
     unfolding regularCell
     done =
         rw made-after
-        (cell-filled s x y z c (meshTo s x y z .made) (meshTo s x y z .store) (p .stored) (p .crossed) (p .long)
+        (cell-filled s x y z c (meshTo s x y z .made) (meshTo s x y z .store) (p .stored) (p .lying) (p .long)
         (codes s x y z) (le-refl _))
 
     -- an index whose edge is crossed has been stored
@@ -164,7 +164,7 @@ module _ (s : Star) (x y z : ℕ) where
               (λ u v w cell before r some small crossed. done .old u v w r cell some small before crossed)
               slot-made u v w cell before r some small crossed);
           long = rw store-after (done .long);
-          crossed = done .crossed;
+          lying = done .lying;
           carried =
               cells-up-to s x y z (λ (u v w : ℕ). (j : ℕ) → j < codes s u v w
               → (i : ℕ) × Names (meshTo s x y (suc z) .made) i (number s (codeEdge u v w (codeAt s u v w j)))) c
@@ -182,7 +182,7 @@ module _ (s : Star) where
       record {
         stored = λ x y z r cell some small before. absurd (none-before before);
         long = length-replicate (storeLength (subdivisions s)) 0;
-        crossed = λ i h. absurd (not-suc-le-zero h);
+        lying = λ i h. absurd (not-suc-le-zero h);
         carried = λ x y z cell before. absurd (none-before before);
         corners = λ t h. absurd (not-suc-le-zero h);
       }
