@@ -1,24 +1,27 @@
--- The mesh of a block begins with that of its regular cells: the transition cells only add. So what is proved of the regular cells is said of the
--- first vertices and triangles that extraction writes.
+-- The mesh of a block begins with that of its regular cells: the transition cells only add, and where no side is named there are none. So what is
+-- proved of the regular cells is said of the first vertices and triangles that extraction writes.
 use mathlib.Core.Path.{_≡_, refl, sym, ap, _∙_}
 use mathlib.Core.Bool.{Bool, true, false, cond}
 use mathlib.Core.List.{List, [], _++_, append-assoc, append-nil}
-use Prim.Native.Nat.{ℕ, zero, suc}
+use Prim.Native.Nat.{ℕ, zero, suc, _+_}
+use lib.ListN.{length, set, length-set}
 use Rattle.model.specs.declared.Triangle.{Triangle}
 use Rattle.model.specs.Sides.{named}
 use Rattle.model.specs.Steps.{iterate}
 use Rattle.model.specs.Points.{Star, subdivisions}
-use Rattle.model.specs.Mesh.{Made, Cell, Mesh, cellStep, transitionCell, transitionRow, transitionSide, regularMesh, meshOf}
+use Rattle.model.specs.Mesh.{Made, Turn, Cell, Fill, Mesh, fillStep, fillTo, storeLength, cellStep, transitionCell, transitionRow, transitionSide, regularMesh, meshOf}
+use Rattle.closed.specs.Whole.{whole}
 
 pub record Begins (first all : Mesh) : Type 0 where
   pub made : List Made
   pub triangles : List Triangle
   pub made-are : all .made ≡ first .made ++ made
   pub triangles-are : all .triangles ≡ first .triangles ++ triangles
+  pub store-long : length (all .store) ≡ length (first .store)
 
 none-added : (m : Mesh) → Begins m m
 none-added m =
-    record { made = []; triangles = []; made-are = sym (append-nil _); triangles-are = sym (append-nil _) }
+    record { made = []; triangles = []; made-are = sym (append-nil _); triangles-are = sym (append-nil _); store-long = refl }
 
 joined : {A : Type 0} {b c : List A} (a p q : List A) → b ≡ a ++ p → c ≡ b ++ q → c ≡ a ++ (p ++ q)
 joined {A} a p q e f = f ∙ ap (λ (l : List A). l ++ q) e ∙ append-assoc a p q
@@ -30,11 +33,26 @@ then-added {a} p q =
       triangles = p .triangles ++ q .triangles;
       made-are = joined (a .made) (p .made) (q .made) (p .made-are) (q .made-are);
       triangles-are = joined (a .triangles) (p .triangles) (q .triangles) (p .triangles-are) (q .triangles-are);
+      store-long = q .store-long ∙ p .store-long;
     }
+
+-- a cell's codes keep the store's length
+filled-long : (c : Cell) (base : ℕ) (store : List ℕ) (k : ℕ) → length (fillTo c base store k .store) ≡ length store
+unfolding fillTo fillStep
+filled-long c base store zero = refl
+filled-long c base store (suc k) = go (c .turn k) (fillTo c base store k) (filled-long c base store k)
+  where
+    stored : (b : Bool) (l : List ℕ) (i v : ℕ) → length (cond b (set l i v) l) ≡ length l
+    stored true l i v = length-set l i v
+    stored false l i v = refl
+
+    go : (t : Turn) (f : Fill) → length (f .store) ≡ length store → length (fillStep t (base + length (f .made)) f .store) ≡ length store
+    go t f e = stored (t .stores) (f .store) (t .place) (base + length (f .made)) ∙ e
 
 cell-added : (c : Cell) (m : Mesh) → Begins m (cellStep c m)
 unfolding cellStep
-cell-added c m = record { made = _; triangles = _; made-are = refl; triangles-are = refl }
+cell-added c m =
+    record { made = _; triangles = _; made-are = refl; triangles-are = refl; store-long = filled-long c (length (m .made)) (m .store) (c .vertices) }
 
 all-added : (f : ℕ → Mesh → Mesh) → ((k : ℕ) (m : Mesh) → Begins m (f k m)) → (n : ℕ) (m : Mesh) → Begins m (iterate f n m)
 all-added f step zero m = none-added m
@@ -55,3 +73,10 @@ side-added s side m = go (named (s .mask) side)
 pub regular-first : (s : Star) → Begins (regularMesh s) (meshOf s)
 unfolding meshOf
 regular-first s = all-added (transitionSide s) (side-added s) 6 _
+
+pub store-long : (s : Star) → length (meshOf s .store) ≡ storeLength (subdivisions s)
+store-long s = regular-first s .store-long ∙ whole s .long
+
+pub none-named : (s : Star) → s .mask ≡ 0 → meshOf s ≡ regularMesh s
+unfolding meshOf transitionSide named
+none-named s e = rw e

@@ -1,0 +1,5 @@
+pub mod Promises
+pub mod Judges
+pub mod Buffers
+pub mod Surface
+pub mod Kept
