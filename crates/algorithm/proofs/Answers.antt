@@ -17,14 +17,14 @@ use Rattle.model.specs.declared.Verdict.the-variants.{Passed, Refused}
 use Rattle.model.specs.declared.Extraction.{Extraction}
 use Rattle.model.specs.declared.Extraction.the-variants as Extraction
 use Rattle.model.specs.Refusals.{orElse}
-use Rattle.model.specs.Judging.{judgeFaces, judgeRoom}
-use Rattle.model.specs.Points.{Star, subdivisions}
+use Rattle.model.specs.Judging.{judgeFaces, judgeRoom, judgeStar}
+use Rattle.model.specs.Star.{Star, subdivisions}
 use Rattle.model.specs.Mesh.{meshOf, storeLength}
-use Rattle.model.specs.Extraction.{judgeStar, judgeExtraction, Outcome, outcome, extract}
+use Rattle.model.specs.Extraction.{judgeExtraction, Outcome, outcome, extract}
 use Rattle.grid.specs.Shape.{Shaped}
 use Rattle.judge.specs.First.{or-else-assoc, both-passed, unless-passed}
 use Rattle.judge.specs.Passing.{star-shaped}
-use Rattle.algorithm.specs.Posts.{judged, counted, Counted, Exact, Written, Leaves}
+use Rattle.algorithm.specs.Passes.{judged, counted, Counted, Exact, Written, Leaves}
 
 -- the contract's four claims
 pub told : {o : Outcome} {answer : Extraction} {store : List ℕ} {vertices : List Float} {triangles : List ℕ}

@@ -7,15 +7,16 @@ use mathlib.Core.Path.{_≡_, sym}
 use mathlib.Core.Bool.{true}
 use lib.ListN.{length}
 use Rattle.model.specs.declared.Counts.{Counts}
-use Rattle.model.specs.Steps.{iterate}
+use Rattle.laws.specs.Steps.{iterate}
 use Rattle.model.specs.Sides.{named}
-use Rattle.model.specs.Points.{Star, subdivisions, regularCase, transitionCase}
-use Rattle.model.specs.Mesh.{Cell, Mesh, blank, cellStep, regularCell, regularColumn, regularLayer, regularMesh, transitionCell, transitionRow, transitionSide, meshOf}
+use Rattle.model.specs.Star.{Star, subdivisions}
+use Rattle.model.specs.Points.{regularCase, transitionCase}
+use Rattle.model.specs.Mesh.{Cell, Mesh, emptyMesh, cellStep, regularCell, regularColumn, regularLayer, regularMesh, transitionCell, transitionRow, transitionSide, meshOf}
 use Rattle.grid.specs.SideLaws.{NextSide}
 use Rattle.cases.specs.Bits.{NextSet}
 use Rattle.cases.specs.Columns.{uncut}
-use Rattle.cells.specs.Posts.{Adds}
-use Rattle.algorithm.specs.Posts.{plus, Grows, Counted}
+use Rattle.cells.specs.Puts.{Adds}
+use Rattle.algorithm.specs.Passes.{plus, Grows, Counted}
 use Rattle.algorithm.proofs.Walk.{cells-skip, row-skip, sides-skip}
 use Rattle.algorithm.proofs.Holding.{cell-made, cell-triangles}
 
@@ -122,9 +123,9 @@ module _ (s : Star) where
   pub counted-mesh : (cells more : ℕ) (regular transition : Counts)
       → Grows (iterate (regularLayer s) (subdivisions s)) cells regular → Grows (iterate (transitionSide s) 6) more transition
       → Counted (meshOf s) (cells + more) (plus regular transition)
-  unfolding meshOf regularMesh blank
+  unfolding meshOf regularMesh emptyMesh
   counted-mesh cells more regular transition g h =
-      let start = blank (subdivisions s) in
+      let start = emptyMesh (subdivisions s) in
       let all = iterate (regularLayer s) (subdivisions s) start in
       record {
         vertices-are = omega (arith, g .vertices start, h .vertices all);

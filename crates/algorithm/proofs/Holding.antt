@@ -7,16 +7,15 @@ use lib.Ieee.{Float}
 use lib.ListN.{length, replicate, length-append}
 use lib.Seq.{take-all}
 use Rattle.model.specs.declared.Counts.{Counts}
-use Rattle.model.specs.Steps.{listed}
-use Rattle.model.specs.Points.{Star}
-use Rattle.model.specs.Mesh.{Cell, Mesh, fillTo, triangleOf, filled, blank, cellStep, storeLength, meshOf}
+use Rattle.laws.specs.Steps.{listed}
+use Rattle.model.specs.Star.{Star}
+use Rattle.model.specs.Mesh.{Cell, Mesh, fillTo, triangleOf, filled, emptyMesh, cellStep, storeLength, meshOf}
 use Rattle.model.specs.Extraction.{vertexFloats, triangleIndices}
 use Rattle.cells.specs.Buffers.{layVertices, layTriangles}
-use Rattle.cells.specs.Laying.{each-append}
-use Rattle.cells.specs.Steps.{length-listed}
-use Rattle.cells.specs.Posts.{Room, CellPut}
-use Rattle.algorithm.specs.Posts.{Fits, Holds, SameLengths, Exact, Written}
-use Rattle.algorithm.proofs.Buffers.{take-lay}
+use Rattle.laws.specs.Lists.{length-listed, each-append}
+use Rattle.laws.specs.Laying.{take-lay}
+use Rattle.cells.specs.Puts.{Room, CellPut}
+use Rattle.algorithm.specs.Passes.{Fits, Holds, SameLengths, Exact, Written}
 use Rattle.algorithm.proofs.Walk.{Upto}
 
 module _ (c : Cell) (m : Mesh) where
@@ -31,8 +30,8 @@ module _ (c : Cell) (m : Mesh) where
 -- ---- a cell written
 
 pub holds-none : (n : ℕ) (vertices : List Float) (triangles : List ℕ)
-    → Holds (blank n) (record { vertices = 0; triangles = 0 }) vertices triangles (replicate (storeLength n) 0)
-unfolding blank
+    → Holds (emptyMesh n) (record { vertices = 0; triangles = 0 }) vertices triangles (replicate (storeLength n) 0)
+unfolding emptyMesh
 holds-none n vertices triangles = record { vertex-count = refl; triangle-count = refl; vertices-are = refl; triangles-are = refl; store-is = refl }
 
 -- a cell can be written: the buffers hold the mesh before it, and have room for a mesh that has it
@@ -79,8 +78,8 @@ module _ {s : Star} {c : Cell} {m : Mesh} {counts : Counts} {vertices : List Flo
       record {
         vertex-count = cc (length-append (m .made) new);
         triangle-count = cc (length-append (m .triangles) sent);
-        vertices-are = rw (ev, lv, take-lay 6 vertexFloats (λ t. refl) vertices nv new rv, ready .holds .vertices-are, each-append 6 vertexFloats (m .made) new);
-        triangles-are = rw (et, lt, take-lay 3 triangleIndices (λ t. refl) triangles nt sent rt, ready .holds .triangles-are, each-append 3 triangleIndices (m .triangles) sent);
+        vertices-are = rw (ev, lv, take-lay 6 vertexFloats (λ t. refl) vertices nv new rv, ready .holds .vertices-are, each-append vertexFloats (m .made) new);
+        triangles-are = rw (et, lt, take-lay 3 triangleIndices (λ t. refl) triangles nt sent rt, ready .holds .triangles-are, each-append triangleIndices (m .triangles) sent);
         store-is = cc;
       }
 

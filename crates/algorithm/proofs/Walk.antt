@@ -6,16 +6,17 @@ use native.Mathlib.Omega.{arith}
 use mathlib.Core.Path.{_≡_, refl, sym, _∙_}
 use mathlib.Core.Bool.{Bool, true, false, cond}
 use lib.ListN.{length, length-append}
-use Rattle.model.specs.Steps.{iterate}
+use Rattle.laws.specs.Steps.{iterate}
 use Rattle.model.specs.Sides.{named}
-use Rattle.model.specs.Points.{Star, subdivisions, regularCase, transitionCase}
-use Rattle.model.specs.Mesh.{Cell, Mesh, blank, cellStep, regularCell, regularColumn, regularLayer, regularMesh, transitionCell, transitionRow, transitionSide, meshOf}
+use Rattle.model.specs.Star.{Star, subdivisions}
+use Rattle.model.specs.Points.{regularCase, transitionCase}
+use Rattle.model.specs.Mesh.{Cell, Mesh, emptyMesh, cellStep, regularCell, regularColumn, regularLayer, regularMesh, transitionCell, transitionRow, transitionSide, meshOf}
 use Rattle.grid.specs.SideLaws.{NextSide}
 use Rattle.cases.specs.Bits.{NextSet}
 use Rattle.cases.specs.Columns.{uncut}
-use Rattle.cells.specs.Steps.{iterate-upto}
+use Rattle.laws.specs.Iterated.{iterate-upto}
 use Rattle.cells.specs.Uncut.{nothing-step, regular-nothing, transition-nothing}
-use Rattle.algorithm.specs.Walk.{regularTo, transitionTo}
+use Rattle.model.specs.Mesh.{regularTo, transitionTo}
 
 -- ---- what a later mesh has at least
 
@@ -75,7 +76,7 @@ module _ (s : Star) where
 
   -- ---- regular cells
 
-  pub regular-start : regularTo s 0 0 0 ≡ blank (subdivisions s)
+  pub regular-start : regularTo s 0 0 0 ≡ emptyMesh (subdivisions s)
   unfolding regularTo
   regular-start = refl
 

@@ -3,13 +3,13 @@
 ghost use mathlib.Core.Path.{_≡_};
 ghost use mathlib.Core.Bool.{true};
 ghost use Prim.Native.Nat.{_+_, _<_, _≤_, _^_};
-ghost use Rattle.model.specs.Steps.{iterate};
+ghost use Rattle.laws.specs.Steps.{iterate};
 ghost use Rattle.model.specs.Sides.{named};
-ghost use Rattle.model.specs.Points.{Star};
+ghost use Rattle.model.specs.Star.{Star};
 ghost use Rattle.model.specs.Mesh.{regularColumn, regularLayer, transitionRow, transitionSide, meshOf};
 ghost use Rattle.cases.specs.Columns.{Columns, FineColumns};
 ghost use Rattle.cells.specs.Rows.{RegularTables, TransitionTables};
-ghost use Rattle.algorithm.specs.Posts.{plus, Grows, Counted, SomeColumns, SomeSide, SomeFineColumns};
+ghost use Rattle.algorithm.specs.Passes.{plus, Grows, Counted, SomeColumns, SomeSide, SomeFineColumns};
 use crate::NONE;
 use cases::bits::next_set;
 use cases::regular::cut_cells;

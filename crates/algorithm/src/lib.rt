@@ -3,13 +3,13 @@
 ghost use mathlib.Core.Path.{_≡_};
 ghost use Prim.Native.Nat.{_≤_};
 ghost use lib.ListN.{length};
-ghost use Rattle.model.specs.Points.{star};
+ghost use Rattle.model.specs.Star.{starFrom};
 ghost use Rattle.model.specs.Mesh.{storeLength};
 ghost use Rattle.model.specs.Extraction.{extract};
 ghost use Rattle.grid.specs.Shape.{Shaped};
 ghost use Rattle.cases.specs.Columns.{Columns, FineColumns};
 ghost use Rattle.cells.specs.Rows.{RegularTables, TransitionTables};
-ghost use Rattle.algorithm.specs.Posts.{judged, counted, Leaves};
+ghost use Rattle.algorithm.specs.Passes.{judged, counted, Leaves};
 
 mod counting;
 mod writing;
@@ -46,7 +46,7 @@ fn judge(
     neighbours: &[f32],
     held: usize,
 ) -> Verdict
-    ensures { λ r. ⌜ r ≡ judged (star block mask threshold (now (centre .entry)) (now (neighbours .entry))) held ⌝ }
+    ensures { λ r. ⌜ r ≡ judged (starFrom block mask threshold (now (centre .entry)) (now (neighbours .entry))) held ⌝ }
 {
     let shape = judge_star(block, mask, threshold, centre, neighbours);
     if let Verdict::Refused(refusal) = shape {
@@ -80,10 +80,10 @@ fn extract_mesh(
 ) -> Extraction
     requires { ⌜ RegularTables (now «regular_classes») (now «regular_cells») (now «regular_codes») ⌝ }
     requires { ⌜ TransitionTables (now «transition_classes») (now «transition_cells») (now «transition_codes») ⌝ }
-    requires { ⌜ Columns (block .subdivisions) (star block mask threshold (now centre) (now neighbours)) (now columns) × FineColumns (block .subdivisions) (star block mask threshold (now centre) (now neighbours)) (now «fine_columns») ⌝ }
-    requires { ⌜ Shaped (star block mask threshold (now centre) (now neighbours)) ⌝ }
+    requires { ⌜ Columns (block .subdivisions) (starFrom block mask threshold (now centre) (now neighbours)) (now columns) × FineColumns (block .subdivisions) (starFrom block mask threshold (now centre) (now neighbours)) (now «fine_columns») ⌝ }
+    requires { ⌜ Shaped (starFrom block mask threshold (now centre) (now neighbours)) ⌝ }
     requires { ⌜ storeLength (block .subdivisions) ≤ length (now store) ⌝ }
-    ensures { λ r. ⌜ Leaves (counted (star block mask threshold (now (centre .entry)) (now (neighbours .entry))) (now (store .entry)) (now (vertices .entry)) (now (triangles .entry))) r (now (store .exit)) (now (vertices .exit)) (now (triangles .exit)) ⌝ }
+    ensures { λ r. ⌜ Leaves (counted (starFrom block mask threshold (now (centre .entry)) (now (neighbours .entry))) (now (store .entry)) (now (vertices .entry)) (now (triangles .entry))) r (now (store .exit)) (now (vertices .exit)) (now (triangles .exit)) ⌝ }
 {
     let counts = count_mesh(
         block.subdivisions,
@@ -135,10 +135,10 @@ pub fn extract(
     vertices: &mut [f32],
     triangles: &mut [u32],
 ) -> Extraction
-    ensures answer { λ r. ⌜ r ≡ extract (star block mask threshold (now (centre .entry)) (now (neighbours .entry))) (now (store .entry)) (now (vertices .entry)) (now (triangles .entry)) .answer ⌝ }
-    ensures store { λ r. ⌜ now (store .exit) ≡ extract (star block mask threshold (now (centre .entry)) (now (neighbours .entry))) (now (store .entry)) (now (vertices .entry)) (now (triangles .entry)) .store ⌝ }
-    ensures vertices { λ r. ⌜ now (vertices .exit) ≡ extract (star block mask threshold (now (centre .entry)) (now (neighbours .entry))) (now (store .entry)) (now (vertices .entry)) (now (triangles .entry)) .vertices ⌝ }
-    ensures triangles { λ r. ⌜ now (triangles .exit) ≡ extract (star block mask threshold (now (centre .entry)) (now (neighbours .entry))) (now (store .entry)) (now (vertices .entry)) (now (triangles .entry)) .triangles ⌝ }
+    ensures answer { λ r. ⌜ r ≡ extract (starFrom block mask threshold (now (centre .entry)) (now (neighbours .entry))) (now (store .entry)) (now (vertices .entry)) (now (triangles .entry)) .answer ⌝ }
+    ensures store { λ r. ⌜ now (store .exit) ≡ extract (starFrom block mask threshold (now (centre .entry)) (now (neighbours .entry))) (now (store .entry)) (now (vertices .entry)) (now (triangles .entry)) .store ⌝ }
+    ensures vertices { λ r. ⌜ now (vertices .exit) ≡ extract (starFrom block mask threshold (now (centre .entry)) (now (neighbours .entry))) (now (store .entry)) (now (vertices .entry)) (now (triangles .entry)) .vertices ⌝ }
+    ensures triangles { λ r. ⌜ now (triangles .exit) ≡ extract (starFrom block mask threshold (now (centre .entry)) (now (neighbours .entry))) (now (store .entry)) (now (vertices .entry)) (now (triangles .entry)) .triangles ⌝ }
 {
     let verdict = judge(block, mask, threshold, centre, neighbours, store.len());
     if let Verdict::Refused(refusal) = verdict {

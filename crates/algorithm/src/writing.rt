@@ -5,13 +5,13 @@ ghost use mathlib.Core.Bool.{true};
 ghost use Prim.Native.Nat.{_+_, _<_};
 ghost use lib.ListN.{length, replicate};
 ghost use Rattle.model.specs.Sides.{named};
-ghost use Rattle.model.specs.Points.{star};
+ghost use Rattle.model.specs.Star.{starFrom};
 ghost use Rattle.model.specs.Mesh.{storeLength, regularMesh, meshOf};
 ghost use Rattle.grid.specs.Shape.{Shaped};
 ghost use Rattle.cases.specs.Columns.{Columns, FineColumns};
 ghost use Rattle.cells.specs.Rows.{RegularTables, TransitionTables};
-ghost use Rattle.algorithm.specs.Walk.{regularTo, transitionTo};
-ghost use Rattle.algorithm.specs.Posts.{Fits, Holds, Exact, Written};
+ghost use Rattle.model.specs.Mesh.{regularTo, transitionTo};
+ghost use Rattle.algorithm.specs.Passes.{Fits, Holds, Exact, Written};
 use crate::NONE;
 use cases::bits::next_set;
 use cases::regular::cut_cells;
@@ -41,12 +41,12 @@ fn write_column(
     triangles: &mut [u32],
 ) -> Counts
     requires { ⌜ RegularTables (now classes) (now cells) (now codes) ⌝ }
-    requires { ⌜ Columns (block .subdivisions) (star block mask threshold (now centre) (now neighbours)) (now columns) ⌝ }
-    requires { ⌜ Shaped (star block mask threshold (now centre) (now neighbours)) ⌝ }
+    requires { ⌜ Columns (block .subdivisions) (starFrom block mask threshold (now centre) (now neighbours)) (now columns) ⌝ }
+    requires { ⌜ Shaped (starFrom block mask threshold (now centre) (now neighbours)) ⌝ }
     requires { ⌜ (x < block .subdivisions) × (y < block .subdivisions) ⌝ }
-    requires { ⌜ Fits (star block mask threshold (now centre) (now neighbours)) (now vertices) (now triangles) (now store) ⌝ }
-    requires { ⌜ Holds (regularTo (star block mask threshold (now centre) (now neighbours)) x y 0) counts (now vertices) (now triangles) (now store) ⌝ }
-    ensures { λ r. ⌜ Holds (regularTo (star block mask threshold (now (centre .entry)) (now (neighbours .entry))) x (y + 1) 0) r (now (vertices .exit)) (now (triangles .exit)) (now (store .exit)) ⌝ }
+    requires { ⌜ Fits (starFrom block mask threshold (now centre) (now neighbours)) (now vertices) (now triangles) (now store) ⌝ }
+    requires { ⌜ Holds (regularTo (starFrom block mask threshold (now centre) (now neighbours)) x y 0) counts (now vertices) (now triangles) (now store) ⌝ }
+    ensures { λ r. ⌜ Holds (regularTo (starFrom block mask threshold (now (centre .entry)) (now (neighbours .entry))) x (y + 1) 0) r (now (vertices .exit)) (now (triangles .exit)) (now (store .exit)) ⌝ }
 {
     let n = block.subdivisions;
     let cut = cut_cells(n, columns, x, y);
@@ -92,12 +92,12 @@ fn write_layer(
     triangles: &mut [u32],
 ) -> Counts
     requires { ⌜ RegularTables (now classes) (now cells) (now codes) ⌝ }
-    requires { ⌜ Columns (block .subdivisions) (star block mask threshold (now centre) (now neighbours)) (now columns) ⌝ }
-    requires { ⌜ Shaped (star block mask threshold (now centre) (now neighbours)) ⌝ }
+    requires { ⌜ Columns (block .subdivisions) (starFrom block mask threshold (now centre) (now neighbours)) (now columns) ⌝ }
+    requires { ⌜ Shaped (starFrom block mask threshold (now centre) (now neighbours)) ⌝ }
     requires { ⌜ x < block .subdivisions ⌝ }
-    requires { ⌜ Fits (star block mask threshold (now centre) (now neighbours)) (now vertices) (now triangles) (now store) ⌝ }
-    requires { ⌜ Holds (regularTo (star block mask threshold (now centre) (now neighbours)) x 0 0) counts (now vertices) (now triangles) (now store) ⌝ }
-    ensures { λ r. ⌜ Holds (regularTo (star block mask threshold (now (centre .entry)) (now (neighbours .entry))) (x + 1) 0 0) r (now (vertices .exit)) (now (triangles .exit)) (now (store .exit)) ⌝ }
+    requires { ⌜ Fits (starFrom block mask threshold (now centre) (now neighbours)) (now vertices) (now triangles) (now store) ⌝ }
+    requires { ⌜ Holds (regularTo (starFrom block mask threshold (now centre) (now neighbours)) x 0 0) counts (now vertices) (now triangles) (now store) ⌝ }
+    ensures { λ r. ⌜ Holds (regularTo (starFrom block mask threshold (now (centre .entry)) (now (neighbours .entry))) (x + 1) 0 0) r (now (vertices .exit)) (now (triangles .exit)) (now (store .exit)) ⌝ }
 {
     let n = block.subdivisions;
     let mut y = 0;
@@ -139,11 +139,11 @@ fn write_regular_cells(
     triangles: &mut [u32],
 ) -> Counts
     requires { ⌜ RegularTables (now classes) (now cells) (now codes) ⌝ }
-    requires { ⌜ Columns (block .subdivisions) (star block mask threshold (now centre) (now neighbours)) (now columns) ⌝ }
-    requires { ⌜ Shaped (star block mask threshold (now centre) (now neighbours)) ⌝ }
-    requires { ⌜ Fits (star block mask threshold (now centre) (now neighbours)) (now vertices) (now triangles) (now store) ⌝ }
+    requires { ⌜ Columns (block .subdivisions) (starFrom block mask threshold (now centre) (now neighbours)) (now columns) ⌝ }
+    requires { ⌜ Shaped (starFrom block mask threshold (now centre) (now neighbours)) ⌝ }
+    requires { ⌜ Fits (starFrom block mask threshold (now centre) (now neighbours)) (now vertices) (now triangles) (now store) ⌝ }
     requires { ⌜ now store ≡ replicate (storeLength (block .subdivisions)) 0 ⌝ }
-    ensures { λ r. ⌜ Holds (regularMesh (star block mask threshold (now (centre .entry)) (now (neighbours .entry)))) r (now (vertices .exit)) (now (triangles .exit)) (now (store .exit)) ⌝ }
+    ensures { λ r. ⌜ Holds (regularMesh (starFrom block mask threshold (now (centre .entry)) (now (neighbours .entry)))) r (now (vertices .exit)) (now (triangles .exit)) (now (store .exit)) ⌝ }
 {
     let n = block.subdivisions;
     let mut counts = NONE;
@@ -188,12 +188,12 @@ fn write_row(
     triangles: &mut [u32],
 ) -> Counts
     requires { ⌜ TransitionTables (now classes) (now cells) (now codes) ⌝ }
-    requires { ⌜ FineColumns (block .subdivisions) (star block mask threshold (now centre) (now neighbours)) (now columns) ⌝ }
-    requires { ⌜ Shaped (star block mask threshold (now centre) (now neighbours)) ⌝ }
+    requires { ⌜ FineColumns (block .subdivisions) (starFrom block mask threshold (now centre) (now neighbours)) (now columns) ⌝ }
+    requires { ⌜ Shaped (starFrom block mask threshold (now centre) (now neighbours)) ⌝ }
     requires { ⌜ (side < 6) × ((named mask side ≡ true) × (u < block .subdivisions)) ⌝ }
-    requires { ⌜ Fits (star block mask threshold (now centre) (now neighbours)) (now vertices) (now triangles) (now store) ⌝ }
-    requires { ⌜ Holds (transitionTo (star block mask threshold (now centre) (now neighbours)) side u 0) counts (now vertices) (now triangles) (now store) ⌝ }
-    ensures { λ r. ⌜ Holds (transitionTo (star block mask threshold (now (centre .entry)) (now (neighbours .entry))) side (u + 1) 0) r (now (vertices .exit)) (now (triangles .exit)) (now (store .exit)) ⌝ }
+    requires { ⌜ Fits (starFrom block mask threshold (now centre) (now neighbours)) (now vertices) (now triangles) (now store) ⌝ }
+    requires { ⌜ Holds (transitionTo (starFrom block mask threshold (now centre) (now neighbours)) side u 0) counts (now vertices) (now triangles) (now store) ⌝ }
+    ensures { λ r. ⌜ Holds (transitionTo (starFrom block mask threshold (now (centre .entry)) (now (neighbours .entry))) side (u + 1) 0) r (now (vertices .exit)) (now (triangles .exit)) (now (store .exit)) ⌝ }
 {
     let n = block.subdivisions;
     let cut = cut_row(n, columns, side, u);
@@ -239,12 +239,12 @@ fn write_side(
     triangles: &mut [u32],
 ) -> Counts
     requires { ⌜ TransitionTables (now classes) (now cells) (now codes) ⌝ }
-    requires { ⌜ FineColumns (block .subdivisions) (star block mask threshold (now centre) (now neighbours)) (now columns) ⌝ }
-    requires { ⌜ Shaped (star block mask threshold (now centre) (now neighbours)) ⌝ }
+    requires { ⌜ FineColumns (block .subdivisions) (starFrom block mask threshold (now centre) (now neighbours)) (now columns) ⌝ }
+    requires { ⌜ Shaped (starFrom block mask threshold (now centre) (now neighbours)) ⌝ }
     requires { ⌜ (side < 6) × (named mask side ≡ true) ⌝ }
-    requires { ⌜ Fits (star block mask threshold (now centre) (now neighbours)) (now vertices) (now triangles) (now store) ⌝ }
-    requires { ⌜ Holds (transitionTo (star block mask threshold (now centre) (now neighbours)) side 0 0) counts (now vertices) (now triangles) (now store) ⌝ }
-    ensures { λ r. ⌜ Holds (transitionTo (star block mask threshold (now (centre .entry)) (now (neighbours .entry))) (side + 1) 0 0) r (now (vertices .exit)) (now (triangles .exit)) (now (store .exit)) ⌝ }
+    requires { ⌜ Fits (starFrom block mask threshold (now centre) (now neighbours)) (now vertices) (now triangles) (now store) ⌝ }
+    requires { ⌜ Holds (transitionTo (starFrom block mask threshold (now centre) (now neighbours)) side 0 0) counts (now vertices) (now triangles) (now store) ⌝ }
+    ensures { λ r. ⌜ Holds (transitionTo (starFrom block mask threshold (now (centre .entry)) (now (neighbours .entry))) (side + 1) 0 0) r (now (vertices .exit)) (now (triangles .exit)) (now (store .exit)) ⌝ }
 {
     let n = block.subdivisions;
     let mut u = 0;
@@ -287,11 +287,11 @@ fn write_transition_cells(
     triangles: &mut [u32],
 ) -> Counts
     requires { ⌜ TransitionTables (now classes) (now cells) (now codes) ⌝ }
-    requires { ⌜ FineColumns (block .subdivisions) (star block mask threshold (now centre) (now neighbours)) (now columns) ⌝ }
-    requires { ⌜ Shaped (star block mask threshold (now centre) (now neighbours)) ⌝ }
-    requires { ⌜ Fits (star block mask threshold (now centre) (now neighbours)) (now vertices) (now triangles) (now store) ⌝ }
-    requires { ⌜ Holds (regularMesh (star block mask threshold (now centre) (now neighbours))) counts (now vertices) (now triangles) (now store) ⌝ }
-    ensures { λ r. ⌜ Holds (meshOf (star block mask threshold (now (centre .entry)) (now (neighbours .entry)))) r (now (vertices .exit)) (now (triangles .exit)) (now (store .exit)) ⌝ }
+    requires { ⌜ FineColumns (block .subdivisions) (starFrom block mask threshold (now centre) (now neighbours)) (now columns) ⌝ }
+    requires { ⌜ Shaped (starFrom block mask threshold (now centre) (now neighbours)) ⌝ }
+    requires { ⌜ Fits (starFrom block mask threshold (now centre) (now neighbours)) (now vertices) (now triangles) (now store) ⌝ }
+    requires { ⌜ Holds (regularMesh (starFrom block mask threshold (now centre) (now neighbours))) counts (now vertices) (now triangles) (now store) ⌝ }
+    ensures { λ r. ⌜ Holds (meshOf (starFrom block mask threshold (now (centre .entry)) (now (neighbours .entry)))) r (now (vertices .exit)) (now (triangles .exit)) (now (store .exit)) ⌝ }
 {
     let mut side = next_side(mask, 0);
     while side < SIDES {
@@ -348,10 +348,10 @@ pub fn write_mesh(
 )
     requires { ⌜ RegularTables (now «regular_classes») (now «regular_cells») (now «regular_codes») ⌝ }
     requires { ⌜ TransitionTables (now «transition_classes») (now «transition_cells») (now «transition_codes») ⌝ }
-    requires { ⌜ Columns (block .subdivisions) (star block mask threshold (now centre) (now neighbours)) (now columns) × FineColumns (block .subdivisions) (star block mask threshold (now centre) (now neighbours)) (now «fine_columns») ⌝ }
-    requires { ⌜ Shaped (star block mask threshold (now centre) (now neighbours)) ⌝ }
-    requires { ⌜ Exact (star block mask threshold (now centre) (now neighbours)) (now vertices) (now triangles) (now store) ⌝ }
-    ensures { λ _. ⌜ Written (meshOf (star block mask threshold (now (centre .entry)) (now (neighbours .entry)))) (now (vertices .exit)) (now (triangles .exit)) (now (store .exit)) ⌝ }
+    requires { ⌜ Columns (block .subdivisions) (starFrom block mask threshold (now centre) (now neighbours)) (now columns) × FineColumns (block .subdivisions) (starFrom block mask threshold (now centre) (now neighbours)) (now «fine_columns») ⌝ }
+    requires { ⌜ Shaped (starFrom block mask threshold (now centre) (now neighbours)) ⌝ }
+    requires { ⌜ Exact (starFrom block mask threshold (now centre) (now neighbours)) (now vertices) (now triangles) (now store) ⌝ }
+    ensures { λ _. ⌜ Written (meshOf (starFrom block mask threshold (now (centre .entry)) (now (neighbours .entry)))) (now (vertices .exit)) (now (triangles .exit)) (now (store .exit)) ⌝ }
 {
     clear(store);
     let counts = write_regular_cells(

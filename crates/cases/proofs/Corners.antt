@@ -7,11 +7,12 @@ use native.Mathlib.Nat.{add-zero, add-comm, mod-lt, zero-lt-suc, le-of-suc-le-su
 use native.Mathlib.Omega.{arith}
 use lib.Bits.{bitAnd, bitOr, bitXor}
 use lib.ListN.{getD}
-use Rattle.model.specs.Steps.{total}
+use Rattle.laws.specs.Steps.{total}
 use Rattle.model.specs.Samples.{sampleOf}
 use Rattle.model.specs.Rotations.{xyz}
 use Rattle.model.specs.Formulas.{insideBit}
-use Rattle.model.specs.Points.{Star, subdivisions, cornerPoint, regularCase}
+use Rattle.model.specs.Star.{Star, subdivisions}
+use Rattle.model.specs.Points.{cornerPoint, regularCase}
 use Rattle.cases.specs.Bits.{shift-bit, and-bit, or-bit, xor-clear}
 use Rattle.cases.specs.Columns.{Columns, uncut}
 use Rattle.cases.specs.Layers.{fourBits}

@@ -8,7 +8,7 @@ use native.Mathlib.Omega.{arith}
 use lib.Ieee.{Float}
 use lib.ListN.{getD}
 use Rattle.model.specs.declared.Block.{Block}
-use Rattle.model.specs.Points.{star}
+use Rattle.model.specs.Star.{starFrom}
 use Rattle.cases.specs.Columns.{Columns}
 use Rattle.cases.specs.Layers.{lineAt, columnAt}
 use Rattle.cases.specs.Words.{WordsPut}
@@ -33,7 +33,7 @@ module _ (n : ℕ) (threshold : Float) (centre : List Float) where
 
 pub columns-are : (block : Block) (mask : ℕ) (threshold : Float) (centre ns : List Float) (columns : List ℕ)
     → LayersPut (block .subdivisions) threshold centre (block .subdivisions + 1) columns
-    → Columns (block .subdivisions) (star block mask threshold centre ns) columns
+    → Columns (block .subdivisions) (starFrom block mask threshold centre ns) columns
 columns-are block mask threshold centre ns columns put =
     let n = block .subdivisions in
     record {

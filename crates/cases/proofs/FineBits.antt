@@ -8,7 +8,8 @@ use native.Mathlib.Omega.{arith}
 use lib.Ieee.{Float}
 use lib.ListN.{getD}
 use Rattle.model.specs.Sides.{named}
-use Rattle.model.specs.Points.{Star, subdivisions, neighbourAt, fineSample}
+use Rattle.model.specs.Star.{Star, subdivisions, neighbourAt}
+use Rattle.model.specs.Points.{fineSample}
 use Rattle.grid.specs.SideLaws.{NextSide}
 use Rattle.cases.specs.Columns.{FineColumns}
 use Rattle.cases.specs.Faces.{wholeColumn, SidesTo}

@@ -10,7 +10,8 @@ use lib.Bits.{bitAnd, bitOr, bitXor}
 use lib.ListN.{getD}
 use Rattle.model.specs.Sides.{named}
 use Rattle.model.specs.Formulas.{insideBit}
-use Rattle.model.specs.Points.{Star, fineSample, transitionCase}
+use Rattle.model.specs.Star.{Star}
+use Rattle.model.specs.Points.{fineSample, transitionCase}
 use Rattle.cases.specs.Bits.{shift-bit, and-bit, or-bit, xor-clear}
 use Rattle.cases.specs.Columns.{FineColumns, uncut}
 

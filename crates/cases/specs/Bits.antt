@@ -10,7 +10,7 @@ use lib.Pow.{pow-pos, pow-add, shr-shr, high, shl-exact, shl-shr}
 use lib.Dec.{lit<}
 use lib.Bits.{bitAnd, bitOr, bitXor, differ, and-step, or-step, xor-step}
 use lib.Count.{trailingZeros, under}
-use Rattle.model.specs.Steps.{total}
+use Rattle.laws.specs.Steps.{total}
 
 -- the first set bit at or after from, or end
 pub record NextSet (bits end from r : ℕ) : Type 0 where

@@ -9,7 +9,8 @@ use Rattle.model.specs.Samples.{sampleOf}
 use Rattle.model.specs.Sides.{named}
 use Rattle.model.specs.Rotations.{xyz}
 use Rattle.model.specs.Formulas.{insideBit}
-use Rattle.model.specs.Points.{Star, subdivisions, fineSample}
+use Rattle.model.specs.Star.{Star, subdivisions}
+use Rattle.model.specs.Points.{fineSample}
 
 -- no point of the cell is inside, or all of them are
 abbrev pub uncut : ℕ → ℕ → Bool

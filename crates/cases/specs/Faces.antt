@@ -5,7 +5,8 @@ use mathlib.Core.Bool.{true}
 use mathlib.Core.List.{List}
 use lib.ListN.{getD}
 use Rattle.model.specs.Sides.{named}
-use Rattle.model.specs.Points.{Star, subdivisions, fineSample}
+use Rattle.model.specs.Star.{Star, subdivisions}
+use Rattle.model.specs.Points.{fineSample}
 use Rattle.cases.specs.Words.{wordOf}
 
 -- a side's whole word at u2

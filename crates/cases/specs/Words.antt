@@ -4,7 +4,7 @@ use mathlib.Core.Path.{_≡_}
 use mathlib.Core.List.{List}
 use lib.Ieee.{Float}
 use lib.ListN.{getD}
-use Rattle.model.specs.Steps.{total}
+use Rattle.laws.specs.Steps.{total}
 use Rattle.model.specs.Formulas.{insideBit}
 
 -- the word of the first m of a line of samples

@@ -6,7 +6,8 @@ ghost use Prim.Native.Nat.{ℕ, _+_, _*_, _/_, _%_, _^_, _≤_, _<_};
 ghost use lib.Ieee.{Float};
 ghost use lib.ListN.{length};
 ghost use Rattle.model.specs.Samples.{sampleLength};
-ghost use Rattle.model.specs.Points.{Star, star, regularCase};
+ghost use Rattle.model.specs.Star.{Star, starFrom};
+ghost use Rattle.model.specs.Points.{regularCase};
 ghost use Rattle.cases.specs.Columns.{Columns, uncut};
 ghost use Rattle.cases.specs.Layers.{columnAt, fourBits};
 ghost use Rattle.cases.specs.Words.{WordsPut};
@@ -48,7 +49,7 @@ fn layer(n: usize, threshold: f32, centre: &[f32], x: usize, columns: &mut [u64]
 // The column at (x, y) stands at 17 x + y.
 pub fn regular_columns(block: Block, threshold: f32, centre: &[f32], columns: &mut [u64; 289])
     requires { ⌜ (block .subdivisions ≤ 16) × (length (now centre) ≡ sampleLength (block .subdivisions)) ⌝ }
-    ensures { λ _. ⌜ ((mask : ℕ) (ns : List Float) → Columns (block .subdivisions) (star block mask threshold (now (centre .entry)) ns) (now (columns .exit))) ⌝ }
+    ensures { λ _. ⌜ ((mask : ℕ) (ns : List Float) → Columns (block .subdivisions) (starFrom block mask threshold (now (centre .entry)) ns) (now (columns .exit))) ⌝ }
 {
     let n = block.subdivisions;
     let m = n + 1;

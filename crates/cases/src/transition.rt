@@ -6,7 +6,8 @@ ghost use Prim.Native.Nat.{ℕ, _+_, _*_, _/_, _%_, _^_, _≤_, _<_};
 ghost use lib.Ieee.{Float};
 ghost use lib.ListN.{length};
 ghost use Rattle.model.specs.Sides.{named, neighbourLength, neighboursLength};
-ghost use Rattle.model.specs.Points.{Star, star, transitionCase};
+ghost use Rattle.model.specs.Star.{Star, starFrom};
+ghost use Rattle.model.specs.Points.{transitionCase};
 ghost use Rattle.grid.specs.SideLaws.{NeighbourThere};
 ghost use Rattle.grid.specs.RotationLaws.{OnFineFace};
 ghost use Rattle.cases.specs.Columns.{FineColumns, uncut};
@@ -84,7 +85,7 @@ fn face(
 )
     requires { ⌜ NeighbourThere (block .subdivisions) mask (now neighbours) side ⌝ }
     requires { ⌜ length (now columns) ≡ 198 ⌝ }
-    ensures { λ _. ⌜ ((centre : List Float) → WordsPut (wholeColumn (star block mask threshold centre (now (neighbours .entry))) side) (33 * side) (2 * block .subdivisions + 1) (now (columns .entry)) (now (columns .exit))) ⌝ }
+    ensures { λ _. ⌜ ((centre : List Float) → WordsPut (wholeColumn (starFrom block mask threshold centre (now (neighbours .entry))) side) (33 * side) (2 * block .subdivisions + 1) (now (columns .entry)) (now (columns .exit))) ⌝ }
 {
     let end = 2 * block.subdivisions;
     let fine = neighbour(block.subdivisions, mask, neighbours, side);
@@ -104,7 +105,7 @@ pub fn fine_columns(
     columns: &mut [u64; 198],
 )
     requires { ⌜ (block .subdivisions ≤ 16) × ((mask ≤ 63) × (length (now neighbours) ≡ neighboursLength (block .subdivisions) mask)) ⌝ }
-    ensures { λ _. ⌜ ((centre : List Float) → FineColumns (block .subdivisions) (star block mask threshold centre (now (neighbours .entry))) (now (columns .exit))) ⌝ }
+    ensures { λ _. ⌜ ((centre : List Float) → FineColumns (block .subdivisions) (starFrom block mask threshold centre (now (neighbours .entry))) (now (columns .exit))) ⌝ }
 {
     let mut side = next_side(mask, 0);
     while side < SIDES {

@@ -16,11 +16,12 @@ use Rattle.tables.specs.RulesSlots.{regular-code-right}
 use Rattle.tables.specs.RulesBorder.{transition-code-right}
 use Rattle.model.specs.Rotations.{xyz}
 use Rattle.model.specs.declared.FacePoint.{FacePoint}
-use Rattle.model.specs.Points.{Star, regularCase, transitionCase}
+use Rattle.model.specs.Star.{Star}
+use Rattle.model.specs.Points.{regularCase, transitionCase}
 use Rattle.model.specs.Mesh.{Cell, fillTo, regularCell, transitionCell}
 use Rattle.cells.specs.declared.CellIndex.{CellIndex}
 use Rattle.cells.specs.declared.CellIndex.the-variants.{Regular, Transition}
-use Rattle.cells.specs.Posts.{Room, CellPut, Adds}
+use Rattle.cells.specs.Puts.{Room, CellPut, Adds}
 use Rattle.cells.specs.Rows.{Followed}
 use Rattle.cells.specs.Kinds.{Usable, cellOf, Coded}
 

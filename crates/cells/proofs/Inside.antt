@@ -11,18 +11,19 @@ use lib.ListN.{getD}
 use Rattle.tables.specs.Codes.{stepX, stepY, stepZ, isNew}
 use Rattle.tables.specs.Cases.{verticesOf, trianglesOf, regularCodes, regularCode, regularVertices}
 use Rattle.tables.specs.Cases.{regularCell as regularRow}
-use Rattle.tables.specs.Counting.{one, howMany}
+use Rattle.laws.specs.Counting.{one, howMany}
 use Rattle.tables.specs.RulesSlots.{crossedAtTop, new-codes}
-use Rattle.model.specs.Steps.{total}
+use Rattle.laws.specs.Steps.{total}
 use Rattle.model.specs.Rotations.{xyz}
-use Rattle.model.specs.Points.{Star, regularCase}
+use Rattle.model.specs.Star.{Star}
+use Rattle.model.specs.Points.{regularCase}
 use Rattle.model.specs.Mesh.{regularLeaves, regularCell}
 use Rattle.cells.specs.declared.CellIndex.the-variants.{Regular}
 use Rattle.cells.specs.Fills.{made-total}
 use Rattle.cells.specs.Kinds.{makesAt, cellOf}
-use Rattle.cells.specs.Posts.{Adds}
+use Rattle.cells.specs.Puts.{Adds}
 use Rattle.cells.proofs.ByCase.{adds-as, regular-is}
-use Rattle.cells.proofs.Turns.{turn-count}
+use Rattle.cells.proofs.Uses.{use-count}
 
 pub all-three : (a b c : Bool) → a && (b && c) ≡ true → (a ≡ true) × ((b ≡ true) × (c ≡ true))
 all-three true true c e = (refl, (refl, e))
@@ -63,7 +64,7 @@ module _ (x y z : ℕ) (hx : 0 < x) (hy : 0 < y) (hz : 0 < z) where
         (record {
           few = (omega arith, few-triangles);
           vertices = λ base store.
-              made-total (cellOf s at codes row false) (λ i. cond (makesAt at (getD codes i 0)) 1 0) (λ i. turn-count s at (getD codes i 0)) base store (verticesOf row)
+              made-total (cellOf s at codes row false) (λ i. cond (makesAt at (getD codes i 0)) 1 0) (λ i. use-count s at (getD codes i 0)) base store (verticesOf row)
               ∙ counted;
           triangles = sym dt-is;
         })

@@ -1,6 +1,6 @@
 mod Windings
 mod Staying
-mod Turns
+mod Uses
 mod Making
 mod ByCase
 mod Inside

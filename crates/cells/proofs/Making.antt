@@ -9,7 +9,8 @@ use Rattle.model.specs.declared.Xyz.{Xyz}
 use Rattle.model.specs.declared.GridPoint.{GridPoint}
 use Rattle.model.specs.declared.Vertex.{Vertex}
 use Rattle.model.specs.Formulas.{vertexBetween}
-use Rattle.model.specs.Points.{Star, cornerPoint, regularPoint, transitionPoint}
+use Rattle.model.specs.Star.{Star}
+use Rattle.model.specs.Points.{cornerPoint, regularPoint, transitionPoint}
 use Rattle.model.specs.Mesh.{regularVertex, transitionVertex}
 use Rattle.grid.specs.Places.{Within}
 use Rattle.points.specs.TransitionPoints.{InCell, cell-point-in}

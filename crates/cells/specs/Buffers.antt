@@ -1,17 +1,12 @@
--- Items laid into a lent buffer, and a cell's indices in their twelve places. Definitions only.
-use Prim.Native.Nat.{ℕ, _-_, _*_}
+-- Vertices and triangles laid into a lent buffer, and a cell's indices in their twelve places. Definitions only.
+use Prim.Native.Nat.{ℕ, _-_}
 use mathlib.Core.List.{List, _++_}
 use lib.Ieee.{Float}
 use lib.ListN.{length, replicate}
-use lib.Seq.{sets}
 use Rattle.model.specs.declared.Triangle.{Triangle}
-use Rattle.model.specs.Steps.{each}
+use Rattle.laws.specs.Laying.{lay}
 use Rattle.model.specs.Mesh.{Made}
 use Rattle.model.specs.Extraction.{vertexFloats, triangleIndices}
-
--- the buffer with the items, each of so many places, from item i on
-unfoldable pub lay : {A T : Type 0} → ℕ → (T → List A) → List A → ℕ → List T → List A
-lay width out buffer i items = sets buffer (width * i) (each out items)
 
 abbrev pub layVertices : List Float → ℕ → List Made → List Float
 layVertices = lay 6 vertexFloats

@@ -11,13 +11,14 @@ use lib.Ieee.{Float}
 use lib.ListN.{length, getD, set, replicate, length-append, length-set}
 use lib.Seq.{set-at}
 use Rattle.model.specs.declared.Triangle.{Triangle}
-use Rattle.model.specs.Steps.{listed, total}
-use Rattle.model.specs.Mesh.{Turn, Cell, Fill, madeBy, fillStep, fillTo, triangleOf}
+use Rattle.laws.specs.Steps.{listed, total}
+use Rattle.model.specs.Mesh.{CodeUse, Cell, Fill, madeBy, fillStep, fillTo, triangleOf}
 use Rattle.model.specs.Extraction.{vertexFloats, triangleIndices}
 use Rattle.cells.specs.Buffers.{layTriangles, pad}
-use Rattle.cells.specs.Steps.{iterate-upto, iterate-keeps, length-listed, listed-same}
-use Rattle.cells.specs.Laying.{lay-none, lay-append, length-lay}
-use Rattle.cells.specs.Posts.{Room, TurnPut, FillPut, CellPut, Adds, Nothing}
+use Rattle.laws.specs.Iterated.{iterate-upto, iterate-keeps}
+use Rattle.laws.specs.Lists.{length-listed, listed-same}
+use Rattle.laws.specs.Laying.{lay-none, lay-append, length-lay}
+use Rattle.cells.specs.Puts.{Room, CodePut, FillPut, CellPut, Adds, Nothing}
 
 -- ---- twelve places
 
@@ -50,21 +51,21 @@ length-kept false store place next = refl
 
 module _ (c : Cell) (base : ℕ) (store : List ℕ) where
   pub fill-made : (k : ℕ) → length (fillTo c base store (suc k) .made)
-      ≡ length (fillTo c base store k .made) + length (madeBy (c .turn k))
+      ≡ length (fillTo c base store k .made) + length (madeBy (c .uses k))
   unfolding fillTo fillStep
   fill-made k = rw length-append
 
-  fill-grows : (k : ℕ) (f : Fill) → length (f .made) ≤ length (fillStep (c .turn k) (base + length (f .made)) f .made)
+  fill-grows : (k : ℕ) (f : Fill) → length (f .made) ≤ length (fillStep (c .uses k) (base + length (f .made)) f .made)
   unfolding fillStep
-  fill-grows k f = omega (arith, length-append (f .made) (madeBy (c .turn k)))
+  fill-grows k f = omega (arith, length-append (f .made) (madeBy (c .uses k)))
 
   -- what vertex k makes is within what all of them make
-  pub fill-room : (k m : ℕ) → k < m → length (fillTo c base store k .made) + length (madeBy (c .turn k))
+  pub fill-room : (k m : ℕ) → k < m → length (fillTo c base store k .made) + length (madeBy (c .uses k))
       ≤ length (fillTo c base store m .made)
   unfolding fillTo
   fill-room k m h =
       rw (← fill-made k)
-      (iterate-upto (λ (f : Fill). length (f .made)) (λ i f. fillStep (c .turn i) (base + length (f .made)) f) fill-grows
+      (iterate-upto (λ (f : Fill). length (f .made)) (λ i f. fillStep (c .uses i) (base + length (f .made)) f) fill-grows
       (record { made = []; index = []; store = store }) (suc k) m h)
 
   pub length-index : (k : ℕ) → length (fillTo c base store k .index) ≡ k
@@ -75,8 +76,8 @@ module _ (c : Cell) (base : ℕ) (store : List ℕ) where
   pub length-fill-store : (k : ℕ) → length (fillTo c base store k .store) ≡ length store
   unfolding fillTo fillStep
   length-fill-store =
-      iterate-keeps (λ (f : Fill). length (f .store)) (λ i f. fillStep (c .turn i) (base + length (f .made)) f)
-      (λ k f. length-kept (c .turn k .stores) (f .store) (c .turn k .place) (base + length (f .made)))
+      iterate-keeps (λ (f : Fill). length (f .store)) (λ i f. fillStep (c .uses i) (base + length (f .made)) f)
+      (λ k f. length-kept (c .uses k .stores) (f .store) (c .uses k .place) (base + length (f .made)))
       (record { made = []; index = []; store = store })
 
   pub fill-none : (vertices : List Float) → FillPut (fillTo c base store 0) base vertices (replicate 12 0) 0 base vertices store
@@ -90,7 +91,7 @@ module _ (c : Cell) (base : ℕ) (store : List ℕ) where
         store-is = refl;
       }
 
-  module _ (k : ℕ) (t : Turn) (turn-is : t ≡ c .turn k) (vertices₀ : List Float) (index : List ℕ) (count next : ℕ)
+  module _ (k : ℕ) (t : CodeUse) (use-is : t ≡ c .uses k) (vertices₀ : List Float) (index : List ℕ) (count next : ℕ)
       (vertices : List Float) (store₁ : List ℕ)
       (f : FillPut (fillTo c base store k) base vertices₀ index count next vertices store₁) where
     -- the room that the next vertex wants is there
@@ -98,16 +99,16 @@ module _ (c : Cell) (base : ℕ) (store : List ℕ) where
         → Room 6 (next + length (madeBy t)) vertices
     fill-ready m h w =
         let l : length vertices ≡ length vertices₀ = ap length (f .vertices-are) ∙ length-lay 6 vertexFloats vertices₀ base _ in
-        rw turn-is (record { room = omega (arith, fill-room k m h); short = omega (arith, fill-room k m h) })
+        rw use-is (record { room = omega (arith, fill-room k m h); short = omega (arith, fill-room k m h) })
 
     pub fill-more : (made next′ : ℕ) (vertices′ : List Float) (store′ : List ℕ) → k < 12
-        → TurnPut t next vertices store₁ made next′ vertices′ store′
+        → CodePut t next vertices store₁ made next′ vertices′ store′
         → FillPut (fillTo c base store (k + 1)) base vertices₀ (set index k made) (k + 1) next′ vertices′ store′
     unfolding fillTo fillStep
     fill-more made next′ vertices′ store′ h p =
         let i = fillTo c base store k .index in
         let before = fillTo c base store k .made in
-        let added = madeBy (c .turn k) in
+        let added = madeBy (c .uses k) in
         let e : length i ≡ k = length-index k in
         let g : set (pad i) (length i) made ≡ pad (i ++ (made ∷ [])) = set-pad i made (omega arith) in
         rw add-one
@@ -119,8 +120,8 @@ module _ (c : Cell) (base : ℕ) (store : List ℕ) where
           store-is = cc;
         })
 
--- how many vertices a cell makes, from how many each of its turns makes
-pub made-total : (c : Cell) (made : ℕ → ℕ) → ((i : ℕ) → length (madeBy (c .turn i)) ≡ made i) → (base : ℕ) (store : List ℕ) (k : ℕ)
+-- how many vertices a cell makes, from how many each of its codes makes
+pub made-total : (c : Cell) (made : ℕ → ℕ) → ((i : ℕ) → length (madeBy (c .uses i)) ≡ made i) → (base : ℕ) (store : List ℕ) (k : ℕ)
     → length (fillTo c base store k .made) ≡ total made k
 unfolding fillTo
 made-total c made each-made base store zero = refl

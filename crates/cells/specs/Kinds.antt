@@ -11,15 +11,15 @@ use Rattle.tables.specs.Cases.{verticesOf, trianglesOf, cornerOf}
 use Rattle.model.specs.declared.Xyz.{Xyz}
 use Rattle.model.specs.declared.FacePoint.{FacePoint}
 use Rattle.model.specs.Samples.{sampleLength}
-use Rattle.model.specs.Points.{Star, subdivisions}
-use Rattle.model.specs.Mesh.{Turn, Cell, regularPlace, transitionPlace, regularLeaves, transitionLeaves, regularTurn, transitionTurn, sent}
+use Rattle.model.specs.Star.{Star, subdivisions}
+use Rattle.model.specs.Mesh.{CodeUse, Cell, regularPlace, transitionPlace, regularLeaves, transitionLeaves, regularUse, transitionUse, sent}
 use Rattle.grid.specs.SideLaws.{NeighbourThere}
 use Rattle.cells.specs.declared.CellIndex.{CellIndex}
 use Rattle.cells.specs.declared.CellIndex.the-variants.{Regular, Transition}
 
-abbrev pub turnAt : Star → CellIndex → ℕ → Turn
-turnAt s (Regular at) code = regularTurn s (at .x) (at .y) (at .z) code
-turnAt s (Transition at) code = transitionTurn s (at .side) (at .u) (at .v) code
+abbrev pub useAt : Star → CellIndex → ℕ → CodeUse
+useAt s (Regular at) code = regularUse s (at .x) (at .y) (at .z) code
+useAt s (Transition at) code = transitionUse s (at .side) (at .u) (at .v) code
 
 abbrev pub makesAt : CellIndex → ℕ → Bool
 makesAt (Regular at) code = eqb (isNew code) 1 || regularLeaves (at .x) (at .y) (at .z) code
@@ -87,7 +87,7 @@ abbrev pub cellOf : Star → CellIndex → List ℕ → List ℕ → Bool → Ce
 cellOf s at codes row turned =
     record {
       vertices = verticesOf row;
-      turn = λ i. turnAt s at (getD codes i 0);
+      uses = λ i. useAt s at (getD codes i 0);
       triangles = trianglesOf row;
       corner = λ j. cornerOf row (sent turned j);
     }

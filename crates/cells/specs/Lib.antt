@@ -1,7 +1,5 @@
 pub mod Buffers
-pub mod Steps
-pub mod Laying
-pub mod Posts
+pub mod Puts
 pub mod Rows
 pub mod Kinds
 pub mod Fills

@@ -10,10 +10,11 @@ use Rattle.tables.specs.RegularRows as regular
 use Rattle.tables.specs.TransitionRows as transition
 use Rattle.tables.specs.Cases.{regularClass, regularVertices, regularTriangles, transitionClass, transitionVertices, transitionTriangles}
 use Rattle.tables.specs.Cases.{regularCell as regularRow, transitionCell as transitionRow}
-use Rattle.model.specs.Points.{Star, regularCase, transitionCase}
+use Rattle.model.specs.Star.{Star}
+use Rattle.model.specs.Points.{regularCase, transitionCase}
 use Rattle.model.specs.Mesh.{Cell, Mesh, fillTo, cellStep, regularCell, transitionCell}
 use Rattle.cases.specs.Columns.{uncut}
-use Rattle.cells.specs.Posts.{Nothing}
+use Rattle.cells.specs.Puts.{Nothing}
 
 pub nothing-step : (c : Cell) → Nothing c → (m : Mesh) → cellStep c m ≡ m
 unfolding cellStep fillTo

@@ -4,7 +4,7 @@ ghost use mathlib.Core.Bool.{false, cond};
 ghost use Prim.Native.Nat.{_≤_, _<_};
 ghost use lib.ListN.{length, getD};
 ghost use Rattle.tables.specs.RulesSlots.{crossedAtTop};
-ghost use Rattle.model.specs.Steps.{total};
+ghost use Rattle.laws.specs.Steps.{total};
 ghost use Rattle.model.specs.Mesh.{regularLeaves, transitionLeaves};
 ghost use Rattle.cells.specs.Kinds.{makesAt, regularBack, transitionBack, backFrom};
 use crate::CellIndex;

@@ -2,11 +2,11 @@
 ghost use mathlib.Core.Path.{_≡_};
 ghost use Prim.Native.Nat.{_+_, _≤_, _<_};
 ghost use lib.ListN.{length};
-ghost use Rattle.model.specs.Points.{Star, star};
+ghost use Rattle.model.specs.Star.{Star, starFrom};
 ghost use Rattle.model.specs.Mesh.{storeLength, fillTo, regularCell};
 ghost use Rattle.grid.specs.Shape.{Shaped};
 ghost use Rattle.cases.specs.Columns.{Columns};
-ghost use Rattle.cells.specs.Posts.{Room, CellPut, Adds};
+ghost use Rattle.cells.specs.Puts.{Room, CellPut, Adds};
 ghost use Rattle.cells.specs.Rows.{RegularTables};
 use crate::CellIndex;
 use crate::codes::count_made_inside;
@@ -40,13 +40,13 @@ pub fn write_regular_cell(
     triangles: &mut [u32],
 ) -> Counts
     requires { ⌜ RegularTables (now classes) (now cells) (now codes) ⌝ }
-    requires { ⌜ Columns (block .subdivisions) (star block mask threshold (now centre) (now neighbours)) (now columns) ⌝ }
-    requires { ⌜ Shaped (star block mask threshold (now centre) (now neighbours)) ⌝ }
+    requires { ⌜ Columns (block .subdivisions) (starFrom block mask threshold (now centre) (now neighbours)) (now columns) ⌝ }
+    requires { ⌜ Shaped (starFrom block mask threshold (now centre) (now neighbours)) ⌝ }
     requires { ⌜ (x < block .subdivisions) × ((y < block .subdivisions) × (z < block .subdivisions)) ⌝ }
     requires { ⌜ length (now store) ≡ storeLength (block .subdivisions) ⌝ }
-    requires { ⌜ Room 6 (counts .vertices + length (fillTo (regularCell (star block mask threshold (now centre) (now neighbours)) x y z) (counts .vertices) (now store) (regularCell (star block mask threshold (now centre) (now neighbours)) x y z .vertices) .made)) (now vertices) ⌝ }
-    requires { ⌜ Room 3 (counts .triangles + regularCell (star block mask threshold (now centre) (now neighbours)) x y z .triangles) (now triangles) ⌝ }
-    ensures { λ r. ⌜ CellPut (regularCell (star block mask threshold (now (centre .entry)) (now (neighbours .entry))) x y z) (counts .vertices) (counts .triangles) (now (vertices .entry)) (now (triangles .entry)) (now (store .entry)) (r .vertices) (r .triangles) (now (vertices .exit)) (now (triangles .exit)) (now (store .exit)) ⌝ }
+    requires { ⌜ Room 6 (counts .vertices + length (fillTo (regularCell (starFrom block mask threshold (now centre) (now neighbours)) x y z) (counts .vertices) (now store) (regularCell (starFrom block mask threshold (now centre) (now neighbours)) x y z .vertices) .made)) (now vertices) ⌝ }
+    requires { ⌜ Room 3 (counts .triangles + regularCell (starFrom block mask threshold (now centre) (now neighbours)) x y z .triangles) (now triangles) ⌝ }
+    ensures { λ r. ⌜ CellPut (regularCell (starFrom block mask threshold (now (centre .entry)) (now (neighbours .entry))) x y z) (counts .vertices) (counts .triangles) (now (vertices .entry)) (now (triangles .entry)) (now (store .entry)) (r .vertices) (r .triangles) (now (vertices .exit)) (now (triangles .exit)) (now (store .exit)) ⌝ }
 {
     let case = regular_case(block.subdivisions, columns, x, y, z);
     if is_uncut(case, 255) {

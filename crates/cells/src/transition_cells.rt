@@ -4,11 +4,11 @@ ghost use mathlib.Core.Bool.{true};
 ghost use Prim.Native.Nat.{_+_, _≤_, _<_};
 ghost use lib.ListN.{length};
 ghost use Rattle.model.specs.Sides.{named};
-ghost use Rattle.model.specs.Points.{Star, star};
+ghost use Rattle.model.specs.Star.{Star, starFrom};
 ghost use Rattle.model.specs.Mesh.{storeLength, fillTo, transitionCell};
 ghost use Rattle.grid.specs.Shape.{Shaped};
 ghost use Rattle.cases.specs.Columns.{FineColumns};
-ghost use Rattle.cells.specs.Posts.{Room, CellPut, Adds};
+ghost use Rattle.cells.specs.Puts.{Room, CellPut, Adds};
 ghost use Rattle.cells.specs.Rows.{TransitionTables};
 use crate::CellIndex;
 use crate::whole_cells::count_cell;
@@ -41,13 +41,13 @@ pub fn write_transition_cell(
     triangles: &mut [u32],
 ) -> Counts
     requires { ⌜ TransitionTables (now classes) (now cells) (now codes) ⌝ }
-    requires { ⌜ FineColumns (block .subdivisions) (star block mask threshold (now centre) (now neighbours)) (now columns) ⌝ }
-    requires { ⌜ Shaped (star block mask threshold (now centre) (now neighbours)) ⌝ }
+    requires { ⌜ FineColumns (block .subdivisions) (starFrom block mask threshold (now centre) (now neighbours)) (now columns) ⌝ }
+    requires { ⌜ Shaped (starFrom block mask threshold (now centre) (now neighbours)) ⌝ }
     requires { ⌜ (side < 6) × ((named mask side ≡ true) × ((u < block .subdivisions) × (v < block .subdivisions))) ⌝ }
     requires { ⌜ length (now store) ≡ storeLength (block .subdivisions) ⌝ }
-    requires { ⌜ Room 6 (counts .vertices + length (fillTo (transitionCell (star block mask threshold (now centre) (now neighbours)) side u v) (counts .vertices) (now store) (transitionCell (star block mask threshold (now centre) (now neighbours)) side u v .vertices) .made)) (now vertices) ⌝ }
-    requires { ⌜ Room 3 (counts .triangles + transitionCell (star block mask threshold (now centre) (now neighbours)) side u v .triangles) (now triangles) ⌝ }
-    ensures { λ r. ⌜ CellPut (transitionCell (star block mask threshold (now (centre .entry)) (now (neighbours .entry))) side u v) (counts .vertices) (counts .triangles) (now (vertices .entry)) (now (triangles .entry)) (now (store .entry)) (r .vertices) (r .triangles) (now (vertices .exit)) (now (triangles .exit)) (now (store .exit)) ⌝ }
+    requires { ⌜ Room 6 (counts .vertices + length (fillTo (transitionCell (starFrom block mask threshold (now centre) (now neighbours)) side u v) (counts .vertices) (now store) (transitionCell (starFrom block mask threshold (now centre) (now neighbours)) side u v .vertices) .made)) (now vertices) ⌝ }
+    requires { ⌜ Room 3 (counts .triangles + transitionCell (starFrom block mask threshold (now centre) (now neighbours)) side u v .triangles) (now triangles) ⌝ }
+    ensures { λ r. ⌜ CellPut (transitionCell (starFrom block mask threshold (now (centre .entry)) (now (neighbours .entry))) side u v) (counts .vertices) (counts .triangles) (now (vertices .entry)) (now (triangles .entry)) (now (store .entry)) (r .vertices) (r .triangles) (now (vertices .exit)) (now (triangles .exit)) (now (store .exit)) ⌝ }
 {
     let case = transition_case(block.subdivisions, columns, side, u, v);
     if is_uncut(case, 511) {

@@ -7,10 +7,11 @@ ghost use lib.Ieee.{Float};
 ghost use lib.ListN.{length};
 ghost use Rattle.tables.specs.Cases.{verticesOf};
 ghost use Rattle.model.specs.Samples.{sampleLength};
-ghost use Rattle.model.specs.Points.{star, cornerPoint};
+ghost use Rattle.model.specs.Star.{starFrom};
+ghost use Rattle.model.specs.Points.{cornerPoint};
 ghost use Rattle.model.specs.Mesh.{storeLength, madeBy, fillTo, regularVertex, transitionVertex};
-ghost use Rattle.cells.specs.Kinds.{turnAt, placeAt, InBlock, Placed, slots, Ready, Usable, cellOf, Coded};
-ghost use Rattle.cells.specs.Posts.{Room, TurnPut, FillPut};
+ghost use Rattle.cells.specs.Kinds.{useAt, placeAt, InBlock, Placed, slots, Ready, Usable, cellOf, Coded};
+ghost use Rattle.cells.specs.Puts.{Room, CodePut, FillPut};
 use crate::CellIndex;
 use crate::buffers::put_vertex;
 use crate::codes::back;
@@ -75,7 +76,7 @@ fn regular_vertex(
 ) -> Vertex
     requires { ⌜ (block .subdivisions ≤ 16) × (length (now centre) ≡ sampleLength (block .subdivisions)) ⌝ }
     requires { ⌜ InBlock (block .subdivisions) (at .x) (at .y) (at .z) ⌝ }
-    ensures { λ r. ⌜ ((ns : List Float) → r ≡ regularVertex (star block mask threshold (now (centre .entry)) ns) (at .x) (at .y) (at .z) code) ⌝ }
+    ensures { λ r. ⌜ ((ns : List Float) → r ≡ regularVertex (starFrom block mask threshold (now (centre .entry)) ns) (at .x) (at .y) (at .z) code) ⌝ }
 {
     let a = corner_point(at, voxel_a_index(code));
     let b = corner_point(at, voxel_b_index(code));
@@ -95,9 +96,9 @@ fn transition_vertex(
     at: FacePoint,
     code: u16,
 ) -> Vertex
-    requires { ⌜ Ready (star block mask threshold (now centre) (now neighbours)) (CellIndex.Transition at) ⌝ }
+    requires { ⌜ Ready (starFrom block mask threshold (now centre) (now neighbours)) (CellIndex.Transition at) ⌝ }
     requires { ⌜ Usable (CellIndex.Transition at) code ⌝ }
-    ensures { λ r. ⌜ r ≡ transitionVertex (star block mask threshold (now (centre .entry)) (now (neighbours .entry))) (at .side) (at .u) (at .v) code ⌝ }
+    ensures { λ r. ⌜ r ≡ transitionVertex (starFrom block mask threshold (now (centre .entry)) (now (neighbours .entry))) (at .side) (at .u) (at .v) code ⌝ }
 {
     let side = at.side;
     let u = at.u;
@@ -120,9 +121,9 @@ fn vertex(
     at: CellIndex,
     code: u16,
 ) -> Vertex
-    requires { ⌜ Ready (star block mask threshold (now centre) (now neighbours)) at ⌝ }
+    requires { ⌜ Ready (starFrom block mask threshold (now centre) (now neighbours)) at ⌝ }
     requires { ⌜ Usable at code ⌝ }
-    ensures { λ r. ⌜ r ≡ turnAt (star block mask threshold (now (centre .entry)) (now (neighbours .entry))) at code .made .vertex ⌝ }
+    ensures { λ r. ⌜ r ≡ useAt (starFrom block mask threshold (now (centre .entry)) (now (neighbours .entry))) at code .made .vertex ⌝ }
 {
     match at {
         CellIndex::Regular(cell) => regular_vertex(block, mask, threshold, centre, cell, code),
@@ -146,11 +147,11 @@ fn put_code(
     vertices: &mut [f32],
     next: usize,
 ) -> Indexed
-    requires { ⌜ Ready (star block mask threshold (now centre) (now neighbours)) at ⌝ }
+    requires { ⌜ Ready (starFrom block mask threshold (now centre) (now neighbours)) at ⌝ }
     requires { ⌜ Usable at code ⌝ }
     requires { ⌜ length (now store) ≡ storeLength (block .subdivisions) ⌝ }
-    requires { ⌜ Room 6 (next + length (madeBy (turnAt (star block mask threshold (now centre) (now neighbours)) at code))) (now vertices) ⌝ }
-    ensures { λ r. ⌜ TurnPut (turnAt (star block mask threshold (now (centre .entry)) (now (neighbours .entry))) at code) next (now (vertices .entry)) (now (store .entry)) (r .index) (r .next) (now (vertices .exit)) (now (store .exit)) ⌝ }
+    requires { ⌜ Room 6 (next + length (madeBy (useAt (starFrom block mask threshold (now centre) (now neighbours)) at code))) (now vertices) ⌝ }
+    ensures { λ r. ⌜ CodePut (useAt (starFrom block mask threshold (now (centre .entry)) (now (neighbours .entry))) at code) next (now (vertices .entry)) (now (store .entry)) (r .index) (r .next) (now (vertices .exit)) (now (store .exit)) ⌝ }
 {
     let n = block.subdivisions;
     let r = reuse_index(code);
@@ -197,11 +198,11 @@ pub fn fill_cell(
     vertices: &mut [f32],
     base: usize,
 ) -> Filled
-    requires { ⌜ Ready (star block mask threshold (now centre) (now neighbours)) at ⌝ }
+    requires { ⌜ Ready (starFrom block mask threshold (now centre) (now neighbours)) at ⌝ }
     requires { ⌜ (0 < length (now row)) × ((verticesOf (now row) ≤ 12) × Coded at (now codes) (verticesOf (now row))) ⌝ }
     requires { ⌜ length (now store) ≡ storeLength (block .subdivisions) ⌝ }
-    requires { ⌜ Room 6 (base + length (fillTo (cellOf (star block mask threshold (now centre) (now neighbours)) at (now codes) (now row) false) base (now store) (verticesOf (now row)) .made)) (now vertices) ⌝ }
-    ensures { λ r. ⌜ FillPut (fillTo (cellOf (star block mask threshold (now (centre .entry)) (now (neighbours .entry))) at (now (codes .entry)) (now (row .entry)) false) base (now (store .entry)) (verticesOf (now (row .entry)))) base (now (vertices .entry)) (r .cell .index) (r .cell .count) (r .next) (now (vertices .exit)) (now (store .exit)) ⌝ }
+    requires { ⌜ Room 6 (base + length (fillTo (cellOf (starFrom block mask threshold (now centre) (now neighbours)) at (now codes) (now row) false) base (now store) (verticesOf (now row)) .made)) (now vertices) ⌝ }
+    ensures { λ r. ⌜ FillPut (fillTo (cellOf (starFrom block mask threshold (now (centre .entry)) (now (neighbours .entry))) at (now (codes .entry)) (now (row .entry)) false) base (now (store .entry)) (verticesOf (now (row .entry)))) base (now (vertices .entry)) (r .cell .index) (r .cell .count) (r .next) (now (vertices .exit)) (now (store .exit)) ⌝ }
 {
     let count = vertex_count(row);
     let mut cell = CellVertices {

@@ -4,9 +4,9 @@ ghost use mathlib.Core.Bool.{Bool};
 ghost use Prim.Native.Nat.{_+_};
 ghost use lib.ListN.{length};
 ghost use Rattle.tables.specs.Cases.{verticesOf, trianglesOf};
-ghost use Rattle.model.specs.Points.{Star, star};
+ghost use Rattle.model.specs.Star.{Star, starFrom};
 ghost use Rattle.model.specs.Mesh.{storeLength, fillTo};
-ghost use Rattle.cells.specs.Posts.{Room, CellPut, Adds};
+ghost use Rattle.cells.specs.Puts.{Room, CellPut, Adds};
 ghost use Rattle.cells.specs.Rows.{Followed};
 ghost use Rattle.cells.specs.Kinds.{Ready, Coded, cellOf};
 use crate::CellIndex;
@@ -33,12 +33,12 @@ pub fn write_cell(
     vertices: &mut [f32],
     triangles: &mut [u32],
 ) -> Counts
-    requires { ⌜ Ready (star block mask threshold (now centre) (now neighbours)) at ⌝ }
+    requires { ⌜ Ready (starFrom block mask threshold (now centre) (now neighbours)) at ⌝ }
     requires { ⌜ Coded at (now codes) (verticesOf (now row)) × Followed (now row) ⌝ }
     requires { ⌜ length (now store) ≡ storeLength (block .subdivisions) ⌝ }
-    requires { ⌜ Room 6 (counts .vertices + length (fillTo (cellOf (star block mask threshold (now centre) (now neighbours)) at (now codes) (now row) turned) (counts .vertices) (now store) (verticesOf (now row)) .made)) (now vertices) ⌝ }
+    requires { ⌜ Room 6 (counts .vertices + length (fillTo (cellOf (starFrom block mask threshold (now centre) (now neighbours)) at (now codes) (now row) turned) (counts .vertices) (now store) (verticesOf (now row)) .made)) (now vertices) ⌝ }
     requires { ⌜ Room 3 (counts .triangles + trianglesOf (now row)) (now triangles) ⌝ }
-    ensures { λ r. ⌜ CellPut (cellOf (star block mask threshold (now (centre .entry)) (now (neighbours .entry))) at (now (codes .entry)) (now (row .entry)) turned) (counts .vertices) (counts .triangles) (now (vertices .entry)) (now (triangles .entry)) (now (store .entry)) (r .vertices) (r .triangles) (now (vertices .exit)) (now (triangles .exit)) (now (store .exit)) ⌝ }
+    ensures { λ r. ⌜ CellPut (cellOf (starFrom block mask threshold (now (centre .entry)) (now (neighbours .entry))) at (now (codes .entry)) (now (row .entry)) turned) (counts .vertices) (counts .triangles) (now (vertices .entry)) (now (triangles .entry)) (now (store .entry)) (r .vertices) (r .triangles) (now (vertices .exit)) (now (triangles .exit)) (now (store .exit)) ⌝ }
 {
     let base = counts.vertices;
     let filled = fill_cell(

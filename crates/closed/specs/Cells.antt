@@ -12,17 +12,18 @@ use lib.Dec.{T, eqb, eqb→eq, T-not}
 use Rattle.tables.specs.Codes.{pointA, pointB, stepX, stepY, stepZ, isNew, reuseIndex, edgeOf}
 use Rattle.tables.specs.Cases.{regularCode, regularVertices}
 use Rattle.tables.specs.Corners.{bit, axisOf, regularUsed, regularEdges}
-use Rattle.tables.specs.Each.{eq→eqb, both, both-left, both-right, then, then-holds, below, all₂}
-use Rattle.tables.specs.Counting.{pick, one, has, every, every-item, withEach, eachTwo, two-items}
+use Rattle.laws.specs.Tests.{eq→eqb, both, both-left, both-right, then, then-holds, below, all₂}
+use Rattle.laws.specs.Counting.{pick, one, has, every, every-item, withEach, eachTwo, two-items}
 use Rattle.tables.specs.Listed.{crossing, differ}
 use Rattle.tables.specs.RulesEdges.{regular-lists}
 use Rattle.tables.specs.RulesSlots.{RegularCode, regularNewCode, regular-used-right, regular-code-right}
 use Rattle.model.specs.declared.Xyz.{Xyz}
-use Rattle.model.specs.Steps.{total as sum}
+use Rattle.laws.specs.Steps.{total}
 use Rattle.model.specs.Samples.{sampleOf}
 use Rattle.model.specs.Rotations.{xyz}
 use Rattle.model.specs.Formulas.{inside}
-use Rattle.model.specs.Points.{Star, subdivisions, cornerPoint, regularCase}
+use Rattle.model.specs.Star.{Star, subdivisions}
+use Rattle.model.specs.Points.{cornerPoint, regularCase}
 use Rattle.closed.specs.Clauses.{Edge, edge, high, OfBlock, OfCell, insideAt, Crossed, IsCell}
 use Rattle.closed.specs.Places.{same-edge}
 
@@ -34,18 +35,18 @@ twice-power k (suc j) =
     rw (add-suc k (suc j), pow-suc 2 (k + suc j), twice-power k j, mul-assoc, mul-assoc) (ap (λ (c : ℕ). 2 ^ k * (2 * c)) (sym (pow-suc 2 j)))
 
 module _ (b : ℕ → ℕ) (small : (k : ℕ) → b k ≤ 1) where
-  bits-small : (m : ℕ) → sum (λ k. 2 ^ k * b k) m < 2 ^ m
+  bits-small : (m : ℕ) → total (λ k. 2 ^ k * b k) m < 2 ^ m
   bits-small zero = omega arith
   bits-small (suc m) =
       let h : 2 ^ m * b m ≤ 2 ^ m * 1 = mul-le-mul-left (2 ^ m) (small m) in
       omega (arith, bits-small m, two-pow-succ m)
 
-  bits-are : (m k : ℕ) → k < m → bit (sum (λ k. 2 ^ k * b k) m) k ≡ b k
+  bits-are : (m k : ℕ) → k < m → bit (total (λ k. 2 ^ k * b k) m) k ≡ b k
   unfolding bit
   bits-are zero k h = absurd (not-suc-le-zero h)
   bits-are (suc m) k h = go (decLt k m) (bits-are m k)
     where
-      go : Dec (k < m) → (k < m → bit (sum (λ k. 2 ^ k * b k) m) k ≡ b k) → (sum (λ k. 2 ^ k * b k) m + 2 ^ m * b m) / 2 ^ k % 2 ≡ b k
+      go : Dec (k < m) → (k < m → bit (total (λ k. 2 ^ k * b k) m) k ≡ b k) → (total (λ k. 2 ^ k * b k) m + 2 ^ m * b m) / 2 ^ k % 2 ≡ b k
       go (yes l) before =
           let e : m ≡ k + suc (m - suc k) = omega arith in
           let q : 2 ^ m * b m ≡ 2 ^ k * (2 * (2 ^ (m - suc k) * b m)) =

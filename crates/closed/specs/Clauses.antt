@@ -8,16 +8,17 @@ use mathlib.Core.List.{List}
 use lib.Dec.{eqb}
 use lib.Ieee.{nan}
 use lib.ListN.{length, getD}
-use Rattle.tables.specs.Counting.{one}
+use Rattle.laws.specs.Counting.{one}
 use Rattle.model.specs.declared.Xyz.{Xyz}
 use Rattle.model.specs.declared.Vertex.{Vertex}
 use Rattle.model.specs.declared.Triangle.{Triangle}
-use Rattle.model.specs.Steps.{iterate, total}
+use Rattle.laws.specs.Steps.{total}
 use Rattle.model.specs.Samples.{inBlock, sampleOf}
 use Rattle.model.specs.Rotations.{xyz}
 use Rattle.model.specs.Formulas.{vector, insideBit, vertexBetween}
-use Rattle.model.specs.Points.{Star, subdivisions, regularPoint}
-use Rattle.model.specs.Mesh.{Made, Mesh, noEdge, blank, cellStep, regularCell, regularColumn, regularLayer}
+use Rattle.model.specs.Star.{Star, subdivisions}
+use Rattle.model.specs.Points.{regularPoint}
+use Rattle.model.specs.Mesh.{Made, Mesh, noEdge, regularTo}
 
 -- ---- grid edges
 
@@ -109,13 +110,6 @@ Carried s m = (e : Edge) → OfBlock s e → ((i : ℕ) × Names (m .made) i (nu
 
 -- ---- 2: every triangle corner names a vertex that was already made, on an edge of the triangle's own cell
 
--- the mesh of the cells before the cell (x, y, z)
-unfoldable pub meshTo : Star → ℕ → ℕ → ℕ → Mesh
-meshTo s x y z =
-    iterate (λ w. cellStep (regularCell s x y w)) z
-    (iterate (regularColumn s x) y
-    (iterate (regularLayer s) x (blank (subdivisions s))))
-
 pub record IsCell (s : Star) (x y z : ℕ) : Type 0 where
   pub x-in : x < subdivisions s
   pub y-in : y < subdivisions s
@@ -124,12 +118,12 @@ pub record IsCell (s : Star) (x y z : ℕ) : Type 0 where
 -- (x, y, z) is the cell that sends triangle t
 pub record Sends (s : Star) (x y z t : ℕ) : Type 0 where
   pub cell : IsCell s x y z
-  pub not-before : length (meshTo s x y z .triangles) ≤ t
-  pub by-then : t < length (meshTo s x y (suc z) .triangles)
+  pub not-before : length (regularTo s x y z .triangles) ≤ t
+  pub by-then : t < length (regularTo s x y (suc z) .triangles)
 
 -- vertex i was made once the cell (x, y, z) was done, and lies on one of its twelve edges
 pub record OwnVertex (s : Star) (m : Mesh) (x y z i : ℕ) : Type 0 where
-  pub made : i < length (meshTo s x y (suc z) .made)
+  pub made : i < length (regularTo s x y (suc z) .made)
   pub on : Edge
   pub own : OfCell x y z on
   pub named : Names (m .made) i (number s on)

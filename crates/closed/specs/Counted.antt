@@ -7,13 +7,14 @@ use native.Mathlib.Omega.{arith}
 use lib.ListN.{length, List·getD-append}
 use Rattle.tables.specs.Codes.{edgeOf}
 use Rattle.tables.specs.Cases.{regularTriangles, regularCorner}
-use Rattle.tables.specs.Counting.{total}
+use Rattle.laws.specs.Counting.{weighed}
 use Rattle.tables.specs.Sides.{side, sidesOf, regular-sides}
-use Rattle.model.specs.Steps.{total as sum}
-use Rattle.model.specs.Points.{Star, subdivisions, regularCase}
-use Rattle.model.specs.Mesh.{Made, Mesh, triangleOf, blank, regularMesh}
-use Rattle.closed.specs.Clauses.{Edge, number, noVertex, edgeAt, run, around, sides, runs, meshTo, IsCell, OwnVertex}
-use Rattle.closed.specs.Sums.{sum-same, sum-more, total-gather, square, cube}
+use Rattle.laws.specs.Steps.{total}
+use Rattle.laws.specs.Sums.{total-same, total-more, weighed-gather, square, cube}
+use Rattle.model.specs.Star.{Star, subdivisions}
+use Rattle.model.specs.Points.{regularCase}
+use Rattle.model.specs.Mesh.{Made, Mesh, triangleOf, emptyMesh, regularTo, regularMesh}
+use Rattle.closed.specs.Clauses.{Edge, number, noVertex, edgeAt, run, around, sides, runs, IsCell, OwnVertex}
 use Rattle.closed.specs.Places.{rank}
 use Rattle.closed.specs.Cells.{codeEdge, codeAt, byte-edge}
 use Rattle.closed.specs.Whole.{Whole, fill, made-after, triangles-many, triangle-kept, triangle-sent, corner-named, column-end, layer-end, block-end, whole-at}
@@ -38,12 +39,12 @@ three : (g h a b c a′ b′ c′ : ℕ) → a ≡ a′ → b ≡ b′ → c ≡
     → around g h a b c ≡ around g h a′ b′ c′
 three g h a b c a′ b′ c′ p q r = rw (p, q, r)
 
-module _ (s : Star) (g h x y z : ℕ) (c : IsCell s x y z) (p : Whole s (rank s x y z) (meshTo s x y z)) where
+module _ (s : Star) (g h x y z : ℕ) (c : IsCell s x y z) (p : Whole s (rank s x y z) (regularTo s x y z)) where
   -- the triangles of the cells before keep their sides
-  kept-vertex : {u v w i : ℕ} → OwnVertex s (meshTo s x y z) u v w i → edgeAt (meshTo s x y (suc z) .made) i ≡ edgeAt (meshTo s x y z .made) i
-  kept-vertex {i = i} o = rw (made-after s x y z) (edge-kept (meshTo s x y z .made) (fill s x y z .made) i (o .named .there))
+  kept-vertex : {u v w i : ℕ} → OwnVertex s (regularTo s x y z) u v w i → edgeAt (regularTo s x y (suc z) .made) i ≡ edgeAt (regularTo s x y z .made) i
+  kept-vertex {i = i} o = rw (made-after s x y z) (edge-kept (regularTo s x y z .made) (fill s x y z .made) i (o .named .there))
 
-  kept-sides : (t : ℕ) → t < length (meshTo s x y z .triangles) → sides (meshTo s x y (suc z)) g h t ≡ sides (meshTo s x y z) g h t
+  kept-sides : (t : ℕ) → t < length (regularTo s x y z .triangles) → sides (regularTo s x y (suc z)) g h t ≡ sides (regularTo s x y z) g h t
   unfolding sides
   kept-sides t l =
       let o = p .corners t l in
@@ -54,7 +55,7 @@ module _ (s : Star) (g h x y z : ℕ) (c : IsCell s x y z) (p : Whole s (rank s 
   ownSides = sidesOf (λ j. edgeOf (codeAt s x y z (regularCorner (regularCase s x y z) j)))
 
   own-sides : (j : ℕ) → j < regularTriangles (regularCase s x y z)
-      → sides (meshTo s x y (suc z)) g h (length (meshTo s x y z .triangles) + j) ≡ total (weight s g h x y z) (ownSides j)
+      → sides (regularTo s x y (suc z)) g h (length (regularTo s x y z .triangles) + j) ≡ weighed (weight s g h x y z) (ownSides j)
   unfolding sides ownSides sidesOf triangleOf
   own-sides j l =
       let named = corner-named s x y z c p in
@@ -64,27 +65,27 @@ module _ (s : Star) (g h x y z : ℕ) (c : IsCell s x y z) (p : Whole s (rank s 
       (three g h _ _ _ _ _ _ (named (3 * j) (omega arith) .held) (named (3 * j + 1) (omega arith) .held) (named (3 * j + 2) (omega arith) .held)
       ∙ omega (arith, w (at (3 * j)) (at (3 * j + 1)), w (at (3 * j + 1)) (at (3 * j + 2)), w (at (3 * j + 2)) (at (3 * j))))
 
-  cell-counted : runs (meshTo s x y (suc z)) g h ≡ runs (meshTo s x y z) g h + cellRuns s g h x y z
+  cell-counted : runs (regularTo s x y (suc z)) g h ≡ runs (regularTo s x y z) g h + cellRuns s g h x y z
   unfolding runs cellRuns ownSides
   cell-counted =
-      let t = length (meshTo s x y z .triangles) in
+      let t = length (regularTo s x y z .triangles) in
       let k = regularTriangles (regularCase s x y z) in
-      ap (sum (sides (meshTo s x y (suc z)) g h)) (triangles-many s x y z)
-      ∙ sum-more (sides (meshTo s x y (suc z)) g h) t k
-      ∙ ap₂ _+_ (sum-same _ _ t kept-sides)
-      (sum-same _ _ k own-sides
-      ∙ sym (ap (total (weight s g h x y z)) (regular-sides (regularCase s x y z))
-      ∙ total-gather (weight s g h x y z) ownSides k))
+      ap (total (sides (regularTo s x y (suc z)) g h)) (triangles-many s x y z)
+      ∙ total-more (sides (regularTo s x y (suc z)) g h) t k
+      ∙ ap₂ _+_ (total-same _ _ t kept-sides)
+      (total-same _ _ k own-sides
+      ∙ sym (ap (weighed (weight s g h x y z)) (regular-sides (regularCase s x y z))
+      ∙ weighed-gather (weight s g h x y z) ownSides k))
 
 -- ---- all cells
 
 module _ (s : Star) (g h : ℕ) where
-  none-counted : runs (meshTo s 0 0 0) g h ≡ 0
-  unfolding runs meshTo blank
+  none-counted : runs (regularTo s 0 0 0) g h ≡ 0
+  unfolding runs regularTo emptyMesh
   none-counted = refl
 
   cells-counted : (x y : ℕ) → x < subdivisions s → y < subdivisions s → (z : ℕ) → z ≤ subdivisions s
-      → runs (meshTo s x y z) g h ≡ runs (meshTo s x y 0) g h + sum (cellRuns s g h x y) z
+      → runs (regularTo s x y z) g h ≡ runs (regularTo s x y 0) g h + total (cellRuns s g h x y) z
   cells-counted x y hx hy zero l = sym (add-zero _)
   cells-counted x y hx hy (suc z) l =
       omega (
@@ -94,7 +95,7 @@ module _ (s : Star) (g h : ℕ) where
       )
 
   columns-counted : (x : ℕ) → x < subdivisions s → (y : ℕ) → y ≤ subdivisions s
-      → runs (meshTo s x y 0) g h ≡ runs (meshTo s x 0 0) g h + sum (λ v. sum (cellRuns s g h x v) (subdivisions s)) y
+      → runs (regularTo s x y 0) g h ≡ runs (regularTo s x 0 0) g h + total (λ v. total (cellRuns s g h x v) (subdivisions s)) y
   columns-counted x hx zero l = sym (add-zero _)
   columns-counted x hx (suc y) l =
       omega (
@@ -105,7 +106,7 @@ module _ (s : Star) (g h : ℕ) where
       )
 
   layers-counted : (x : ℕ) → x ≤ subdivisions s
-      → runs (meshTo s x 0 0) g h ≡ sum (λ u. square (cellRuns s g h u) (subdivisions s)) x
+      → runs (regularTo s x 0 0) g h ≡ total (λ u. square (cellRuns s g h u) (subdivisions s)) x
   layers-counted zero l = none-counted
   layers-counted (suc x) l =
       omega (

@@ -11,13 +11,14 @@ use lib.Dec.{T, eqb, ltb, eqb→eq, ltb→lt}
 use Rattle.tables.specs.Codes.{pointA, edgeOf}
 use Rattle.tables.specs.Cases.{regularTriangles}
 use Rattle.tables.specs.Corners.{bit, cornerX, cornerY, cornerZ, axisOf, regularUsed, regularEdges}
-use Rattle.tables.specs.Each.{both, both-left, both-right, then, then-holds, below, all, all₂}
-use Rattle.tables.specs.Counting.{pick, one, every, every-item, total}
+use Rattle.laws.specs.Tests.{both, both-left, both-right, then, then-holds, below, all, all₂}
+use Rattle.laws.specs.Counting.{pick, one, every, every-item, weighed}
 use Rattle.tables.specs.Sides.{side, back, sidesOf, regularSides, regular-sides, farEnds, nearEdge, nearSide, onlyNear, farEdge, farSide, nearCorner, nearBits, farBits, spread, shown, nears, fars, inflow, outflow}
 use Rattle.tables.specs.RulesSides.{balanced}
-use Rattle.model.specs.Points.{Star, subdivisions, cornerPoint, regularCase}
+use Rattle.model.specs.Star.{Star, subdivisions}
+use Rattle.model.specs.Points.{cornerPoint, regularCase}
 use Rattle.closed.specs.Clauses.{Edge, number, insideAt, run}
-use Rattle.closed.specs.Sums.{Each, each-gather, total-append, total-map, total-same, cube, border, telescope-cube}
+use Rattle.laws.specs.Sums.{Each, each-gather, weighed-append, weighed-map, weighed-same, cube, border, telescope-cube}
 use Rattle.closed.specs.Places.{same-edge}
 use Rattle.closed.specs.Cells.{case-small, case-bit, codeEdge, same-point}
 
@@ -223,10 +224,10 @@ module _ (s : Star) (x y z d : ℕ) (hd : d < 3) where
 
 module _ (s : Star) (g h : ℕ) where
   unfoldable pub cellRuns : ℕ → ℕ → ℕ → ℕ
-  cellRuns x y z = total (weight s g h x y z) (regularSides (regularCase s x y z))
+  cellRuns x y z = weighed (weight s g h x y z) (regularSides (regularCase s x y z))
 
   unfoldable pub faceRuns : ℕ → ℕ → ℕ → ℕ → ℕ
-  faceRuns d x y z = total (weight s g h x y z) (shown d (faceBits s d x y z))
+  faceRuns d x y z = weighed (weight s g h x y z) (shown d (faceBits s d x y z))
 
 byte-side : (p q : ℕ) → side (edgeOf p) (edgeOf q) < 65536
 unfolding side
@@ -240,13 +241,13 @@ sides-below case =
 
 module _ (s : Star) (g h x y z : ℕ) where
   abbrev flow : List ℕ → ℕ
-  flow ks = total (weight s g h x y z) ks
+  flow ks = weighed (weight s g h x y z) ks
 
   cell-back : flow (map back (regularSides (regularCase s x y z))) ≡ cellRuns s h g x y z
   unfolding cellRuns
   cell-back =
       let ks = regularSides (regularCase s x y z) in
-      total-map (weight s g h x y z) back ks ∙ total-same _ _ (turned s g h x y z) ks (sides-below (regularCase s x y z))
+      weighed-map (weight s g h x y z) back ks ∙ weighed-same _ _ (turned s g h x y z) ks (sides-below (regularCase s x y z))
 
   module _ (d : ℕ) (hd : d < 3) where
     near-forth : flow (nears d (regularCase s x y z)) ≡ faceRuns s g h d x y z
@@ -258,24 +259,24 @@ module _ (s : Star) (g h x y z : ℕ) where
     near-back =
         let ks = shown d (faceBits s d x y z) in
         rw (near-bits s x y z d hd)
-        (total-map (weight s g h x y z) back ks
-        ∙ total-same _ _ (λ k t. turned s g h x y z k (near-below d hd k t)) ks (shown-near d _))
+        (weighed-map (weight s g h x y z) back ks
+        ∙ weighed-same _ _ (λ k t. turned s g h x y z k (near-below d hd k t)) ks (shown-near d _))
 
     far-forth : flow (fars d (regularCase s x y z)) ≡ faceRuns s g h d (x + step 0 d) (y + step 1 d) (z + step 2 d)
     unfolding fars faceRuns
     far-forth =
         let ks = shown d (faceBits s d (x + step 0 d) (y + step 1 d) (z + step 2 d)) in
         rw (far-bits s x y z d hd)
-        (total-map (weight s g h x y z) (farSide d) ks ∙ total-same _ _ (far-weight d hd s g h x y z) ks (shown-near d _))
+        (weighed-map (weight s g h x y z) (farSide d) ks ∙ weighed-same _ _ (far-weight d hd s g h x y z) ks (shown-near d _))
 
     far-back : flow (map back (fars d (regularCase s x y z))) ≡ faceRuns s h g d (x + step 0 d) (y + step 1 d) (z + step 2 d)
     unfolding fars faceRuns
     far-back =
         let ks = shown d (faceBits s d (x + step 0 d) (y + step 1 d) (z + step 2 d)) in
         rw (far-bits s x y z d hd)
-        (total-map (weight s g h x y z) back (map (farSide d) ks)
-        ∙ total-map (λ k. weight s g h x y z (back k)) (farSide d) ks
-        ∙ total-same _ _ (λ k t. turned s g h x y z (farSide d k) (far-below d hd k t) ∙ far-weight d hd s h g x y z k t) ks (shown-near d _))
+        (weighed-map (weight s g h x y z) back (map (farSide d) ks)
+        ∙ weighed-map (λ k. weight s g h x y z (back k)) (farSide d) ks
+        ∙ weighed-same _ _ (λ k t. turned s g h x y z (farSide d k) (far-below d hd k t) ∙ far-weight d hd s h g x y z k t) ks (shown-near d _))
 
   cell-balanced : cellRuns s g h x y z + (faceRuns s g h 0 (suc x) y z + faceRuns s h g 0 x y z)
       + (faceRuns s g h 1 x (suc y) z + faceRuns s h g 1 x y z) + (faceRuns s g h 2 x y (suc z) + faceRuns s h g 2 x y z)
@@ -285,7 +286,7 @@ module _ (s : Star) (g h x y z : ℕ) where
   cell-balanced =
       omega (
         arith,
-        simp total-append at (balanced (weight s g h x y z) (regularCase s x y z) (case-small s x y z)),
+        simp weighed-append at (balanced (weight s g h x y z) (regularCase s x y z) (case-small s x y z)),
         cell-back,
         near-forth 0 (omega arith),
         near-forth 1 (omega arith),

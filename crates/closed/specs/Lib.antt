@@ -1,5 +1,4 @@
 pub mod Clauses
-pub mod Sums
 pub mod Places
 pub mod Cells
 pub mod Stored

@@ -4,11 +4,11 @@ use mathlib.Core.Bool.{Bool}
 use Prim.Native.Nat.{ℕ, zero, suc, _+_, _-_, _≤_, _<_}
 use native.Mathlib.Omega.{arith}
 use lib.Dec.{eqb}
-use Rattle.tables.specs.Counting.{one, one-small}
-use Rattle.model.specs.Points.{Star, subdivisions}
+use Rattle.laws.specs.Counting.{one, one-small}
+use Rattle.laws.specs.Sums.{border}
+use Rattle.model.specs.Star.{Star, subdivisions}
 use Rattle.model.specs.Mesh.{regularMesh}
 use Rattle.closed.specs.Clauses.{Edge, number, OfBlock, OfCell, Crossed, runs, IsCell, Carried, Corners, Balanced, vertexOn, NoHole, OneVertex}
-use Rattle.closed.specs.Sums.{border}
 use Rattle.closed.specs.Places.{number-one, rank-in}
 use Rattle.closed.specs.Cells.{codeEdge, byte-edge, own-byte, crossed-code}
 use Rattle.closed.specs.Stored.{names-as}

@@ -7,13 +7,14 @@ use native.Mathlib.Omega.{arith}
 use lib.Dec.{T, eqb, eqb→eq}
 use Rattle.tables.specs.Codes.{pointA, pointB}
 use Rattle.tables.specs.Corners.{bit}
-use Rattle.tables.specs.Each.{both-left, both-right}
-use Rattle.tables.specs.Counting.{one}
+use Rattle.laws.specs.Tests.{both-left, both-right}
+use Rattle.laws.specs.Counting.{one}
 use Rattle.tables.specs.Sides.{farEnds, nearEdge, nearSide, shown}
 use Rattle.model.specs.Rotations.{xyz}
-use Rattle.model.specs.Points.{Star, subdivisions, cornerPoint}
+use Rattle.model.specs.Star.{Star, subdivisions}
+use Rattle.model.specs.Points.{cornerPoint}
 use Rattle.closed.specs.Clauses.{Edge, number, OfBlock, OfCell, run, part, InFace, InnerPair}
-use Rattle.closed.specs.Sums.{total-none, square-none, border}
+use Rattle.laws.specs.Sums.{weighed-none, square-none, border}
 use Rattle.closed.specs.Places.{number-one}
 use Rattle.closed.specs.Cells.{codeEdge, byte-own, byte-high, in-block}
 use Rattle.closed.specs.Flux.{shown-near, weight, faceBits, faceRuns}
@@ -83,7 +84,7 @@ module _ (s : Star) (e f : Edge) (he : OfBlock s e) (hf : OfBlock s f) (inner : 
 
     shows-none : faceRuns s (number s e) (number s f) d x y z ≡ 0
     unfolding faceRuns
-    shows-none = total-none _ no-weight (shown d (faceBits s d x y z)) (shown-near d _)
+    shows-none = weighed-none _ no-weight (shown d (faceBits s d x y z)) (shown-near d _)
 
 -- ---- the border
 

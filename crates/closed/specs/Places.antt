@@ -5,7 +5,7 @@ use Prim.Native.Nat.{ℕ, suc, _+_, _*_, _≤_, _<_}
 use native.Mathlib.Nat.{add-zero, add-mul, mul-assoc, mul-comm, mul-add, mul-le-mul-left, mul-le-mul-right}
 use native.Mathlib.Decide.{decLt}
 use native.Mathlib.Omega.{arith}
-use Rattle.model.specs.Points.{Star, subdivisions}
+use Rattle.model.specs.Star.{Star, subdivisions}
 use Rattle.model.specs.Mesh.{storeLength, regularPlace}
 use Rattle.closed.specs.Clauses.{Edge, edge, number, OfBlock, IsCell}
 

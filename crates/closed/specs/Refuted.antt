@@ -10,16 +10,17 @@ use lib.IntN.{pos}
 use lib.Ieee as Ieee
 use lib.Ieee.{Float, fin}
 use lib.ListN.{length}
-use Rattle.tables.specs.Each.{both, both-left, both-right, below, all}
-use Rattle.tables.specs.Counting.{has}
+use Rattle.laws.specs.Tests.{both, both-left, both-right, below, all}
+use Rattle.laws.specs.Counting.{has}
 use Rattle.tables.specs.RegularRows as rows
 use Rattle.tables.specs.Cases as tables
-use Rattle.model.specs.Steps.{listed}
+use Rattle.laws.specs.Steps.{listed}
 use Rattle.model.specs.Samples.{sampleLength, placeOf, valueAt}
 use Rattle.model.specs.Formulas.{vector}
-use Rattle.model.specs.Points.{Star, star, subdivisions, regularCase}
-use Rattle.model.specs.Mesh.{Made, Mesh, fillStep, fillTo, triangleOf, blank, cellStep, regularPlace, regularEdge, regularLeaves, regularTurn, regularCell, regularColumn, regularLayer, regularMesh}
-use Rattle.closed.specs.Clauses.{Edge, edge, high, number, OfBlock, OfCell, Crossed, edgeAt, Names, triangleAt, run, sides, runs, Carried, meshTo, Corners, InnerPair, Balanced}
+use Rattle.model.specs.Star.{Star, starFrom, subdivisions}
+use Rattle.model.specs.Points.{regularCase}
+use Rattle.model.specs.Mesh.{Made, Mesh, fillStep, fillTo, triangleOf, emptyMesh, cellStep, regularPlace, regularEdge, regularLeaves, regularUse, regularCell, regularColumn, regularLayer, regularMesh, regularTo}
+use Rattle.closed.specs.Clauses.{Edge, edge, high, number, OfBlock, OfCell, Crossed, edgeAt, Names, triangleAt, run, sides, runs, Carried, Corners, InnerPair, Balanced}
 use Rattle.closed.specs.Wrong.{emptied, firstOnly, lastDropped, firstTurned, slipped}
 
 -- ---- small blocks
@@ -29,9 +30,9 @@ whole k = fin false k (pos 0)
 
 -- a block of n subdivisions, inside at the samples with these places and outside at the others; whoever unfolds it can compute its meshes
 unfoldable pub blockOf : ℕ → List ℕ → Star
-unfolding meshTo runs sides run regularMesh regularLayer regularColumn cellStep blank regularCell regularTurn regularLeaves regularEdge regularPlace triangleOf fillTo fillStep regularCase valueAt placeOf Ieee.le Ieee.lt Ieee.eq rows.classes rows.cellRows rows.vertexRows tables.regularClass tables.regularCodes tables.regularCell tables.regularCode tables.regularVertices tables.regularTriangles tables.regularCorner both
+unfolding regularTo runs sides run regularMesh regularLayer regularColumn cellStep emptyMesh regularCell regularUse regularLeaves regularEdge regularPlace triangleOf fillTo fillStep regularCase valueAt placeOf Ieee.le Ieee.lt Ieee.eq rows.classes rows.cellRows rows.vertexRows tables.regularClass tables.regularCodes tables.regularCell tables.regularCode tables.regularVertices tables.regularTriangles tables.regularCorner both
 blockOf n places =
-    star (record { base = vector (whole 0) (whole 0) (whole 0); size = whole 1; subdivisions = n }) 0 (whole 1)
+    starFrom (record { base = vector (whole 0) (whole 0) (whole 0); size = whole 1; subdivisions = n }) 0 (whole 1)
     (listed (λ k. cond (has k places) (whole 1) (whole 0)) (sampleLength n)) []
 
 -- one cell with no corner inside; with (0, 0, 0) inside; and with (0, 0, 0) and (1, 0, 0), so that two triangles have a side between them
@@ -150,7 +151,7 @@ slipped-triangles : (length (slipped border .triangles) ≡ 2) × (triangleAt (s
 unfolding border blockOf
 slipped-triangles = (refl, refl, refl)
 
-first-sends-one : length (meshTo border 0 0 1 .triangles) ≡ 1
+first-sends-one : length (regularTo border 0 0 1 .triangles) ≡ 1
 unfolding border blockOf
 first-sends-one = refl
 

@@ -16,8 +16,9 @@ use Rattle.tables.specs.Codes.{stepX, stepY, stepZ, isNew, reuseIndex}
 use Rattle.tables.specs.RulesSlots.{RegularCode}
 use Rattle.model.specs.declared.Xyz.{Xyz}
 use Rattle.model.specs.Formulas.{vertexBetween}
-use Rattle.model.specs.Points.{Star, subdivisions, regularPoint}
-use Rattle.model.specs.Mesh.{Made, Turn, Fill, madeBy, fillStep, fillTo, storeLength, regularEdge, regularVertex, regularLeaves, regularTurn, regularCell}
+use Rattle.model.specs.Star.{Star, subdivisions}
+use Rattle.model.specs.Points.{regularPoint}
+use Rattle.model.specs.Mesh.{Made, CodeUse, Fill, madeBy, fillStep, fillTo, storeLength, regularEdge, regularVertex, regularLeaves, regularUse, regularCell}
 use Rattle.closed.specs.Clauses.{number, Crossed, noVertex, Names, IsCell, OnItsEdge, Lying}
 use Rattle.closed.specs.Places.{rank, rank-less, place, place-one, place-in}
 use Rattle.closed.specs.Cells.{codeEdge, codes, codeAt, slotEdge, high-is, code-own, code-slot, new-slot, own-of-block, code-right, code-crossed}
@@ -115,9 +116,9 @@ module _ (s : Star) (x y z : ℕ) where
     lying : Lying s after
     long : length store′ ≡ storeLength (subdivisions s)
 
-  -- regularTurn, by whether the code is new and whether it leaves the block
-  turnBy : ℕ → Bool → Bool → Turn
-  turnBy code new leaves =
+  -- regularUse, by whether the code is new and whether it leaves the block
+  useBy : ℕ → Bool → Bool → CodeUse
+  useBy code new leaves =
       record {
         made = record { vertex = regularVertex s x y z code; edge = number s (codeEdge x y z code) };
         makes = new || leaves;
@@ -126,7 +127,7 @@ module _ (s : Star) (x y z : ℕ) where
             (place s (x - stepX code) (y - stepY code) (z - stepZ code) (reuseIndex code));
       }
 
-  abbrev PutBy : List Made → List ℕ → ℕ → Turn → Type 0
+  abbrev PutBy : List Made → List ℕ → ℕ → CodeUse → Type 0
   PutBy made store code t =
       Put made store code (made ++ madeBy t) (cond (t .makes) (length made) (getD store (t .place) 0))
       (cond (t .stores) (set store (t .place) (length made)) store)
@@ -151,10 +152,10 @@ module _ (s : Star) (x y z : ℕ) where
         })
         i (rw (length-append, add-one) at h)
 
-    put-by : (new leaves : Bool) → eqb (isNew code) 1 ≡ new → regularLeaves x y z code ≡ leaves → PutBy made store code (turnBy code new leaves)
-    unfolding turnBy
+    put-by : (new leaves : Bool) → eqb (isNew code) 1 ≡ new → regularLeaves x y z code ≡ leaves → PutBy made store code (useBy code new leaves)
+    unfolding useBy
     put-by true leaves en el =
-        let m = turnBy code true leaves .made in
+        let m = useBy code true leaves .made in
         let after = made ++ (m ∷ []) in
         let i = reuseIndex code in
         let p = place s x y z i in
@@ -176,7 +177,7 @@ module _ (s : Star) (x y z : ℕ) where
           long = length-set store p (length made) ∙ long;
         }
     put-by false true en el =
-        let m = turnBy code false true .made in
+        let m = useBy code false true .made in
         record {
           named = names-last made m refl;
           old = λ u v w q cell some small before cr. names-more made (m ∷ []) (old u v w q cell some small before cr);
@@ -206,8 +207,8 @@ module _ (s : Star) (x y z : ℕ) where
           long = long;
         })
 
-    put : PutBy made store code (regularTurn s x y z code)
-    unfolding regularTurn regularEdge turnBy
+    put : PutBy made store code (regularUse s x y z code)
+    unfolding regularUse regularEdge useBy
     put = put-by (eqb (isNew code) 1) (regularLeaves x y z code) refl refl
 
   -- ---- the codes of the cell
@@ -227,10 +228,10 @@ module _ (s : Star) (x y z : ℕ) where
 
   module _ (c : IsCell s x y z) where
     fill-step : (made : List Made) (k next : ℕ) (f : Fill) → next ≡ length made → k < codes s x y z → Filled made k f
-        → let t = regularTurn s x y z (codeAt s x y z k) in Filled (made ++ madeBy t) (suc k) (fillStep t next f)
+        → let t = regularUse s x y z (codeAt s x y z k) in Filled (made ++ madeBy t) (suc k) (fillStep t next f)
     unfolding fillStep
     fill-step made k next f e h p =
-        let t = regularTurn s x y z (codeAt s x y z k) in
+        let t = regularUse s x y z (codeAt s x y z k) in
         let q = put c made (f .store) (p .old) (p .lying) (p .long) (codeAt s x y z k) (code-right s x y z k h) (code-crossed s x y z k h) in
         rw e
         (record {

@@ -8,19 +8,20 @@ use lib.ListN.{length, take, set, replicate}
 use Rattle.tables.specs.Codes.{stepX, stepY}
 use Rattle.tables.specs.Cases.{regularCode}
 use Rattle.model.specs.declared.Triangle.{Triangle}
-use Rattle.model.specs.Steps.{iterate}
-use Rattle.model.specs.Points.{Star, subdivisions, regularCase}
-use Rattle.model.specs.Mesh.{Turn, Cell, Mesh, blank, cellStep, regularTurn, regularCell, regularMesh}
+use Rattle.laws.specs.Steps.{iterate}
+use Rattle.model.specs.Star.{Star, subdivisions}
+use Rattle.model.specs.Points.{regularCase}
+use Rattle.model.specs.Mesh.{CodeUse, Cell, Mesh, emptyMesh, cellStep, regularUse, regularCell, regularMesh}
 use Rattle.closed.specs.Clauses.{noVertex, noTriangle, triangleAt}
 
 -- no vertices and no triangles
 abbrev pub emptied : Star → Mesh
-emptied s = blank (subdivisions s)
+emptied s = emptyMesh (subdivisions s)
 
 -- the first cell's mesh, and the others only counted on
 abbrev pub firstOnly : Star → Mesh
 firstOnly s =
-    let first = cellStep (regularCell s 0 0 0) (blank (subdivisions s)) in
+    let first = cellStep (regularCell s 0 0 0) (emptyMesh (subdivisions s)) in
     let all = regularMesh s in
     record {
       made = first .made ++ replicate (length (all .made) - length (first .made)) noVertex;
@@ -44,9 +45,9 @@ firstTurned s =
     record { made = all .made; triangles = set (all .triangles) 0 (turnedRound (triangleAt all 0)); store = all .store }
 
 -- with steps in x and y at x = 0 and y above 0, the index is still taken from the y neighbour
-abbrev pub slippedTurn : Star → ℕ → ℕ → ℕ → ℕ → Turn
-slippedTurn s x y z code =
-    let t = regularTurn s x y z code in
+abbrev pub slippedUse : Star → ℕ → ℕ → ℕ → ℕ → CodeUse
+slippedUse s x y z code =
+    let t = regularUse s x y z code in
     let slips = eqb x 0 && (ltb 0 y && (eqb (stepX code) 1 && eqb (stepY code) 1)) in
     record { made = t .made; makes = t .makes && not slips; stores = t .stores; place = t .place }
 
@@ -55,7 +56,7 @@ slippedCell s x y z =
     let c = regularCell s x y z in
     record {
       vertices = c .vertices;
-      turn = λ i. slippedTurn s x y z (regularCode (regularCase s x y z) i);
+      uses = λ i. slippedUse s x y z (regularCode (regularCase s x y z) i);
       triangles = c .triangles;
       corner = c .corner;
     }
@@ -63,4 +64,4 @@ slippedCell s x y z =
 abbrev pub slipped : Star → Mesh
 slipped s =
     let n = subdivisions s in
-    iterate (λ x. iterate (λ y. iterate (λ z. cellStep (slippedCell s x y z)) n) n) n (blank n)
+    iterate (λ x. iterate (λ y. iterate (λ z. cellStep (slippedCell s x y z)) n) n) n (emptyMesh n)

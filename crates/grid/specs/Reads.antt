@@ -15,7 +15,8 @@ use Rattle.model.specs.declared.Verdict.the-variants.{Passed, Refused}
 use Rattle.model.specs.declared.Reading.the-variants.{Value, NeverSampled}
 use Rattle.model.specs.Samples.{sampleLength, outside, sampled, valueAt, readingAt}
 use Rattle.model.specs.Refusals.{unless, orElse}
-use Rattle.model.specs.Judging.{mostSubdivisions, judgeSubdivisions, judgeCentre}
+use Rattle.model.specs.Limits.{mostSubdivisions}
+use Rattle.model.specs.Judging.{judgeSubdivisions, judgeCentre}
 use Rattle.model.specs.Rotations.{facePoint, neighbourPoint}
 use Rattle.model.specs.Points.{cornerPoint}
 use Rattle.grid.specs.Places.{StepsSampled, steps-sampled}

@@ -5,7 +5,7 @@ use mathlib.Core.Path.{_≡_}
 use lib.ListN.{length}
 use Rattle.model.specs.Samples.{sampleLength}
 use Rattle.model.specs.Sides.{neighboursLength}
-use Rattle.model.specs.Points.{Star, subdivisions}
+use Rattle.model.specs.Star.{Star, subdivisions}
 
 pub record Shaped (s : Star) : Type 0 where
   pub some : 1 ≤ subdivisions s

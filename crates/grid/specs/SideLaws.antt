@@ -10,7 +10,7 @@ use lib.Count.{ones, onesIn, trailingZeros}
 use lib.Dec.{T, eqb, leb, ltb, eqb→eq, leb→le, le→leb, ltb→lt, lt→ltb}
 use lib.Ieee.{Float}
 use lib.ListN.{length, length-take, length-drop}
-use Rattle.tables.specs.Each.{both, both-left, both-right, then, then-holds, below, all, all₂}
+use Rattle.laws.specs.Tests.{both, both-left, both-right, then, then-holds, below, all, all₂}
 use Rattle.model.specs.Sides.{named, namedBelow, neighbourLength, neighboursLength, neighbourOf}
 
 -- a test that holds, and one that does not

@@ -12,7 +12,8 @@ use Rattle.model.specs.Samples.{sampleLength, sampleOf}
 use Rattle.model.specs.Sides.{neighbourLength, neighbourOf}
 use Rattle.model.specs.Rotations.{facePoint, neighbourPoint}
 use Rattle.model.specs.Formulas.{inside}
-use Rattle.model.specs.Points.{Star, subdivisions, fineSample}
+use Rattle.model.specs.Star.{Star, subdivisions}
+use Rattle.model.specs.Points.{fineSample}
 use Rattle.model.specs.Judging.{facesAgree, judgeFaces}
 use Rattle.judge.specs.NamedSides.{ofNamed}
 

@@ -8,7 +8,7 @@ use native.Mathlib.Omega.{arith}
 use lib.Count.{ones, onesIn}
 use lib.Dec.{T, eqb, leb, eqb→eq}
 use borrow.Author.Tests.{leb-true}
-use Rattle.tables.specs.Each.{both, below, all₂}
+use Rattle.laws.specs.Tests.{both, below, all₂}
 use Rattle.model.specs.declared.Refusal.the-variants.{MissingNeighbour}
 use Rattle.model.specs.declared.Verdict.{Verdict}
 use Rattle.model.specs.declared.Verdict.the-variants.{Passed}

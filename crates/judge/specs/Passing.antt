@@ -14,9 +14,9 @@ use Rattle.model.specs.declared.Verdict.the-variants.{Passed, Refused}
 use Rattle.model.specs.Refusals.{orElse}
 use Rattle.model.specs.Samples.{sampleLength}
 use Rattle.model.specs.Sides.{neighboursLength}
-use Rattle.model.specs.Points.{Star, subdivisions}
-use Rattle.model.specs.Judging.{mostSubdivisions, judgeSubdivisions, judgeMask, judgeMeasures, judgeCentre, judgeMissing, judgeTooLong, judgeSamples}
-use Rattle.model.specs.Extraction.{judgeStar}
+use Rattle.model.specs.Star.{Star, subdivisions}
+use Rattle.model.specs.Limits.{mostSubdivisions}
+use Rattle.model.specs.Judging.{judgeSubdivisions, judgeMask, judgeMeasures, judgeCentre, judgeMissing, judgeTooLong, judgeSamples, judgeStar}
 use Rattle.grid.specs.Shape.{Shaped}
 use Rattle.judge.specs.First.{or-else-assoc, both-passed, unless-passed}
 use Rattle.judge.specs.Parts.{judgeKind, judgeLengths}

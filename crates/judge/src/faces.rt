@@ -1,6 +1,6 @@
 // Refusal 8: the first point of a named side's face at which the centre and the neighbour lie on two sides of the threshold.
 ghost use mathlib.Core.Path.{_≡_};
-ghost use Rattle.model.specs.Points.{star};
+ghost use Rattle.model.specs.Star.{starFrom};
 ghost use Rattle.model.specs.Judging.{judgeFaces};
 ghost use Rattle.grid.specs.Shape.{Shaped};
 ghost use Rattle.judge.specs.Faces.{FacePair, pairAgrees};
@@ -40,8 +40,8 @@ pub fn judge_faces(
     centre: &[f32],
     neighbours: &[f32],
 ) -> Verdict
-    requires { ⌜ Shaped (star block mask threshold (now centre) (now neighbours)) ⌝ }
-    ensures { λ r. ⌜ r ≡ judgeFaces (star block mask threshold (now (centre .entry)) (now (neighbours .entry))) ⌝ }
+    requires { ⌜ Shaped (starFrom block mask threshold (now centre) (now neighbours)) ⌝ }
+    ensures { λ r. ⌜ r ≡ judgeFaces (starFrom block mask threshold (now (centre .entry)) (now (neighbours .entry))) ⌝ }
 {
     let n = block.subdivisions;
     let m = n + 1;

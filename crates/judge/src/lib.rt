@@ -2,10 +2,9 @@
 ghost use mathlib.Core.Path.{_≡_};
 ghost use Prim.Native.Nat.{_≤_};
 ghost use Rattle.model.specs.Refusals.{numbersOf, unless, orElse};
-ghost use Rattle.model.specs.Judging.{usable, usableSize, judgeSubdivisions, judgeMask, judgeMeasures, judgeBuffer, judgeRoom, judgeStore};
+ghost use Rattle.model.specs.Judging.{usable, usableSize, judgeSubdivisions, judgeMask, judgeMeasures, judgeBuffer, judgeRoom, judgeStore, judgeStar};
 ghost use Rattle.model.specs.Mesh.{storeLength};
-ghost use Rattle.model.specs.Points.{star};
-ghost use Rattle.model.specs.Extraction.{judgeStar};
+ghost use Rattle.model.specs.Star.{starFrom};
 ghost use Rattle.judge.specs.Parts.{judgeBase};
 
 pub mod faces;
@@ -227,7 +226,7 @@ pub fn judge_star(
     centre: &[f32],
     neighbours: &[f32],
 ) -> Verdict
-    ensures { λ r. ⌜ r ≡ judgeStar (star block mask threshold (now (centre .entry)) (now (neighbours .entry))) ⌝ }
+    ensures { λ r. ⌜ r ≡ judgeStar (starFrom block mask threshold (now (centre .entry)) (now (neighbours .entry))) ⌝ }
 {
     let n = block.subdivisions;
     let kind = or_else(judge_subdivisions(n), judge_mask(mask));

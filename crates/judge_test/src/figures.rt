@@ -1,4 +1,4 @@
-// Document 01, 'Figures to agree with', those with no star that concern positions: with only LowX named, at n = 2 the point (0, 1, 1) moves
+// Document 01, 'Figures to agree with', those with no starFrom that concern positions: with only LowX named, at n = 2 the point (0, 1, 1) moves
 // and (0, 0, 1) does not; at n = 1 nothing moves.
 ghost use Prim.Native.Nat.{_≤_};
 use crate::given::block;

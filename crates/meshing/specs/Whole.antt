@@ -14,11 +14,11 @@ use Rattle.model.specs.declared.RecordRead.the-variants as RecordRead
 use Rattle.model.specs.declared.Refusal.{Refusal}
 use Rattle.model.specs.declared.Extraction.{Extraction}
 use Rattle.model.specs.declared.Extraction.the-variants as Extraction
-use Rattle.model.specs.Steps.{laid}
+use Rattle.laws.specs.Steps.{laid}
 use Rattle.model.specs.Samples.{sampleLength}
 use Rattle.model.specs.Refusals.{orElse}
 use Rattle.model.specs.Judging.{judgeBuffer}
-use Rattle.model.specs.Points.{Star, star}
+use Rattle.model.specs.Star.{Star, starFrom}
 use Rattle.model.specs.Extraction.{Outcome, extract}
 use Rattle.model.specs.Record.{headerOf, countOf, sampleCount, samplesOf, judgeRecord, ReadOutcome, readAnswer, readRecord}
 use Rattle.judge.specs.First.{both-passed}
@@ -29,7 +29,7 @@ use Rattle.record.specs.Parts.{buffer-holds}
 abbrev pub starOf : Header → List Float → Star
 starOf h samples =
     let n = h .block .subdivisions in
-    star (h .block) (h .mask) (h .threshold) (take (sampleLength n) samples) (drop (sampleLength n) samples)
+    starFrom (h .block) (h .mask) (h .threshold) (take (sampleLength n) samples) (drop (sampleLength n) samples)
 
 abbrev pub meshAnswer : RecordRead → List Float → List ℕ → List Float → List ℕ → Outcome
 meshAnswer (RecordRead.Block h) samples store vertices triangles = extract (starOf h samples) store vertices triangles
@@ -98,7 +98,7 @@ module _ (h : Header) (samples : List Float) (own all : ℕ) (own-is : own ≡ s
       ap (λ (k : ℕ). drop own (take k samples)) e ∙ ap (drop own) (take-add own (all - own) samples)
       ∙ drop-at (take own samples) (take (all - own) (drop own samples)) own l
 
-  pub parts : star (h .block) (h .mask) (h .threshold) (take own samples) (take (all - own) (drop own samples))
+  pub parts : starFrom (h .block) (h .mask) (h .threshold) (take own samples) (take (all - own) (drop own samples))
       ≡ starOf h (take (sampleCount (h .block .subdivisions) (h .mask)) samples)
   parts =
       rw (← all-is, ← own-is, front, back)

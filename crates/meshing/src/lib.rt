@@ -1,7 +1,7 @@
 // Extraction for those who call it from outside: from a block record, and as a C call for a meshing stage in Rust or C.
 ghost use mathlib.Core.Path.{_≡_};
 ghost use lib.ListN.{length, take};
-ghost use Rattle.model.specs.Points.{star};
+ghost use Rattle.model.specs.Star.{starFrom};
 ghost use Rattle.model.specs.Extraction.{extract};
 ghost use Rattle.model.specs.Record.{sampleCount, readRecord};
 ghost use Rattle.meshing.specs.Answer.{answerNumbers, blockOf};
@@ -100,10 +100,10 @@ pub extern "C" fn sirveshan_extract(
     second: &mut usize,
     third: &mut usize,
 ) -> usize
-    ensures answer { λ r. ⌜ record { number = r; first = now (first .exit); second = now (second .exit); third = now (third .exit) } ≡ answerNumbers (extract (star (blockOf x y z size subdivisions) mask threshold (now (centre .entry)) (now (neighbours .entry))) (now (store .entry)) (now (vertices .entry)) (now (triangles .entry)) .answer) ⌝ }
-    ensures store { λ r. ⌜ now (store .exit) ≡ extract (star (blockOf x y z size subdivisions) mask threshold (now (centre .entry)) (now (neighbours .entry))) (now (store .entry)) (now (vertices .entry)) (now (triangles .entry)) .store ⌝ }
-    ensures vertices { λ r. ⌜ now (vertices .exit) ≡ extract (star (blockOf x y z size subdivisions) mask threshold (now (centre .entry)) (now (neighbours .entry))) (now (store .entry)) (now (vertices .entry)) (now (triangles .entry)) .vertices ⌝ }
-    ensures triangles { λ r. ⌜ now (triangles .exit) ≡ extract (star (blockOf x y z size subdivisions) mask threshold (now (centre .entry)) (now (neighbours .entry))) (now (store .entry)) (now (vertices .entry)) (now (triangles .entry)) .triangles ⌝ }
+    ensures answer { λ r. ⌜ record { number = r; first = now (first .exit); second = now (second .exit); third = now (third .exit) } ≡ answerNumbers (extract (starFrom (blockOf x y z size subdivisions) mask threshold (now (centre .entry)) (now (neighbours .entry))) (now (store .entry)) (now (vertices .entry)) (now (triangles .entry)) .answer) ⌝ }
+    ensures store { λ r. ⌜ now (store .exit) ≡ extract (starFrom (blockOf x y z size subdivisions) mask threshold (now (centre .entry)) (now (neighbours .entry))) (now (store .entry)) (now (vertices .entry)) (now (triangles .entry)) .store ⌝ }
+    ensures vertices { λ r. ⌜ now (vertices .exit) ≡ extract (starFrom (blockOf x y z size subdivisions) mask threshold (now (centre .entry)) (now (neighbours .entry))) (now (store .entry)) (now (vertices .entry)) (now (triangles .entry)) .vertices ⌝ }
+    ensures triangles { λ r. ⌜ now (triangles .exit) ≡ extract (starFrom (blockOf x y z size subdivisions) mask threshold (now (centre .entry)) (now (neighbours .entry))) (now (store .entry)) (now (vertices .entry)) (now (triangles .entry)) .triangles ⌝ }
 {
     let base = Vector { x, y: y, z: z };
     let block = Block {

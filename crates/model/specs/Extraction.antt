@@ -17,11 +17,11 @@ use Rattle.model.specs.declared.PointRead.{PointRead}
 use Rattle.model.specs.declared.PointRead.the-variants as PointRead
 use Rattle.model.specs.declared.Extraction.{Extraction}
 use Rattle.model.specs.declared.Extraction.the-variants as Extraction
-use Rattle.model.specs.Steps.{each, laid}
+use Rattle.laws.specs.Steps.{each, laid}
 use Rattle.model.specs.Samples.{readingAt, oneUp}
 use Rattle.model.specs.Refusals.{orElse}
-use Rattle.model.specs.Judging.{judgeSubdivisions, judgeMask, judgeMeasures, judgeCentre, judgeMissing, judgeTooLong, judgeSamples, judgeFaces, judgeStore, judgeRoom}
-use Rattle.model.specs.Points.{Star, subdivisions}
+use Rattle.model.specs.Judging.{judgeSubdivisions, judgeCentre, judgeStar, judgeFaces, judgeStore, judgeRoom}
+use Rattle.model.specs.Star.{Star, subdivisions}
 use Rattle.model.specs.Mesh.{Made, Mesh, meshOf}
 
 -- six f32 for a vertex, three u32 for a triangle
@@ -32,18 +32,6 @@ vertexFloats m =
 
 abbrev pub triangleIndices : Triangle → List ℕ
 triangleIndices t = t .a ∷ t .b ∷ t .c ∷ []
-
--- 1 to 7, of a block and its neighbours
-unfoldable pub judgeStar : Star → Verdict
-judgeStar s =
-    let n = subdivisions s in
-    orElse (judgeSubdivisions n)
-    (orElse (judgeMask (s .mask))
-    (orElse (judgeMeasures (s .block) (s .threshold))
-    (orElse (judgeCentre n (length (s .centre)))
-    (orElse (judgeMissing n (s .mask) (length (s .neighbours)))
-    (orElse (judgeTooLong n (s .mask) (length (s .neighbours)))
-    (judgeSamples (s .centre ++ s .neighbours)))))))
 
 pub record Outcome : Type 0 where
   pub answer : Extraction

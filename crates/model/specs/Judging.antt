@@ -1,8 +1,8 @@
--- Document 01, 'Answers by number': when each of 1 to 10 and 14 is met. What judges several takes the first that is met.
--- Definitions only.
+-- Document 01, 'Answers by number': when each of 1 to 10 and 14 is met, and 1 to 7 in their order. What judges several takes the first
+-- that is met. Definitions only.
 use Prim.Native.Nat.{ℕ, zero, suc, _+_, _*_, _/_}
 use mathlib.Core.Bool.{Bool, cond, _&&_, Bool·beq}
-use mathlib.Core.List.{List}
+use mathlib.Core.List.{List, _++_}
 use lib.Dec.{eqb, leb}
 use lib.Ieee as Ieee
 use lib.Ieee.{Float, nan}
@@ -11,34 +11,33 @@ use Rattle.model.specs.declared.Block.{Block}
 use Rattle.model.specs.declared.Refusal.the-variants.{Subdivisions, Mask, Measure, CentreLength, MissingNeighbour, NeighboursTooLong, BadSample, FaceMismatch, IndexStoreTooShort, NoRoom, BufferTooShort}
 use Rattle.model.specs.declared.Verdict.{Verdict}
 use Rattle.model.specs.declared.Verdict.the-variants.{Passed}
+use Rattle.model.specs.Limits.{mostSubdivisions, mostMask, sideCount, mostSize, leastPart}
 use Rattle.model.specs.Samples.{sampleLength, sampleOf}
 use Rattle.model.specs.Sides.{named, namedBelow, neighbourLength, neighboursLength}
 use Rattle.model.specs.Rotations.{facePoint}
 use Rattle.model.specs.Formulas.{whole, _⊘_, inside}
 use Rattle.model.specs.Refusals.{unless, orElse, first}
-use Rattle.model.specs.Points.{Star, subdivisions, fineSample}
+use Rattle.model.specs.Star.{Star, subdivisions}
+use Rattle.model.specs.Points.{fineSample}
 use Rattle.model.specs.Mesh.{storeLength}
 
 -- 1
-abbrev pub mostSubdivisions : ℕ
-mostSubdivisions = 16
-
 abbrev pub judgeSubdivisions : ℕ → Verdict
 judgeSubdivisions n = unless (leb 1 n && leb n mostSubdivisions) (Subdivisions n)
 
 -- 2
 abbrev pub judgeMask : ℕ → Verdict
-judgeMask mask = unless (leb mask 63) (Mask mask)
+judgeMask mask = unless (leb mask mostMask) (Mask mask)
 
 -- finite and at most 1,048,576 in size: each comparison is false at a NaN
 abbrev pub limit : Float
-limit = whole 1048576
+limit = whole mostSize
 
 abbrev pub usable : Float → Bool
 usable x = Ieee.le (Ieee.neg limit) x && Ieee.le x limit
 
 abbrev pub usableSize : Float → Bool
-usableSize x = Ieee.le (whole 1 ⊘ whole 1024) x && Ieee.le x limit
+usableSize x = Ieee.le (whole 1 ⊘ whole leastPart) x && Ieee.le x limit
 
 -- 3: 0 to 2 base, 3 size, 4 threshold
 abbrev pub measureUsable : Block → Float → ℕ → Bool
@@ -62,7 +61,7 @@ sideThere n mask held side =
     (unless (leb ((namedBelow mask side + 1) * neighbourLength n) held) (MissingNeighbour side)) Passed
 
 unfoldable pub judgeMissing : ℕ → ℕ → ℕ → Verdict
-judgeMissing n mask held = first (sideThere n mask held) 6
+judgeMissing n mask held = first (sideThere n mask held) sideCount
 
 -- 6
 abbrev pub judgeTooLong : ℕ → ℕ → ℕ → Verdict
@@ -75,6 +74,18 @@ sampleUsable samples place = unless (usable (getD samples place nan)) (BadSample
 
 unfoldable pub judgeSamples : List Float → Verdict
 judgeSamples samples = first (sampleUsable samples) (length samples)
+
+-- 1 to 7, of a block and its neighbours
+unfoldable pub judgeStar : Star → Verdict
+judgeStar s =
+    let n = subdivisions s in
+    orElse (judgeSubdivisions n)
+    (orElse (judgeMask (s .mask))
+    (orElse (judgeMeasures (s .block) (s .threshold))
+    (orElse (judgeCentre n (length (s .centre)))
+    (orElse (judgeMissing n (s .mask) (length (s .neighbours)))
+    (orElse (judgeTooLong n (s .mask) (length (s .neighbours)))
+    (judgeSamples (s .centre ++ s .neighbours)))))))
 
 -- 8: the centre's face point and the neighbour's coinciding point lie on the same side of the threshold
 unfoldable pub facesAgree : Star → ℕ → ℕ → ℕ → Bool
@@ -96,7 +107,7 @@ abbrev pub faceSides : Star → ℕ → Verdict
 faceSides s = first (λ side. cond (named (s .mask) side) (faceSide s side (subdivisions s + 1)) Passed)
 
 unfoldable pub judgeFaces : Star → Verdict
-judgeFaces s = faceSides s 6
+judgeFaces s = faceSides s sideCount
 
 -- 9
 abbrev pub judgeStore : ℕ → ℕ → Verdict

@@ -1,9 +1,10 @@
-pub mod Steps
+pub mod Limits
 pub mod Samples
 pub mod Sides
 pub mod Rotations
 pub mod Formulas
 pub mod Refusals
+pub mod Star
 pub mod Points
 pub mod Mesh
 pub mod Judging

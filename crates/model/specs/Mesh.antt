@@ -10,11 +10,13 @@ use Rattle.tables.specs.Cases.{regularCode, regularVertices, regularTriangles, 
 use Rattle.tables.specs.Points.{cellPoint}
 use Rattle.model.specs.declared.Vertex.{Vertex}
 use Rattle.model.specs.declared.Triangle.{Triangle}
-use Rattle.model.specs.Steps.{iterate, listed}
+use Rattle.laws.specs.Steps.{iterate, listed}
+use Rattle.model.specs.Limits.{sideCount}
 use Rattle.model.specs.Samples.{inBlock}
 use Rattle.model.specs.Sides.{named}
 use Rattle.model.specs.Formulas.{vertexBetween}
-use Rattle.model.specs.Points.{Star, subdivisions, cornerPoint, regularCase, regularPoint, transitionCase, transitionPoint}
+use Rattle.model.specs.Star.{Star, subdivisions}
+use Rattle.model.specs.Points.{cornerPoint, regularCase, regularPoint, transitionCase, transitionPoint}
 
 -- ---- the index store
 
@@ -39,7 +41,7 @@ pub record Made : Type 0 where
 
 -- what a vertex code comes to in its cell: the vertex, if it makes one; and the place where that is stored, if it is,
 -- or else where an index is taken from
-pub record Turn : Type 0 where
+pub record CodeUse : Type 0 where
   pub made : Made
   pub makes : Bool
   pub stores : Bool
@@ -49,7 +51,7 @@ pub record Turn : Type 0 where
 -- they are sent, their corners as positions among the cell's vertices
 pub record Cell : Type 0 where
   pub vertices : ℕ
-  pub turn : ℕ → Turn
+  pub uses : ℕ → CodeUse
   pub triangles : ℕ
   pub corner : ℕ → ℕ
 
@@ -59,11 +61,11 @@ pub record Fill : Type 0 where
   pub index : List ℕ
   pub store : List ℕ
 
-abbrev pub madeBy : Turn → List Made
+abbrev pub madeBy : CodeUse → List Made
 madeBy t = cond (t .makes) (t .made ∷ []) []
 
 -- the next vertex, where next is the index of the next one made
-unfoldable pub fillStep : Turn → ℕ → Fill → Fill
+unfoldable pub fillStep : CodeUse → ℕ → Fill → Fill
 fillStep t next f =
     record {
       made = f .made ++ madeBy t;
@@ -74,7 +76,7 @@ fillStep t next f =
 -- the first k vertices of a cell, where base vertices were made before it
 unfoldable pub fillTo : Cell → ℕ → List ℕ → ℕ → Fill
 fillTo c base store k =
-    iterate (λ i f. fillStep (c .turn i) (base + length (f .made)) f) k (record { made = []; index = []; store = store })
+    iterate (λ i f. fillStep (c .uses i) (base + length (f .made)) f) k (record { made = []; index = []; store = store })
 
 -- the vertex index that corner j is sent as
 abbrev pub cornerIndex : Cell → List ℕ → ℕ → ℕ
@@ -91,8 +93,8 @@ pub record Mesh : Type 0 where
   pub triangles : List Triangle
   pub store : List ℕ
 
-unfoldable pub blank : ℕ → Mesh
-blank n = record { made = []; triangles = []; store = replicate (storeLength n) 0 }
+unfoldable pub emptyMesh : ℕ → Mesh
+emptyMesh n = record { made = []; triangles = []; store = replicate (storeLength n) 0 }
 
 abbrev pub filled : Cell → Mesh → Fill
 filled c m = fillTo c (length (m .made)) (m .store) (c .vertices)
@@ -124,8 +126,8 @@ regularLeaves x y z code = ltb x (stepX code) || (ltb y (stepY code) || ltb z (s
 
 -- new: make and store; otherwise, if every step asked for stays inside the block, take the stored index of that cell; if one
 -- does not, make a new vertex that is not stored
-unfoldable pub regularTurn : Star → ℕ → ℕ → ℕ → ℕ → Turn
-regularTurn s x y z code =
+unfoldable pub regularUse : Star → ℕ → ℕ → ℕ → ℕ → CodeUse
+regularUse s x y z code =
     let n = subdivisions s in
     let new = eqb (isNew code) 1 in
     record {
@@ -141,7 +143,7 @@ regularCell s x y z =
     let case = regularCase s x y z in
     record {
       vertices = regularVertices case;
-      turn = λ i. regularTurn s x y z (regularCode case i);
+      uses = λ i. regularUse s x y z (regularCode case i);
       triangles = regularTriangles case;
       corner = regularCorner case;
     }
@@ -154,7 +156,13 @@ unfoldable pub regularLayer : Star → ℕ → Mesh → Mesh
 regularLayer s x = iterate (regularColumn s x) (subdivisions s)
 
 unfoldable pub regularMesh : Star → Mesh
-regularMesh s = iterate (regularLayer s) (subdivisions s) (blank (subdivisions s))
+regularMesh s = iterate (regularLayer s) (subdivisions s) (emptyMesh (subdivisions s))
+
+-- the mesh of the cells before the cell (x, y, z)
+unfoldable pub regularTo : Star → ℕ → ℕ → ℕ → Mesh
+regularTo s x y z =
+    iterate (λ z. cellStep (regularCell s x y z)) z
+    (iterate (regularColumn s x) y (iterate (regularLayer s) x (emptyMesh (subdivisions s))))
 
 -- ---- transition cells
 
@@ -173,8 +181,8 @@ transitionLeaves u v code =
     (eqb (stepX code) 0 && eqb (stepY code) 0) || (ltb u (stepX code) || ltb v (stepY code))
 
 -- 0x80 new and stored; a step back that stays in the face takes the stored index of that cell; anything else new and not stored
-unfoldable pub transitionTurn : Star → ℕ → ℕ → ℕ → ℕ → Turn
-transitionTurn s side u v code =
+unfoldable pub transitionUse : Star → ℕ → ℕ → ℕ → ℕ → CodeUse
+transitionUse s side u v code =
     let n = subdivisions s in
     let new = eqb (isNew code) 1 in
     record {
@@ -194,7 +202,7 @@ transitionCell s side u v =
     let case = transitionCase s side u v in
     record {
       vertices = transitionVertices case;
-      turn = λ i. transitionTurn s side u v (transitionCode case i);
+      uses = λ i. transitionUse s side u v (transitionCode case i);
       triangles = transitionTriangles case;
       corner = λ j. transitionCorner case (sent (transitionTurned case) j);
     }
@@ -208,4 +216,10 @@ transitionSide s side m = cond (named (s .mask) side) (iterate (transitionRow s 
 
 -- after the regular cells, the transition cells
 unfoldable pub meshOf : Star → Mesh
-meshOf s = iterate (transitionSide s) 6 (regularMesh s)
+meshOf s = iterate (transitionSide s) sideCount (regularMesh s)
+
+-- the mesh of the cells before the cell (u, v) of a side
+unfoldable pub transitionTo : Star → ℕ → ℕ → ℕ → Mesh
+transitionTo s side u v =
+    iterate (λ v. cellStep (transitionCell s side u v)) v
+    (iterate (transitionRow s side) u (iterate (transitionSide s) side (regularMesh s)))

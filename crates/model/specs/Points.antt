@@ -1,39 +1,19 @@
--- Document 01, 'Regular cells' and 'Transition cells': a block with its finer neighbours, and the grid points of its cells.
+-- Document 01, 'Regular cells' and 'Transition cells': the grid points of a block's cells, and their case numbers.
 -- Definitions only.
 use Prim.Native.Nat.{ℕ, _+_, _*_, _/_, _%_, _^_}
 use mathlib.Core.Bool.{cond, _&&_}
-use mathlib.Core.List.{List}
 use lib.Dec.{eqb}
 use lib.Ieee.{Float}
 use Rattle.tables.specs.Points.{contributionOf}
 use Rattle.tables.specs.declared.aux_tables.CellPoint.{CellPoint}
 use Rattle.tables.specs.declared.aux_tables.CellPoint.the-variants.{Fine, Coarse}
 use Rattle.model.specs.declared.Xyz.{Xyz}
-use Rattle.model.specs.declared.Block.{Block}
 use Rattle.model.specs.declared.GridPoint.{GridPoint}
-use Rattle.model.specs.Steps.{total}
+use Rattle.laws.specs.Steps.{total}
 use Rattle.model.specs.Samples.{sampleOf}
-use Rattle.model.specs.Sides.{neighbourOf}
+use Rattle.model.specs.Star.{Star, subdivisions, neighbourAt}
 use Rattle.model.specs.Rotations.{xyz, facePoint, finePoint, neighbourPoint}
 use Rattle.model.specs.Formulas.{insideBit, gradientAt, regularPosition, finePosition}
-
--- a block, the sides at which its neighbours are finer, and all their samples
-pub record Star : Type 0 where
-  pub block : Block
-  pub mask : ℕ
-  pub threshold : Float
-  pub centre : List Float
-  pub neighbours : List Float
-
-abbrev pub star : Block → ℕ → Float → List Float → List Float → Star
-star block mask threshold centre neighbours =
-    record { block = block; mask = mask; threshold = threshold; centre = centre; neighbours = neighbours }
-
-abbrev pub subdivisions : Star → ℕ
-subdivisions s = s .block .subdivisions
-
-abbrev pub neighbourAt : Star → ℕ → List Float
-neighbourAt s side = neighbourOf (subdivisions s) (s .mask) (s .neighbours) side
 
 -- ---- regular cells
 

@@ -14,14 +14,13 @@ use Rattle.model.specs.declared.RecordRead.{RecordRead}
 use Rattle.model.specs.declared.RecordRead.the-variants as RecordRead
 use Rattle.model.specs.declared.RecordWritten.{RecordWritten}
 use Rattle.model.specs.declared.RecordWritten.the-variants as RecordWritten
-use Rattle.model.specs.Steps.{listed, each, laid}
+use Rattle.laws.specs.Steps.{listed, each, laid}
 use Rattle.model.specs.Samples.{sampleLength}
 use Rattle.model.specs.Sides.{neighboursLength}
 use Rattle.model.specs.Formulas.{vector}
 use Rattle.model.specs.Refusals.{unless, orElse}
-use Rattle.model.specs.Judging.{judgeSubdivisions, judgeMask, judgeMeasures, judgeSamples, judgeBuffer}
-use Rattle.model.specs.Points.{star}
-use Rattle.model.specs.Extraction.{judgeStar}
+use Rattle.model.specs.Judging.{judgeSubdivisions, judgeMask, judgeMeasures, judgeSamples, judgeBuffer, judgeStar}
+use Rattle.model.specs.Star.{starFrom}
 
 -- the bytes before the samples
 abbrev pub headerLength : ℕ
@@ -131,5 +130,5 @@ writeAnswer h samples bytes (Verdict.Refused r) = record { answer = RecordWritte
 unfoldable pub writeRecord : Header → List Float → List Float → List ℕ → WriteOutcome
 writeRecord h centre neighbours bytes =
     writeAnswer h (centre ++ neighbours) bytes
-    (orElse (judgeStar (star (h .block) (h .mask) (h .threshold) centre neighbours))
+    (orElse (judgeStar (starFrom (h .block) (h .mask) (h .threshold) centre neighbours))
     (judgeBuffer (headerLength + 4 * length (centre ++ neighbours)) (length bytes)))

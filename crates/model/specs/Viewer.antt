@@ -12,7 +12,7 @@ use Rattle.model.specs.declared.Reading.the-variants.{Value, NeverSample
 use Rattle.model.specs.declared.Verdict.{Verdict}
 use Rattle.model.specs.declared.Verdict.the-variants.{Passed, Refused}
 use Rattle.model.specs.declared.Refusal.the-variants.{PointNeverSampled}
-use Rattle.model.specs.Steps.{total}
+use Rattle.laws.specs.Steps.{total}
 use Rattle.model.specs.Samples.{readingAt, oneUp}
 use Rattle.model.specs.Formulas.{insideBit}
 use Rattle.model.specs.Refusals.{numbersOf}

@@ -15,7 +15,7 @@ use Rattle.model.specs.Samples.{sampleLength}
 use Rattle.model.specs.Sides.{named}
 use Rattle.model.specs.Rotations.{facePoint, neighbourPoint}
 use Rattle.model.specs.Formulas.{gradientAt}
-use Rattle.model.specs.Points.{Star, subdivisions}
+use Rattle.model.specs.Star.{Star, subdivisions}
 use Rattle.grid.specs.Shape.{Shaped}
 use Rattle.grid.specs.SideLaws.{NeighbourThere}
 

@@ -8,7 +8,8 @@ ghost use lib.ListN.{length, getD};
 ghost use Rattle.model.specs.Samples.{sampleLength};
 ghost use Rattle.model.specs.Formulas.{gradientAt};
 ghost use Rattle.model.specs.Sides.{neighbourOf};
-ghost use Rattle.model.specs.Points.{star, regularPoint, fineSample, fineGridPoint, transitionPoint};
+ghost use Rattle.model.specs.Star.{starFrom};
+ghost use Rattle.model.specs.Points.{regularPoint, fineSample, fineGridPoint, transitionPoint};
 ghost use Rattle.grid.specs.Places.{Within};
 ghost use Rattle.grid.specs.SideLaws.{NeighbourThere};
 ghost use Rattle.grid.specs.RotationLaws.{OnFineFace};
@@ -91,7 +92,7 @@ pub fn gradient(n: usize, samples: &[f32], p: Xyz) -> Vector
 pub fn regular_point(block: Block, mask: u8, centre: &[f32], p: Xyz) -> GridPoint
     requires { ⌜ (block .subdivisions ≤ 16) × (length (now centre) ≡ sampleLength (block .subdivisions)) ⌝ }
     requires { ⌜ Within (block .subdivisions) p ⌝ }
-    ensures { λ r. ⌜ ((t : Float) (ns : List Float) → r ≡ regularPoint (star block mask t (now (centre .entry)) ns) p) ⌝ }
+    ensures { λ r. ⌜ ((t : Float) (ns : List Float) → r ≡ regularPoint (starFrom block mask t (now (centre .entry)) ns) p) ⌝ }
 {
     let n = block.subdivisions;
     let position = regular_position(block, mask, p);
@@ -108,7 +109,7 @@ pub fn regular_point(block: Block, mask: u8, centre: &[f32], p: Xyz) -> GridPoin
 fn fine_sample(block: Block, mask: u8, neighbours: &[f32], side: usize, u2: usize, v2: usize) -> f32
     requires { ⌜ NeighbourThere (block .subdivisions) mask (now neighbours) side ⌝ }
     requires { ⌜ OnFineFace (block .subdivisions) side u2 v2 ⌝ }
-    ensures { λ r. ⌜ ((t : Float) (centre : List Float) → r ≡ fineSample (star block mask t centre (now (neighbours .entry))) side u2 v2) ⌝ }
+    ensures { λ r. ⌜ ((t : Float) (centre : List Float) → r ≡ fineSample (starFrom block mask t centre (now (neighbours .entry))) side u2 v2) ⌝ }
 {
     let n = block.subdivisions;
     let p = neighbour_point(n, side, u2, v2);
@@ -146,7 +147,7 @@ pub fn fine_grid_point(
 ) -> GridPoint
     requires { ⌜ Bordered (block .subdivisions) mask (now centre) (now neighbours) side ⌝ }
     requires { ⌜ OnFineFace (block .subdivisions) side u2 v2 ⌝ }
-    ensures { λ r. ⌜ ((t : Float) → r ≡ fineGridPoint (star block mask t (now (centre .entry)) (now (neighbours .entry))) side u2 v2) ⌝ }
+    ensures { λ r. ⌜ ((t : Float) → r ≡ fineGridPoint (starFrom block mask t (now (centre .entry)) (now (neighbours .entry))) side u2 v2) ⌝ }
 {
     let n = block.subdivisions;
     let position = fine_position(block, fine_point(n, side, u2, v2));
@@ -173,7 +174,7 @@ pub fn transition_point(
     requires { ⌜ Bordered (block .subdivisions) mask (now centre) (now neighbours) side ⌝ }
     requires { ⌜ (u < block .subdivisions) × (v < block .subdivisions) ⌝ }
     requires { ⌜ InCell p ⌝ }
-    ensures { λ r. ⌜ ((t : Float) → r ≡ transitionPoint (star block mask t (now (centre .entry)) (now (neighbours .entry))) side u v p) ⌝ }
+    ensures { λ r. ⌜ ((t : Float) → r ≡ transitionPoint (starFrom block mask t (now (centre .entry)) (now (neighbours .entry))) side u v p) ⌝ }
 {
     match p {
         CellPoint::Fine(offset) => {

@@ -9,9 +9,9 @@ use lib.Ieee.{Float, nan}
 use lib.ListN.{length, getD, take, drop, length-append, length-drop, take-append-drop}
 use lib.Seq.{drop-cons, take-add, take-all, drop-drop, getD-append-add, sets}
 use Rattle.model.specs.declared.Header.{Header}
-use Rattle.model.specs.Steps.{listed, each, laid}
+use Rattle.laws.specs.Steps.{listed, each, laid}
 use Rattle.model.specs.Record.{wordAt, wordBytes, floatAt, floatBytes, headerOf, countOf, samplesOf, recordOf}
-use Rattle.record.specs.Lists.{each-append, length-each, listed-is, sets-append, sets-first}
+use Rattle.laws.specs.Lists.{each-append, length-each, listed-is, sets-append, sets-first}
 use Rattle.record.specs.Words.{Bytes, Fit, word-after, word-back, floats-back, floats-after, usable-number}
 use Rattle.record.specs.Accepted.{Accepted, length-samples, measured}
 

@@ -1,4 +1,3 @@
-pub mod Lists
 pub mod Patterns
 pub mod Words
 pub mod Accepted

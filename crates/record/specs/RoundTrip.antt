@@ -17,13 +17,12 @@ use Rattle.model.specs.declared.Verdict.{Verdict}
 use Rattle.model.specs.declared.Verdict.the-variants.{Passed, Refused}
 use Rattle.model.specs.declared.RecordRead.the-variants as RecordRead
 use Rattle.model.specs.declared.RecordWritten.the-variants as RecordWritten
-use Rattle.model.specs.Steps.{laid}
+use Rattle.laws.specs.Steps.{laid}
 use Rattle.model.specs.Samples.{sampleLength}
 use Rattle.model.specs.Sides.{named, namedBelow, neighbourLength, neighboursLength}
 use Rattle.model.specs.Refusals.{unless, orElse}
-use Rattle.model.specs.Points.{star}
-use Rattle.model.specs.Judging.{judgeMeasures, judgeMissing, sideThere, usable, judgeSamples, judgeBuffer}
-use Rattle.model.specs.Extraction.{judgeStar}
+use Rattle.model.specs.Star.{starFrom}
+use Rattle.model.specs.Judging.{judgeMeasures, judgeMissing, sideThere, usable, judgeSamples, judgeBuffer, judgeStar}
 use Rattle.model.specs.Record.{sampleCount, countOf, headerOf, samplesOf, recordOf, judgeRecord, readAnswer, readRecord, writeAnswer, writeRecord}
 use Rattle.grid.specs.Shape.{Shaped}
 use Rattle.grid.specs.SideLaws.{named-below}
@@ -57,7 +56,7 @@ module _ (bytes : List ℕ) (a : Accepted bytes) where
   mask = getD bytes 6 0
 
   star-passes : (centre neighbours : List Float) → centre ++ neighbours ≡ samplesOf bytes → length centre ≡ sampleLength n
-      → judgeStar (star (headerOf bytes .block) mask (headerOf bytes .threshold) centre neighbours) ≡ Passed
+      → judgeStar (starFrom (headerOf bytes .block) mask (headerOf bytes .threshold) centre neighbours) ≡ Passed
   unfolding judgeStar headerOf
   star-passes centre neighbours whole centre-is =
       let neighbours-are : length neighbours ≡ neighboursLength n mask =
@@ -138,7 +137,7 @@ read-write bytes samples out h small e room =
 -- ---- writing then reading
 
 module _ (h : Header) (centre neighbours : List Float) (fit-measures : Fit (measuresOf h)) (fit : Fit (centre ++ neighbours))
-    (passed : judgeStar (star (h .block) (h .mask) (h .threshold) centre neighbours) ≡ Passed) (shaped : Shaped (star (h .block) (h .mask) (h .threshold) centre neighbours)) where
+    (passed : judgeStar (starFrom (h .block) (h .mask) (h .threshold) centre neighbours) ≡ Passed) (shaped : Shaped (starFrom (h .block) (h .mask) (h .threshold) centre neighbours)) where
   abbrev samples : List Float
   samples = centre ++ neighbours
 
@@ -167,7 +166,7 @@ module _ (h : Header) (centre neighbours : List Float) (fit-measures : Fit (meas
   read-back =
       let n = h .block .subdivisions in
       let long = length-record h samples in
-      let parts = star-parts (star (h .block) (h .mask) (h .threshold) centre neighbours) passed in
+      let parts = star-parts (starFrom (h .block) (h .mask) (h .threshold) centre neighbours) passed in
       let few : length samples ≤ 297297 = rw (← count-is, n-is, mask-is) (count-small n (h .mask) (shaped .few) (shaped .sides)) in
       record {
         long = omega arith;
@@ -196,7 +195,7 @@ pub write-read : (h : Header) (centre neighbours : List Float) (out : List ℕ) 
     ≡ record { answer = RecordRead.Block h; samples = laid (centre ++ neighbours) samples }
 unfolding readRecord writeRecord
 write-read h centre neighbours out samples k fit-measures fit e room =
-    let s = star (h .block) (h .mask) (h .threshold) centre neighbours in
+    let s = starFrom (h .block) (h .mask) (h .threshold) centre neighbours in
     let written = wrote h (centre ++ neighbours) out k (orElse (judgeStar s) (judgeBuffer (27 + 4 * length (centre ++ neighbours)) (length out))) e in
     let passed = both-passed (judgeStar s) _ (written .0) .0 in
     let shaped = star-shaped s passed in

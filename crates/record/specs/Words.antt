@@ -13,11 +13,11 @@ use lib.Ieee.{Float, nan, inf, fin, binary32, isNan, fits}
 use lib.Ieee.Bits.{ofBits-toBits, toBits-ofBits, toBits-lt}
 use lib.ListN.{length, getD, take, drop, length-append}
 use lib.Seq.{sets, take-suc, drop-cons, take-add, drop-drop, length-take-le, getD-append-add, getD-append-seam}
-use Rattle.model.specs.Steps.{listed, each}
+use Rattle.laws.specs.Steps.{listed, each}
 use Rattle.model.specs.Formulas.{whole, _⊘_}
 use Rattle.model.specs.Judging.{limit, usable, usableSize}
 use Rattle.model.specs.Record.{wordAt, wordBytes, floatAt, floatBytes}
-use Rattle.record.specs.Lists.{each-append, length-each, sets-append}
+use Rattle.laws.specs.Lists.{each-append, length-each, sets-append}
 
 -- each is below 256, as those of a slice of u8 are; past the end it is 0
 abbrev pub Bytes : List ℕ → Type 0

@@ -10,9 +10,8 @@ use lib.ListN.{length, getD, length-append, List·getD-append}
 use lib.Seq.{getD-append-add}
 use Rattle.model.specs.declared.Header.{Header}
 use Rattle.model.specs.declared.Verdict.the-variants.{Passed}
-use Rattle.model.specs.Points.{Star, star, subdivisions}
-use Rattle.model.specs.Judging.{judgeSubdivisions, judgeMask, judgeMeasures, judgeCentre, judgeMissing, judgeTooLong, judgeSamples}
-use Rattle.model.specs.Extraction.{judgeStar}
+use Rattle.model.specs.Star.{Star, starFrom, subdivisions}
+use Rattle.model.specs.Judging.{judgeSubdivisions, judgeMask, judgeMeasures, judgeCentre, judgeMissing, judgeTooLong, judgeSamples, judgeStar}
 use Rattle.judge.specs.First.{both-passed}
 use Rattle.judge.specs.Passing.{star-shaped}
 use Rattle.record.specs.Words.{Numbers, usable-number}
@@ -46,10 +45,10 @@ measures-are h e (suc (suc (suc zero))) l = measure-number (h .block) (h .thresh
 measures-are h e (suc (suc (suc (suc zero)))) l = measure-number (h .block) (h .threshold) 4 e
 measures-are h e (suc (suc (suc (suc (suc k))))) l = absurd (omega arith)
 
-pub writable : (h : Header) (centre neighbours : List Float) → judgeStar (star (h .block) (h .mask) (h .threshold) centre neighbours) ≡ Passed
+pub writable : (h : Header) (centre neighbours : List Float) → judgeStar (starFrom (h .block) (h .mask) (h .threshold) centre neighbours) ≡ Passed
     → Writable h centre neighbours
 writable h centre neighbours passed =
-    let s = star (h .block) (h .mask) (h .threshold) centre neighbours in
+    let s = starFrom (h .block) (h .mask) (h .threshold) centre neighbours in
     let shaped = star-shaped s passed in
     let parts = star-parts s passed in
     let number : (k : ℕ) → k < length centre + length neighbours → T (not (isNan (getD (centre ++ neighbours) k nan))) =

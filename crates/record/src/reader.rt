@@ -2,7 +2,7 @@
 ghost use mathlib.Core.Path.{_≡_};
 ghost use Prim.Native.Nat.{_≤_};
 ghost use lib.ListN.{length};
-ghost use Rattle.model.specs.Steps.{laid};
+ghost use Rattle.laws.specs.Steps.{laid};
 ghost use Rattle.model.specs.Refusals.{orElse};
 ghost use Rattle.model.specs.Judging.{judgeBuffer};
 ghost use Rattle.model.specs.Record.{headerOf, countOf, samplesOf, judgeRecord, readRecord};

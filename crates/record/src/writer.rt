@@ -4,11 +4,10 @@ ghost use mathlib.Core.List.{_++_};
 ghost use Prim.Native.Nat.{_+_, _*_, _≤_, _<_};
 ghost use lib.ListN.{length};
 ghost use lib.Seq.{sets};
-ghost use Rattle.model.specs.Steps.{each};
+ghost use Rattle.laws.specs.Steps.{each};
 ghost use Rattle.model.specs.Refusals.{orElse};
-ghost use Rattle.model.specs.Points.{star};
-ghost use Rattle.model.specs.Judging.{judgeBuffer};
-ghost use Rattle.model.specs.Extraction.{judgeStar};
+ghost use Rattle.model.specs.Star.{starFrom};
+ghost use Rattle.model.specs.Judging.{judgeBuffer, judgeStar};
 ghost use Rattle.model.specs.Record.{wordBytes, floatBytes, writeRecord};
 ghost use Rattle.record.specs.Words.{Numbers};
 ghost use Rattle.record.specs.Bytes.{measuresOf, startOf};
@@ -64,7 +63,7 @@ fn put_header(bytes: &mut [u8], header: Header, count: usize)
 
 // 1 to 7, and 14.
 fn judge_writing(header: Header, centre: &[f32], neighbours: &[f32], held: usize) -> Verdict
-    ensures { λ r. ⌜ r ≡ orElse (judgeStar (star (header .block) (header .mask) (header .threshold) (now (centre .entry)) (now (neighbours .entry))))
+    ensures { λ r. ⌜ r ≡ orElse (judgeStar (starFrom (header .block) (header .mask) (header .threshold) (now (centre .entry)) (now (neighbours .entry))))
         (judgeBuffer (27 + 4 * length (now (centre .entry) ++ now (neighbours .entry))) held) ⌝ }
 {
     let whole = judge_star(

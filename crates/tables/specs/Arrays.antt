@@ -3,7 +3,7 @@ use mathlib.Core.Path.{_≡_, _∙_, ap}
 use mathlib.Core.List.{List}
 use Prim.Native.Nat.{ℕ, _*_, _%_, _<_}
 use lib.ListN.{length, getD, take, drop}
-use Rattle.tables.specs.Each.{both}
+use Rattle.laws.specs.Tests.{both}
 use Rattle.tables.specs.Flat.{joined, row-of, row-wide}
 use Rattle.tables.specs.Cases.{regularClass, regularCodes, regularCell, transitionClass, transitionCodes, transitionCell}
 use Rattle.tables.specs.RegularRows as regular

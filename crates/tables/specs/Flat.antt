@@ -8,7 +8,7 @@ use native.Mathlib.Omega.{arith}
 use lib.Dec.{T, eqb, eqb→eq}
 use lib.ListN.{length, getD, take, drop}
 use lib.Seq.{take-at, drop-append-add}
-use Rattle.tables.specs.Each.{both, both-left, both-right}
+use Rattle.laws.specs.Tests.{both, both-left, both-right}
 
 abbrev pub joined : List (List ℕ) → List ℕ
 joined [] = []

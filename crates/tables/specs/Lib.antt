@@ -19,6 +19,4 @@ pub mod RegularRows
 pub mod TransitionRows
 pub mod Arrays
 -- what the proofs share
-pub mod Each
-pub mod Counting
 pub mod Flat

@@ -10,8 +10,8 @@ use native.Mathlib.Omega.{arith}
 use lib.Dec.{T, eqb, eqb→eq, T-not, not-T}
 use lib.ListN.{getD}
 use Rattle.tables.specs.Codes.{pointA, pointB, edgeOf}
-use Rattle.tables.specs.Each.{eq→eqb, both, both-left, both-right, below, all}
-use Rattle.tables.specs.Counting.{one, one-true, one-of, one-small, howMany, some, which, two, has, every, every-item}
+use Rattle.laws.specs.Tests.{eq→eqb, both, both-left, both-right, below, all}
+use Rattle.laws.specs.Counting.{one, one-true, one-of, one-small, howMany, some, which, two, has, every, every-item}
 
 -- the two ends of an edge lie on different sides of the surface
 abbrev pub crosses : (ℕ → ℕ) → ℕ → Bool

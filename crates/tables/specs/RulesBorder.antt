@@ -8,8 +8,8 @@ use Prim.Native.Nat.{ℕ, _+_, _*_, _≤_, _<_}
 use lib.Dec.{T, eqb, leb, ltb, eqb→eq, leb→le, ltb→lt}
 use lib.ListN.{getD}
 use Rattle.tables.specs.Codes.{pointA, pointB, stepX, stepY, isNew, reuseIndex}
-use Rattle.tables.specs.Each.{eq→eqb, both, both-left, both-right, both-of, either, then, then-holds, below, all₂}
-use Rattle.tables.specs.Counting.{one, has, every, every-item}
+use Rattle.laws.specs.Tests.{eq→eqb, both, both-left, both-right, both-of, either, then, then-holds, below, all₂}
+use Rattle.laws.specs.Counting.{one, has, every, every-item}
 use Rattle.tables.specs.Listed.{crosses, timesListed}
 use Rattle.tables.specs.Points.{pointU, pointV, pointFace, transitionInside}
 use Rattle.tables.specs.Cases.{transitionCode, transitionVertices}

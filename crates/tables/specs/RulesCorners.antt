@@ -4,7 +4,7 @@ use mathlib.Core.Bool.{Bool}
 use mathlib.Core.List.{List}
 use Prim.Native.Nat.{ℕ, _*_, _%_, _<_, _≤_}
 use lib.Dec.{T, ltb, leb, ltb→lt, leb→le}
-use Rattle.tables.specs.Each.{both, both-left, both-right, below, all}
+use Rattle.laws.specs.Tests.{both, both-left, both-right, below, all}
 use Rattle.tables.specs.RegularRows as regular
 use Rattle.tables.specs.TransitionRows as transition
 use Rattle.tables.specs.Cases.{verticesOf, trianglesOf, cornerOf, regularClass, regularCell, regularVertices, regularTriangles, regularCorner, transitionClass, transitionCell, transitionVertices, transitionTriangles, transitionCorner}

@@ -6,9 +6,9 @@ use mathlib.Core.Logic.{_↔_}
 use mathlib.Core.Bool.{Bool}
 use Prim.Native.Nat.{ℕ, _^_, _<_}
 use lib.Dec.{T, eqb, leb, ltb, eqb→eq, leb→le, ltb→lt}
+use Rattle.laws.specs.Tests.{both, both-left, both-right, below, all}
+use Rattle.laws.specs.Counting.{howMany, which, has, every, every-item}
 use Rattle.tables.specs.Codes.{pointA, edgeOf}
-use Rattle.tables.specs.Each.{both, both-left, both-right, below, all}
-use Rattle.tables.specs.Counting.{howMany, which, has, every, every-item}
 use Rattle.tables.specs.Corners.{bit, regularInside, regularUsed, regularEdges}
 use Rattle.tables.specs.Listed.{Listing, rowTest, row-used, row-exactly}
 use Rattle.tables.specs.RegularRows as regular

@@ -7,8 +7,8 @@ use native.Mathlib.Omega.{arith}
 use lib.Dec.{T, eqb, eqb→eq}
 use lib.ListN.{getD}
 use Rattle.tables.specs.Corners.{bit, regularEdges}
-use Rattle.tables.specs.Each.{both, both-left, both-right, either, either-left, either-none, then, then-holds, below, all, all₂}
-use Rattle.tables.specs.Counting.{has, every, every-item, matches, matched, withEach, eachTwo, two-items, total}
+use Rattle.laws.specs.Tests.{both, both-left, both-right, either, either-left, either-none, then, then-holds, below, all, all₂}
+use Rattle.laws.specs.Counting.{has, every, every-item, matches, matched, withEach, eachTwo, two-items, weighed}
 use Rattle.tables.specs.RegularRows as regular
 use Rattle.tables.specs.Cases.{regularClass, regularCodes, regularCell}
 use Rattle.tables.specs.Sides.{side, back, sidesOf, rowSides, regularSides, runs, farEnds, nearEdge, commonFace, nearSide, onlyNear, farEdge, farSide, nearCorner, nearBits, farBits, spread, shown, nears, fars, inflow, outflow}
@@ -19,7 +19,7 @@ flows-match : T (below (λ case. matches (inflow case) (outflow case)) 256)
 unfolding regular.classes regular.cellRows regular.vertexRows regularClass regularCodes regularCell side back sidesOf rowSides regularSides bit regularEdges farEnds nearEdge nearSide onlyNear farSide nearCorner nearBits farBits spread shown nears fars inflow outflow both
 flows-match = tt
 
-pub balanced : (weight : ℕ → ℕ) (case : ℕ) → case < 256 → total weight (inflow case) ≡ total weight (outflow case)
+pub balanced : (weight : ℕ → ℕ) (case : ℕ) → case < 256 → weighed weight (inflow case) ≡ weighed weight (outflow case)
 balanced weight case h =
     matched weight (inflow case) (outflow case) (all (λ case. matches (inflow case) (outflow case)) 256 flows-match case h)
 

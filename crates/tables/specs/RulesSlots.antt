@@ -9,8 +9,8 @@ use lib.Dec.{T, eqb, leb, ltb, eqb→eq, leb→le, le→leb, ltb→lt}
 use lib.ListN.{getD}
 use Rattle.tables.specs.Codes.{pointA, pointB, stepX, stepY, stepZ, isNew, reuseIndex}
 use Rattle.tables.specs.Corners.{cornerX, cornerY, cornerZ, axisOf, regularUsed}
-use Rattle.tables.specs.Each.{both, both-left, both-right, then, then-holds, below, all}
-use Rattle.tables.specs.Counting.{one, howMany, has, every, every-item}
+use Rattle.laws.specs.Tests.{both, both-left, both-right, then, then-holds, below, all}
+use Rattle.laws.specs.Counting.{one, howMany, has, every, every-item}
 use Rattle.tables.specs.RegularRows as regular
 use Rattle.tables.specs.Cases.{regularClass, regularCell, regularCodes, regularCode, regularVertices}
 use Rattle.tables.specs.RulesEdges.{regular-lists}

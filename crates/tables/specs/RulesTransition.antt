@@ -6,8 +6,8 @@ use mathlib.Core.List.{List, [], _∷_}
 use Prim.Native.Nat.{ℕ}
 use lib.Dec.{T}
 use Rattle.tables.specs.Codes.{edgeOf}
-use Rattle.tables.specs.Each.{both, below, all}
-use Rattle.tables.specs.Counting.{has, every, every-item}
+use Rattle.laws.specs.Tests.{both, below, all}
+use Rattle.laws.specs.Counting.{has, every, every-item}
 use Rattle.tables.specs.Listed.{Listing, rowTest, row-used, row-exactly}
 use Rattle.tables.specs.Points.{fineOf, transitionInside}
 use Rattle.tables.specs.TransitionRows as transition

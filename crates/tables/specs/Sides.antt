@@ -8,8 +8,8 @@ use lib.Dec.{eqb}
 use lib.ListN.{getD}
 use Rattle.tables.specs.Codes.{pointA, pointB, edgeOf}
 use Rattle.tables.specs.Corners.{bit, regularEdges}
-use Rattle.tables.specs.Each.{both, either}
-use Rattle.tables.specs.Counting.{pick, one, gather, has, total}
+use Rattle.laws.specs.Tests.{both, either}
+use Rattle.laws.specs.Counting.{pick, one, gather, has, weighed}
 use Rattle.tables.specs.Cases.{trianglesOf, cornerOf, regularCodes, regularCell, regularCode, regularTriangles, regularCorner}
 
 -- a directed side: from the edge p to the edge q
@@ -38,7 +38,7 @@ regular-sides case = refl
 
 -- how many sides of a list run from the edge p to the edge q
 unfoldable pub runs : List ℕ → ℕ → ℕ → ℕ
-runs sides p q = total (λ s. one (eqb s (side p q))) sides
+runs sides p q = weighed (λ s. one (eqb s (side p q))) sides
 
 -- ---- faces
 

@@ -4,7 +4,7 @@ ghost use mathlib.Core.Path.{_≡_};
 ghost use Prim.Native.Nat.{_+_, _*_, _^_, _≤_};
 ghost use lib.ListN.{getD};
 ghost use lib.Ieee.{nan};
-ghost use Rattle.model.specs.Steps.{total};
+ghost use Rattle.laws.specs.Steps.{total};
 ghost use Rattle.model.specs.Formulas.{insideBit};
 ghost use Rattle.model.specs.Samples.{readingAt};
 ghost use Rattle.model.specs.Refusals.{numbersOf};

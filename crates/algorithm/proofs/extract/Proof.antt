@@ -3,8 +3,8 @@ use borrow.Author.Needs.{needs}
 use mathlib.Core.Path.{_≡_}
 use lib.ListN.{length}
 use Rattle.model.specs.declared.Verdict.the-variants.{Passed}
-use Rattle.model.specs.Points.{star}
-use Rattle.algorithm.specs.Posts.{judged}
+use Rattle.model.specs.Star.{starFrom}
+use Rattle.algorithm.specs.Passes.{judged}
 use Rattle.algorithm.proofs.Answers.{told, shaped, store-held, refused, passed}
 use Rattle.algorithm.proofs.extract.Statement.{statement}
 use Rattle.algorithm.proofs.extract.Tie as tie
@@ -18,7 +18,7 @@ enum-known-verdict c = search needs
 returns : tie.Need-returns
 returns c =
     let a = c .before .before .before .before .before .before .before .before .before .args in
-    let s = star (a .block) (a .mask) (a .threshold) (a .centre .now) (a .neighbours .now) in
+    let s = starFrom (a .block) (a .mask) (a .threshold) (a .centre .now) (a .neighbours .now) in
     told (refused s (a .store .now) (a .vertices .now) (a .triangles .now) _ (cc))
 
 enum-told : tie.Need-enum-told
@@ -26,7 +26,7 @@ enum-told c = search needs
 
 judged-passed : (c : tie.After-enum-told) →
     let a = c .before .before .before .before .before .before .before .before .args in
-    let s = star (a .block) (a .mask) (a .threshold) (a .centre .now) (a .neighbours .now) in
+    let s = starFrom (a .block) (a .mask) (a .threshold) (a .centre .now) (a .neighbours .now) in
     judged s (length (a .store .now)) ≡ Passed
 judged-passed c = cc
 
@@ -85,7 +85,7 @@ same-length-3 c = search needs
 returns-2 : tie.Need-returns-2
 returns-2 c =
     let a = c .before .before .before .before .before .before .before .before .before .before .before .before .before .before .before .before .before .before .before .before .before .before .before .before .before .before .before .before .before .before .before .before .before .before .before .before .args in
-    let s = star (a .block) (a .mask) (a .threshold) (a .centre .now) (a .neighbours .now) in
+    let s = starFrom (a .block) (a .mask) (a .threshold) (a .centre .now) (a .neighbours .now) in
     rw (passed s (a .store .now) (a .vertices .now) (a .triangles .now) (judged-passed (c .before .before .before .before .before .before .before .before .before .before .before .before .before .before .before .before .before .before .before .before .before .before .before .before .before .before .before .before))) (told (c .before .before .before .before .before .before .extract-mesh .ensures))
 
 pub extract-spec : {M : Type 1} → statement M

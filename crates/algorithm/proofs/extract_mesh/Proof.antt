@@ -7,8 +7,8 @@ use lib.ListN.{length, take}
 use lib.Seq.{length-take-le}
 use Rattle.model.specs.declared.Verdict.the-variants.{Passed}
 use Rattle.model.specs.declared.Extraction.the-variants.{Refused}
-use Rattle.model.specs.Points.{star}
-use Rattle.algorithm.specs.Posts.{counted, Exact, Leaves}
+use Rattle.model.specs.Star.{starFrom}
+use Rattle.algorithm.specs.Passes.{counted, Exact, Leaves}
 use Rattle.algorithm.proofs.Holding.{exact-still}
 use Rattle.algorithm.proofs.Answers.{no-room, has-room, parts, done}
 use Rattle.algorithm.proofs.extract_mesh.Statement.{statement}
@@ -18,7 +18,7 @@ count-mesh-requires : tie.Need-count-mesh-requires
 count-mesh-requires c κs =
     let b = c .before .before .before .before .before in
     let a = b .args in
-    let s = star (a .block) (a .mask) (a .threshold) (a .centre .now) (a .neighbours .now) in
+    let s = starFrom (a .block) (a .mask) (a .threshold) (a .centre .now) (a .neighbours .now) in
     let p = b .pre .1 .1 in (
       b .pre .0,
       (
@@ -39,7 +39,7 @@ enum-known-room c = search needs
 no-room-left : (c : tie.After-known-told) →
     let b = c .before .before .before .before .before .before .before .before .before .before in
     let a = b .args in
-    let s = star (a .block) (a .mask) (a .threshold) (a .centre .now) (a .neighbours .now) in
+    let s = starFrom (a .block) (a .mask) (a .threshold) (a .centre .now) (a .neighbours .now) in
     Leaves (counted s (a .store .now) (a .vertices .now) (a .triangles .now)) (Refused (c .before .room .given .0 .0))
     (a .store .now) (a .vertices .now) (a .triangles .now)
 no-room-left c =
@@ -47,7 +47,7 @@ no-room-left c =
     let a = b .args in
     let k = c .before .before .before .before .count-mesh in
     let r = c .before .before .before .judge-room in
-    let s = star (a .block) (a .mask) (a .threshold) (a .centre .now) (a .neighbours .now) in
+    let s = starFrom (a .block) (a .mask) (a .threshold) (a .centre .now) (a .neighbours .now) in
     no-room s (a .store .now) (a .vertices .now) (a .triangles .now) _ (k .result) (k .ensures s (b .pre .1 .1 .0 .0) (b .pre .1 .1 .0 .1) refl) (r .result) (r .ensures) _ (cc)
 
 returns : tie.Need-returns
@@ -63,14 +63,14 @@ mul-floats : tie.Need-mul-floats
 mul-floats c =
     let b = c .before .before .before .before .before .before .before .before .before .before .before in
     let a = b .args in
-    let s = star (a .block) (a .mask) (a .threshold) (a .centre .now) (a .neighbours .now) in
+    let s = starFrom (a .block) (a .mask) (a .threshold) (a .centre .now) (a .neighbours .now) in
     omega (arith, c .before .before .before .before .before .count-mesh .ensures s (b .pre .1 .1 .0 .0) (b .pre .1 .1 .0 .1) refl .few-vertices)
 
 mul-indices : tie.Need-mul-indices
 mul-indices c =
     let b = c .before .before .before .before .before .before .before .before .before .before .before .before in
     let a = b .args in
-    let s = star (a .block) (a .mask) (a .threshold) (a .centre .now) (a .neighbours .now) in
+    let s = starFrom (a .block) (a .mask) (a .threshold) (a .centre .now) (a .neighbours .now) in
     omega (arith, c .before .before .before .before .before .before .count-mesh .ensures s (b .pre .1 .1 .0 .0) (b .pre .1 .1 .0 .1) refl .few-triangles)
 
 passed : (c : tie.After-enum-told) → c .before .before .judge-room .result ≡ Passed
@@ -86,7 +86,7 @@ room c =
     let a = b .args in
     let k = c .before .before .before .count-mesh in
     let r = c .before .before .judge-room in
-    let s = star (a .block) (a .mask) (a .threshold) (a .centre .now) (a .neighbours .now) in
+    let s = starFrom (a .block) (a .mask) (a .threshold) (a .centre .now) (a .neighbours .now) in
     has-room s (a .store .now) (a .vertices .now) (a .triangles .now) _ (k .result) (k .ensures s (b .pre .1 .1 .0 .0) (b .pre .1 .1 .0 .1) refl) (r .result) (r .ensures) (passed c)
 
 exact : (c : tie.After-store-length) →
@@ -94,7 +94,7 @@ exact : (c : tie.After-store-length) →
     let a = b .args in
     let k = c .before .before .before .before .count-mesh .result in
     let places = c .store-length .result in
-    let s = star (a .block) (a .mask) (a .threshold) (a .centre .now) (a .neighbours .now) in
+    let s = starFrom (a .block) (a .mask) (a .threshold) (a .centre .now) (a .neighbours .now) in
     Exact s (take (6 * k .vertices) (a .vertices .now)) (take (3 * k .triangles) (a .triangles .now)) (take places (a .store .now))
 exact c =
     let b = c .before .before .before .before .before .before .before .before .before .before in
@@ -102,7 +102,7 @@ exact c =
     let k = c .before .before .before .before .count-mesh in
     let r = c .before .before .before .judge-room in
     let places = c .store-length in
-    let s = star (a .block) (a .mask) (a .threshold) (a .centre .now) (a .neighbours .now) in
+    let s = starFrom (a .block) (a .mask) (a .threshold) (a .centre .now) (a .neighbours .now) in
     parts s (a .store .now) (a .vertices .now) (a .triangles .now) _ (k .result) (k .ensures s (b .pre .1 .1 .0 .0) (b .pre .1 .1 .0 .1) refl) (r .result) (r .ensures) (passed (c .before))
     (places .result) (places .ensures) (omega arith) (b .pre .1 .1 .1 .1)
 
@@ -146,7 +146,7 @@ returns-2 c =
     let r = c .before .before .before .before .before .before .before .before .before .before .before .before .before .before .before .judge-room in
     let places = c .before .before .before .before .before .before .before .before .before .before .before .before .store-length in
     let w = c .before .before .before .before .before .before .write-mesh in
-    let s = star (a .block) (a .mask) (a .threshold) (a .centre .now) (a .neighbours .now) in
+    let s = starFrom (a .block) (a .mask) (a .threshold) (a .centre .now) (a .neighbours .now) in
     done s (a .store .now) (a .vertices .now) (a .triangles .now) _ (k .result) (k .ensures s (b .pre .1 .1 .0 .0) (b .pre .1 .1 .0 .1) refl) (r .result) (r .ensures) (passed (c .before .before .before .before .before .before .before .before .before .before .before .before .before))
     (places .result) (places .ensures) _ _ _
     (exact-still

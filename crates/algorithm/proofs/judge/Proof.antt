@@ -2,9 +2,8 @@
 use borrow.Author.Needs.{needs}
 use mathlib.Core.Path.{_≡_}
 use Rattle.model.specs.declared.Verdict.the-variants.{Passed, Refused}
-use Rattle.model.specs.Judging.{judgeFaces}
-use Rattle.model.specs.Points.{star}
-use Rattle.model.specs.Extraction.{judgeStar}
+use Rattle.model.specs.Judging.{judgeFaces, judgeStar}
+use Rattle.model.specs.Star.{starFrom}
 use Rattle.judge.specs.Passing.{star-shaped}
 use Rattle.algorithm.proofs.judge.Statement.{statement}
 use Rattle.algorithm.proofs.judge.Tie as tie
@@ -18,7 +17,7 @@ enum-known-shape c = search needs
 returns : tie.Need-returns
 returns c =
     let a = c .before .before .before .before .before .before .args in
-    let s = star (a .block) (a .mask) (a .threshold) (a .centre .now) (a .neighbours .now) in
+    let s = starFrom (a .block) (a .mask) (a .threshold) (a .centre .now) (a .neighbours .now) in
     let star-is : judgeStar s ≡ Refused (c .before .shape .given .0 .0) = cc in
     rw star-is
 
@@ -27,7 +26,7 @@ enum-told c = search needs
 
 star-passed : (c : tie.After-enum-told) →
     let a = c .before .before .before .before .before .args in
-    judgeStar (star (a .block) (a .mask) (a .threshold) (a .centre .now) (a .neighbours .now)) ≡ Passed
+    judgeStar (starFrom (a .block) (a .mask) (a .threshold) (a .centre .now) (a .neighbours .now)) ≡ Passed
 star-passed c = cc
 
 judge-faces-requires : tie.Need-judge-faces-requires
@@ -39,7 +38,7 @@ enum-known-faces c = search needs
 returns-2 : tie.Need-returns-2
 returns-2 c =
     let a = c .before .before .before .before .before .before .before .before .before .args in
-    let s = star (a .block) (a .mask) (a .threshold) (a .centre .now) (a .neighbours .now) in
+    let s = starFrom (a .block) (a .mask) (a .threshold) (a .centre .now) (a .neighbours .now) in
     let faces-are : judgeFaces s ≡ Refused (c .before .faces .given .0 .0) = cc in
     rw (star-passed (c .before .before .before .before), faces-are)
 
@@ -52,7 +51,7 @@ judge-store-requires c κs = star-shaped _ (star-passed (c .before .before .befo
 returns-3 : tie.Need-returns-3
 returns-3 c =
     let a = c .before .before .before .before .before .before .before .before .before .args in
-    let s = star (a .block) (a .mask) (a .threshold) (a .centre .now) (a .neighbours .now) in
+    let s = starFrom (a .block) (a .mask) (a .threshold) (a .centre .now) (a .neighbours .now) in
     let faces-are : judgeFaces s ≡ Passed = cc in
     rw (star-passed (c .before .before .before .before), faces-are) (c .judge-store .ensures)
 

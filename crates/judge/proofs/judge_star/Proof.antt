@@ -3,7 +3,7 @@ use borrow.Author.Needs.{needs}
 use mathlib.Core.Path.{_≡_, sym, _∙_}
 use Rattle.model.specs.declared.Verdict.the-variants.{Passed}
 use Rattle.model.specs.Refusals.{orElse}
-use Rattle.model.specs.Points.{Star, star}
+use Rattle.model.specs.Star.{Star, starFrom}
 use Rattle.judge.specs.Parts.{judgeKind}
 use Rattle.judge.specs.Passing.{judgeShape, kind-refused, shape-refused, samples-left, kind-passed}
 use Rattle.judge.proofs.judge_star.Statement.{statement}
@@ -25,7 +25,7 @@ abbrev start : tie.After-or-else → tie.Start
 start c = c .before .before .before .before .before
 
 abbrev star-of : tie.Start → Star
-star-of c = star (c .args .block) (c .args .mask) (c .args .threshold) (c .args .centre .now) (c .args .neighbours .now)
+star-of c = starFrom (c .args .block) (c .args .mask) (c .args .threshold) (c .args .centre .now) (c .args .neighbours .now)
 
 kind-is : (c : tie.After-or-else) → c .or-else .result ≡ judgeKind (start c .args .block .subdivisions) (start c .args .mask)
 kind-is c = c .or-else .ensures ∙ (λ i. orElse (c .before .before .judge-subdivisions .ensures i) (c .before .judge-mask .ensures i))

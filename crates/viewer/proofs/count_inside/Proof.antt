@@ -6,7 +6,7 @@ use native.Mathlib.Numerals.{add-one}
 use native.Mathlib.Omega.{arith}
 use lib.Ieee.{nan}
 use lib.ListN.{getD}
-use Rattle.model.specs.Steps.{total}
+use Rattle.laws.specs.Steps.{total}
 use Rattle.model.specs.Formulas.{insideBit}
 use Rattle.model.specs.Record.{floatAt, countOf, headerOf, samplesOf}
 use Rattle.record.specs.Words.{usable-number}

@@ -5,11 +5,11 @@ use Prim.Native.Nat.{_≤_, _*_, _-_}
 use mathlib.Core.Path.{_≡_}
 use mathlib.Core.Bool.{true}
 use Rattle.model.specs.Sides.{named}
-use Rattle.model.specs.Steps.{iterate}
-use Rattle.model.specs.Points.{Star}
+use Rattle.laws.specs.Steps.{iterate}
+use Rattle.model.specs.Star.{Star}
 use Rattle.model.specs.Mesh.{transitionRow}
 use Rattle.cases.specs.Columns.{FineColumns}
-use Rattle.algorithm.specs.Posts.{Grows}
+use Rattle.algorithm.specs.Passes.{Grows}
 use Rattle.algorithm.proofs.Growth.{grows-none, grows-more, grows-few, plus-fits, grows-side}
 use Rattle.algorithm.proofs.counting.count_side.Statement.{statement}
 use Rattle.algorithm.proofs.counting.count_side.Tie as tie

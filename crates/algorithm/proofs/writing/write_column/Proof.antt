@@ -3,10 +3,10 @@ use borrow.Author.Needs.{needs}
 use native.Mathlib.Omega.{arith}
 use Prim.Native.Nat.{_+_, _≤_, _<_, _-_}
 use mathlib.Core.Path.{refl}
-use Rattle.model.specs.Points.{star}
+use Rattle.model.specs.Star.{starFrom}
 use Rattle.model.specs.Mesh.{regularCell}
-use Rattle.algorithm.specs.Walk.{regularTo}
-use Rattle.algorithm.specs.Posts.{Holds, SameLengths}
+use Rattle.model.specs.Mesh.{regularTo}
+use Rattle.algorithm.specs.Passes.{Holds, SameLengths}
 use Rattle.algorithm.proofs.Walk.{regular-cell, regular-next, regular-column, regular-upto}
 use Rattle.algorithm.proofs.Holding.{Ready, room-vertices, room-triangles, holds-more, same-then, fits-still}
 use Rattle.algorithm.proofs.writing.write_column.Statement.{statement}
@@ -16,7 +16,7 @@ abbrev Inv-loop : tie.InvT-loop
 Inv-loop block mask threshold centre neighbours classes cells codes columns x y counts₀ store₀ vertices₀ triangles₀ n cut z₀ counts store vertices triangles z =
     (z ≤ n)
     × (SameLengths vertices₀ vertices triangles₀ triangles store₀ store
-    × Holds (regularTo (star block mask threshold centre neighbours) x y z) counts vertices triangles store)
+    × Holds (regularTo (starFrom block mask threshold centre neighbours) x y z) counts vertices triangles store)
 
 abbrev μ-loop : tie.MeasureT-loop
 μ-loop block mask threshold centre neighbours classes cells codes columns x y counts₀ store₀ vertices₀ triangles₀ n cut z₀ counts store vertices triangles z = n - z
@@ -27,13 +27,13 @@ below c = omega (arith, c .loop-test .taken, c .before .before .before .before .
 ready : (c : tie.In-loop Inv-loop μ-loop) →
     let a = c .before .before .before .before .before .before .before .before .before .args in
     let l = c .before .loop in
-    let s = star (a .block) (a .mask) (a .threshold) (a .centre .now) (a .neighbours .now) in
+    let s = starFrom (a .block) (a .mask) (a .threshold) (a .centre .now) (a .neighbours .now) in
     Ready s (regularCell s (a .x) (a .y) (l .z)) (regularTo s (a .x) (a .y) (l .z)) (l .counts) (l .vertices) (l .triangles) (l .store)
 ready c =
     let b = c .before .before .before .before .before .before .before .before .before in
     let a = b .args in
     let p = b .pre .1 .1 .1 .0 in
-    let s = star (a .block) (a .mask) (a .threshold) (a .centre .now) (a .neighbours .now) in
+    let s = starFrom (a .block) (a .mask) (a .threshold) (a .centre .now) (a .neighbours .now) in
     record {
       holds = c .before .loop .inv .1 .1;
       upto = regular-upto s (a .x) (a .y) (c .before .loop .z) (p .0) (p .1) (below c);
@@ -51,7 +51,7 @@ loop-holds c =
     let b = c .before .before .before .before .before .before .before in
     let a = b .args in
     let cut = c .before .cut-cells in
-    let s = star (a .block) (a .mask) (a .threshold) (a .centre .now) (a .neighbours .now) in (
+    let s = starFrom (a .block) (a .mask) (a .threshold) (a .centre .now) (a .neighbours .now) in (
       c .next-set .ensures .le-end,
       (
         record { vertices-same = refl; triangles-same = refl; store-same = refl },
@@ -82,7 +82,7 @@ loop-again c =
     let b = c .before .before .before .before .before .before .before .before .before .before .before .before .before .before .before .before .before .before .before .before in
     let a = b .args in
     let cut = c .before .before .before .before .before .before .before .before .before .before .before .before .before .before .cut-cells in
-    let s = star (a .block) (a .mask) (a .threshold) (a .centre .now) (a .neighbours .now) in (
+    let s = starFrom (a .block) (a .mask) (a .threshold) (a .centre .now) (a .neighbours .now) in (
       c .next-set2 .ensures .le-end,
       (
         same-then (i .before .loop .inv .1 .0)
@@ -109,7 +109,7 @@ returns : tie.Need-returns Inv-loop μ-loop
 returns c =
     let a = c .before .before .before .before .before .before .before .before .before .args in
     let l = c .before .loop in
-    let s = star (a .block) (a .mask) (a .threshold) (a .centre .now) (a .neighbours .now) in
+    let s = starFrom (a .block) (a .mask) (a .threshold) (a .centre .now) (a .neighbours .now) in
     rw (← regular-column s (a .x) (a .y) (l .z) (omega arith)) (l .inv .1 .1)
 
 pub write-column-spec : {M : Type 1} → statement M

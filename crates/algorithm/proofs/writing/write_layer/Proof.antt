@@ -3,9 +3,9 @@ use borrow.Author.Needs.{needs}
 use native.Mathlib.Omega.{arith}
 use Prim.Native.Nat.{_≤_, _<_, _-_}
 use mathlib.Core.Path.{refl}
-use Rattle.model.specs.Points.{star}
-use Rattle.algorithm.specs.Walk.{regularTo}
-use Rattle.algorithm.specs.Posts.{Holds, SameLengths}
+use Rattle.model.specs.Star.{starFrom}
+use Rattle.model.specs.Mesh.{regularTo}
+use Rattle.algorithm.specs.Passes.{Holds, SameLengths}
 use Rattle.algorithm.proofs.Walk.{regular-layer}
 use Rattle.algorithm.proofs.Holding.{same-then, fits-still}
 use Rattle.algorithm.proofs.writing.write_layer.Statement.{statement}
@@ -15,7 +15,7 @@ abbrev Inv-loop : tie.InvT-loop
 Inv-loop block mask threshold centre neighbours classes cells codes columns x counts₀ store₀ vertices₀ triangles₀ n y₀ counts store vertices triangles y =
     (y ≤ n)
     × (SameLengths vertices₀ vertices triangles₀ triangles store₀ store
-    × Holds (regularTo (star block mask threshold centre neighbours) x y 0) counts vertices triangles store)
+    × Holds (regularTo (starFrom block mask threshold centre neighbours) x y 0) counts vertices triangles store)
 
 abbrev μ-loop : tie.MeasureT-loop
 μ-loop block mask threshold centre neighbours classes cells codes columns x counts₀ store₀ vertices₀ triangles₀ n y₀ counts store vertices triangles y = n - y
@@ -70,7 +70,7 @@ returns c =
     let b = c .before .before .before .before .before .before .before in
     let a = b .args in
     let l = c .before .loop in
-    let s = star (a .block) (a .mask) (a .threshold) (a .centre .now) (a .neighbours .now) in
+    let s = starFrom (a .block) (a .mask) (a .threshold) (a .centre .now) (a .neighbours .now) in
     rw (← regular-layer s (a .x) (l .y) (omega arith)) (l .inv .1 .1)
 
 pub write-layer-spec : {M : Type 1} → statement M

@@ -3,9 +3,9 @@ use borrow.Author.Needs.{needs}
 use native.Mathlib.Omega.{arith}
 use Prim.Native.Nat.{_≤_, _<_, _-_}
 use mathlib.Core.Path.{refl}
-use Rattle.model.specs.Points.{star}
-use Rattle.algorithm.specs.Walk.{regularTo}
-use Rattle.algorithm.specs.Posts.{Holds, SameLengths}
+use Rattle.model.specs.Star.{starFrom}
+use Rattle.model.specs.Mesh.{regularTo}
+use Rattle.algorithm.specs.Passes.{Holds, SameLengths}
 use Rattle.algorithm.proofs.Walk.{regular-start, regular-end}
 use Rattle.algorithm.proofs.Holding.{holds-none, same-then, fits-still}
 use Rattle.algorithm.proofs.writing.write_regular_cells.Statement.{statement}
@@ -15,7 +15,7 @@ abbrev Inv-loop : tie.InvT-loop
 Inv-loop block mask threshold centre neighbours classes cells codes columns store₀ vertices₀ triangles₀ n counts₀ x₀ store vertices triangles counts x =
     (x ≤ n)
     × (SameLengths vertices₀ vertices triangles₀ triangles store₀ store
-    × Holds (regularTo (star block mask threshold centre neighbours) x 0 0) counts vertices triangles store)
+    × Holds (regularTo (starFrom block mask threshold centre neighbours) x 0 0) counts vertices triangles store)
 
 abbrev μ-loop : tie.MeasureT-loop
 μ-loop block mask threshold centre neighbours classes cells codes columns store₀ vertices₀ triangles₀ n counts₀ x₀ store vertices triangles counts x = n - x
@@ -27,7 +27,7 @@ loop-holds : tie.Need-loop-holds Inv-loop μ-loop
 loop-holds c =
     let b = c .before .before .before .before .before in
     let a = b .args in
-    let s = star (a .block) (a .mask) (a .threshold) (a .centre .now) (a .neighbours .now) in
+    let s = starFrom (a .block) (a .mask) (a .threshold) (a .centre .now) (a .neighbours .now) in
     (omega arith, (record { vertices-same = refl; triangles-same = refl; store-same = refl }, rw (regular-start s, b .pre .1 .1 .1 .1) (holds-none (a .block .subdivisions) (a .vertices .now) (a .triangles .now))))
 
 write-layer-requires : tie.Need-write-layer-requires Inv-loop μ-loop
@@ -72,7 +72,7 @@ returns : tie.Need-returns Inv-loop μ-loop
 returns c =
     let a = c .before .before .before .before .before .before .before .args in
     let l = c .before .loop in
-    let s = star (a .block) (a .mask) (a .threshold) (a .centre .now) (a .neighbours .now) in
+    let s = starFrom (a .block) (a .mask) (a .threshold) (a .centre .now) (a .neighbours .now) in
     rw (← regular-end s (l .x) (omega arith)) (l .inv .1 .1)
 
 pub write-regular-cells-spec : {M : Type 1} → statement M

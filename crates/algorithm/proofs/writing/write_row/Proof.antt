@@ -3,10 +3,10 @@ use borrow.Author.Needs.{needs}
 use native.Mathlib.Omega.{arith}
 use Prim.Native.Nat.{_+_, _≤_, _<_, _-_}
 use mathlib.Core.Path.{refl}
-use Rattle.model.specs.Points.{star}
+use Rattle.model.specs.Star.{starFrom}
 use Rattle.model.specs.Mesh.{transitionCell}
-use Rattle.algorithm.specs.Walk.{transitionTo}
-use Rattle.algorithm.specs.Posts.{Holds, SameLengths}
+use Rattle.model.specs.Mesh.{transitionTo}
+use Rattle.algorithm.specs.Passes.{Holds, SameLengths}
 use Rattle.algorithm.proofs.Walk.{transition-cell, transition-next, transition-row, transition-upto}
 use Rattle.algorithm.proofs.Holding.{Ready, room-vertices, room-triangles, holds-more, same-then, fits-still}
 use Rattle.algorithm.proofs.writing.write_row.Statement.{statement}
@@ -16,7 +16,7 @@ abbrev Inv-loop : tie.InvT-loop
 Inv-loop block mask threshold centre neighbours classes cells codes columns side u counts₀ store₀ vertices₀ triangles₀ n cut v₀ counts store vertices triangles v =
     (v ≤ n)
     × (SameLengths vertices₀ vertices triangles₀ triangles store₀ store
-    × Holds (transitionTo (star block mask threshold centre neighbours) side u v) counts vertices triangles store)
+    × Holds (transitionTo (starFrom block mask threshold centre neighbours) side u v) counts vertices triangles store)
 
 abbrev μ-loop : tie.MeasureT-loop
 μ-loop block mask threshold centre neighbours classes cells codes columns side u counts₀ store₀ vertices₀ triangles₀ n cut v₀ counts store vertices triangles v = n - v
@@ -27,13 +27,13 @@ below c = omega (arith, c .loop-test .taken, c .before .before .before .before .
 ready : (c : tie.In-loop Inv-loop μ-loop) →
     let a = c .before .before .before .before .before .before .before .before .before .args in
     let l = c .before .loop in
-    let s = star (a .block) (a .mask) (a .threshold) (a .centre .now) (a .neighbours .now) in
+    let s = starFrom (a .block) (a .mask) (a .threshold) (a .centre .now) (a .neighbours .now) in
     Ready s (transitionCell s (a .side) (a .u) (l .v)) (transitionTo s (a .side) (a .u) (l .v)) (l .counts) (l .vertices) (l .triangles) (l .store)
 ready c =
     let b = c .before .before .before .before .before .before .before .before .before in
     let a = b .args in
     let p = b .pre .1 .1 .1 .0 in
-    let s = star (a .block) (a .mask) (a .threshold) (a .centre .now) (a .neighbours .now) in
+    let s = starFrom (a .block) (a .mask) (a .threshold) (a .centre .now) (a .neighbours .now) in
     record {
       holds = c .before .loop .inv .1 .1;
       upto = transition-upto s (a .side) (a .u) (c .before .loop .v) (p .0) (p .1 .0) (p .1 .1) (below c);
@@ -54,7 +54,7 @@ loop-holds c =
     let b = c .before .before .before .before .before .before .before in
     let a = b .args in
     let cut = c .before .cut-row in
-    let s = star (a .block) (a .mask) (a .threshold) (a .centre .now) (a .neighbours .now) in (
+    let s = starFrom (a .block) (a .mask) (a .threshold) (a .centre .now) (a .neighbours .now) in (
       omega (arith, c .next-set .ensures .le-end),
       (
         record { vertices-same = refl; triangles-same = refl; store-same = refl },
@@ -91,7 +91,7 @@ loop-again c =
     let b = c .before .before .before .before .before .before .before .before .before .before .before .before .before .before .before .before .before .before .before .before in
     let a = b .args in
     let cut = c .before .before .before .before .before .before .before .before .before .before .before .before .before .before .cut-row in
-    let s = star (a .block) (a .mask) (a .threshold) (a .centre .now) (a .neighbours .now) in (
+    let s = starFrom (a .block) (a .mask) (a .threshold) (a .centre .now) (a .neighbours .now) in (
       omega (arith, c .next-set2 .ensures .le-end),
       (
         same-then (i .before .loop .inv .1 .0)
@@ -118,7 +118,7 @@ returns : tie.Need-returns Inv-loop μ-loop
 returns c =
     let a = c .before .before .before .before .before .before .before .before .before .args in
     let l = c .before .loop in
-    let s = star (a .block) (a .mask) (a .threshold) (a .centre .now) (a .neighbours .now) in
+    let s = starFrom (a .block) (a .mask) (a .threshold) (a .centre .now) (a .neighbours .now) in
     rw (← transition-row s (a .side) (a .u) (l .v) (omega arith)) (l .inv .1 .1)
 
 pub write-row-spec : {M : Type 1} → statement M

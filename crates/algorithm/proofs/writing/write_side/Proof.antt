@@ -3,9 +3,9 @@ use borrow.Author.Needs.{needs}
 use native.Mathlib.Omega.{arith}
 use Prim.Native.Nat.{_≤_, _<_, _-_}
 use mathlib.Core.Path.{refl}
-use Rattle.model.specs.Points.{star}
-use Rattle.algorithm.specs.Walk.{transitionTo}
-use Rattle.algorithm.specs.Posts.{Holds, SameLengths}
+use Rattle.model.specs.Star.{starFrom}
+use Rattle.model.specs.Mesh.{transitionTo}
+use Rattle.algorithm.specs.Passes.{Holds, SameLengths}
 use Rattle.algorithm.proofs.Walk.{transition-side}
 use Rattle.algorithm.proofs.Holding.{same-then, fits-still}
 use Rattle.algorithm.proofs.writing.write_side.Statement.{statement}
@@ -15,7 +15,7 @@ abbrev Inv-loop : tie.InvT-loop
 Inv-loop block mask threshold centre neighbours classes cells codes columns side counts₀ store₀ vertices₀ triangles₀ n u₀ counts store vertices triangles u =
     (u ≤ n)
     × (SameLengths vertices₀ vertices triangles₀ triangles store₀ store
-    × Holds (transitionTo (star block mask threshold centre neighbours) side u 0) counts vertices triangles store)
+    × Holds (transitionTo (starFrom block mask threshold centre neighbours) side u 0) counts vertices triangles store)
 
 abbrev μ-loop : tie.MeasureT-loop
 μ-loop block mask threshold centre neighbours classes cells codes columns side counts₀ store₀ vertices₀ triangles₀ n u₀ counts store vertices triangles u = n - u
@@ -70,7 +70,7 @@ returns c =
     let b = c .before .before .before .before .before .before .before in
     let a = b .args in
     let l = c .before .loop in
-    let s = star (a .block) (a .mask) (a .threshold) (a .centre .now) (a .neighbours .now) in
+    let s = starFrom (a .block) (a .mask) (a .threshold) (a .centre .now) (a .neighbours .now) in
     rw (← transition-side s (a .side) (l .u) (b .pre .1 .1 .1 .0 .1) (omega arith)) (l .inv .1 .1)
 
 pub write-side-spec : {M : Type 1} → statement M

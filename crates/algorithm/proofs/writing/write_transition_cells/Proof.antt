@@ -5,9 +5,9 @@ use Prim.Native.Nat.{_≤_, _<_, _+_, _-_}
 use mathlib.Core.Path.{_≡_, refl}
 use mathlib.Core.Bool.{true}
 use Rattle.model.specs.Sides.{named}
-use Rattle.model.specs.Points.{star}
-use Rattle.algorithm.specs.Walk.{transitionTo}
-use Rattle.algorithm.specs.Posts.{Holds, SameLengths}
+use Rattle.model.specs.Star.{starFrom}
+use Rattle.model.specs.Mesh.{transitionTo}
+use Rattle.algorithm.specs.Passes.{Holds, SameLengths}
 use Rattle.algorithm.proofs.Walk.{transition-start, transition-skip, transition-end}
 use Rattle.algorithm.proofs.Holding.{same-then, fits-still}
 use Rattle.algorithm.proofs.writing.write_transition_cells.Statement.{statement}
@@ -17,7 +17,7 @@ abbrev Inv-loop : tie.InvT-loop
 Inv-loop block mask threshold centre neighbours classes cells codes columns counts₀ store₀ vertices₀ triangles₀ side₀ counts store vertices triangles side =
     ((side ≤ 6) × (side < 6 → named mask side ≡ true))
     × (SameLengths vertices₀ vertices triangles₀ triangles store₀ store
-    × Holds (transitionTo (star block mask threshold centre neighbours) side 0 0) counts vertices triangles store)
+    × Holds (transitionTo (starFrom block mask threshold centre neighbours) side 0 0) counts vertices triangles store)
 
 abbrev μ-loop : tie.MeasureT-loop
 μ-loop block mask threshold centre neighbours classes cells codes columns counts₀ store₀ vertices₀ triangles₀ side₀ counts store vertices triangles side = 6 - side
@@ -30,7 +30,7 @@ loop-holds c =
     let b = c .before .before .before .before .before .before in
     let a = b .args in
     let next = c .next-side in
-    let s = star (a .block) (a .mask) (a .threshold) (a .centre .now) (a .neighbours .now) in
+    let s = starFrom (a .block) (a .mask) (a .threshold) (a .centre .now) (a .neighbours .now) in
     ((next .ensures .le-six, next .ensures .is-named), (record { vertices-same = refl; triangles-same = refl; store-same = refl }, rw (← transition-skip s 0 (next .result) (next .ensures), transition-start) (b .pre .1 .1 .1 .1)))
 
 write-side-requires : tie.Need-write-side-requires Inv-loop μ-loop
@@ -56,7 +56,7 @@ loop-again c =
     let i = c .before .before .before .before .before .before .before .before .before .before .before in
     let a = c .before .before .before .before .before .before .before .before .before .before .before .before .before .before .before .before .before .before .before .args in
     let next = c .next-side2 in
-    let s = star (a .block) (a .mask) (a .threshold) (a .centre .now) (a .neighbours .now) in (
+    let s = starFrom (a .block) (a .mask) (a .threshold) (a .centre .now) (a .neighbours .now) in (
       (next .ensures .le-six, next .ensures .is-named),
       (
         same-then (i .before .loop .inv .1 .0)
@@ -82,7 +82,7 @@ returns : tie.Need-returns Inv-loop μ-loop
 returns c =
     let a = c .before .before .before .before .before .before .before .before .args in
     let l = c .before .loop in
-    let s = star (a .block) (a .mask) (a .threshold) (a .centre .now) (a .neighbours .now) in
+    let s = starFrom (a .block) (a .mask) (a .threshold) (a .centre .now) (a .neighbours .now) in
     rw (← transition-end s (l .side) (omega arith)) (l .inv .1 .1)
 
 pub write-transition-cells-spec : {M : Type 1} → statement M

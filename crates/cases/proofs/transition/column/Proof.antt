@@ -19,19 +19,19 @@ Inv-loop n threshold fine side u2 end first up down bits₀ v2₀ bits v2 = (v2 
 abbrev μ-loop : tie.MeasureT-loop
 μ-loop n threshold fine side u2 end first up down bits₀ v2₀ bits v2 = end + 1 - v2
 
-abbrev Turn : Type 0
-Turn = tie.In-loop Inv-loop μ-loop
+abbrev CodeUse : Type 0
+CodeUse = tie.In-loop Inv-loop μ-loop
 
-abbrev start : Turn → tie.Start Inv-loop μ-loop
+abbrev start : CodeUse → tie.Start Inv-loop μ-loop
 start c = c .before .before .before .before .before .before
 
-on : (c : Turn) → OnFineFace (start c .args .n) (start c .args .side) (start c .args .u2) (c .before .loop .v2)
+on : (c : CodeUse) → OnFineFace (start c .args .n) (start c .args .side) (start c .args .u2) (c .before .loop .v2)
 on c =
     let h = start c .pre .0 in
     record { few = h .few; side-is = h .side-is; u-in = h .u-in; v-in = c .loop-test .taken }
 
 -- the place that is read
-place : (c : Turn)
+place : (c : CodeUse)
     → Reached (start c .args .n) (start c .args .side) (start c .args .u2) (c .before .loop .v2) (on c)
     (c .before .before .before .before .first-place .result) (c .before .before .before .step-up .result) (c .before .before .step-down .result)
 place c =
@@ -40,19 +40,19 @@ place c =
     reached (a .n) (a .side) (a .u2) (c .before .loop .v2) (on c) _ _ (down .result) (c .before .before .before .before .first-place .ensures)
     (c .before .before .before .step-up .ensures) (down .ensures .0 (a .n)) (down .ensures .1)
 
-abbrev at : Turn → ℕ
+abbrev at : CodeUse → ℕ
 at c =
     let v2 = c .before .loop .v2 in
     c .before .before .before .before .first-place .result + v2 * c .before .before .before .step-up .result - v2 * c .before .before .step-down .result
 
-reads : (c : Turn)
+reads : (c : CodeUse)
     → let a = start c .args in getD (a .fine .now) (at c) nan ≡ lineOf (a .n) (a .fine .now) (a .side) (a .u2) (c .before .loop .v2)
 reads c =
     let a = start c .args in
     ap (λ (k : ℕ). getD (a .fine .now) k nan) (place c .place-is) ∙ read-at (a .n) (a .side) (a .u2) (c .before .loop .v2) (on c) (a .fine .now)
 
 -- a place in the column is at most 32
-near : (c : Turn) → c .before .loop .v2 ≤ 32
+near : (c : CodeUse) → c .before .loop .v2 ≤ 32
 near c = omega (arith, on c .few, on c .v-in)
 
 mul-end : tie.Need-mul-end Inv-loop μ-loop

@@ -6,7 +6,7 @@ use native.Mathlib.Omega.{arith}
 use borrow.Author.Needs.{needs}
 use lib.Ieee.{Float}
 use lib.ListN.{length, length-set}
-use Rattle.model.specs.Points.{star}
+use Rattle.model.specs.Star.{starFrom}
 use Rattle.cases.specs.Faces.{wholeColumn}
 use Rattle.cases.specs.Words.{WordsPut}
 use Rattle.cases.proofs.FineBits.{column-is}
@@ -17,7 +17,7 @@ use Rattle.cases.proofs.transition.face.Tie as tie
 abbrev Inv-loop : tie.InvT-loop
 Inv-loop block mask threshold neighbours side columns₀ end fine u2₀ columns u2 =
     (u2 ≤ 2 * block .subdivisions + 1)
-    × ((length columns ≡ 198) × ((centre : List Float) → WordsPut (wholeColumn (star block mask threshold centre neighbours) side) (33 * side) u2 columns₀ columns))
+    × ((length columns ≡ 198) × ((centre : List Float) → WordsPut (wholeColumn (starFrom block mask threshold centre neighbours) side) (33 * side) u2 columns₀ columns))
 
 abbrev μ-loop : tie.MeasureT-loop
 μ-loop block mask threshold neighbours side columns₀ end fine u2₀ columns u2 = end + 1 - u2
@@ -32,7 +32,7 @@ loop-holds : tie.Need-loop-holds Inv-loop μ-loop
 loop-holds c =
     let b = c .before .before .before .before in
     let a = b .args in
-    (omega arith, (b .pre .1, λ centre. none-put (wholeColumn (star (a .block) (a .mask) (a .threshold) centre (a .neighbours .now)) (a .side)) (33 * a .side) (a .columns .now)))
+    (omega arith, (b .pre .1, λ centre. none-put (wholeColumn (starFrom (a .block) (a .mask) (a .threshold) centre (a .neighbours .now)) (a .side)) (33 * a .side) (a .columns .now)))
 
 column-requires : tie.Need-column-requires Inv-loop μ-loop
 column-requires c κs =
@@ -74,7 +74,7 @@ loop-again c =
       (
         rw length-set (l .inv .1 .0),
         λ centre.
-            let s = star (a .block) (a .mask) (a .threshold) centre (a .neighbours .now) in
+            let s = starFrom (a .block) (a .mask) (a .threshold) centre (a .neighbours .now) in
             one-more (wholeColumn s (a .side)) (33 * a .side) (l .u2) (c .column .result) (a .columns .now) (l .columns) (l .inv .1 .1 centre)
             (omega (arith, place-in c, l .inv .1 .0)) (c .column .ensures ∙ column-is s (a .side) (l .u2) (fine .result .now) (fine .ensures .0)),
       ),

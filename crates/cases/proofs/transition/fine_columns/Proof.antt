@@ -8,7 +8,7 @@ use native.Mathlib.Omega.{arith}
 use borrow.Author.Needs.{needs}
 use lib.Ieee.{Float}
 use Rattle.model.specs.Sides.{named}
-use Rattle.model.specs.Points.{star}
+use Rattle.model.specs.Star.{starFrom}
 use Rattle.cases.specs.Faces.{SidesTo}
 use Rattle.cases.proofs.FineBits.{sides-start, sides-step, sides-end}
 use Rattle.cases.proofs.transition.fine_columns.Statement.{statement}
@@ -17,7 +17,7 @@ use Rattle.cases.proofs.transition.fine_columns.Tie as tie
 abbrev Inv-loop : tie.InvT-loop
 Inv-loop block mask threshold neighbours columns₀ side₀ columns side =
     ((side ≤ 6) × (side < 6 → named mask side ≡ true))
-    × ((centre : List Float) → SidesTo (star block mask threshold centre neighbours) side columns)
+    × ((centre : List Float) → SidesTo (starFrom block mask threshold centre neighbours) side columns)
 
 abbrev μ-loop : tie.MeasureT-loop
 μ-loop block mask threshold neighbours columns₀ side₀ columns side = 6 - side
@@ -31,7 +31,7 @@ loop-holds c =
     let next = c .next-side in (
       (next .ensures .le-six, next .ensures .is-named),
       λ centre.
-          sides-start (star (a .block) (a .mask) (a .threshold) centre (a .neighbours .now)) (next .result) (a .columns .now) (next .ensures),
+          sides-start (starFrom (a .block) (a .mask) (a .threshold) centre (a .neighbours .now)) (next .result) (a .columns .now) (next .ensures),
     )
 
 face-requires : tie.Need-face-requires Inv-loop μ-loop
@@ -60,7 +60,7 @@ loop-again c =
     let next = c .next-side2 in (
       (next .ensures .le-six, next .ensures .is-named),
       λ centre.
-          sides-step (star (a .block) (a .mask) (a .threshold) centre (a .neighbours .now)) (l .side) (next .result) (l .columns) _ (b .pre .0)
+          sides-step (starFrom (a .block) (a .mask) (a .threshold) centre (a .neighbours .now)) (l .side) (next .result) (l .columns) _ (b .pre .0)
           (l .inv .1 centre) (c .before .face .ensures centre) (next .ensures),
     )
 
@@ -69,7 +69,7 @@ returns c =
     let a = c .before .before .before .before .args in
     let l = c .before .loop in
     λ centre.
-    sides-end (star (a .block) (a .mask) (a .threshold) centre (a .neighbours .now)) (l .side) (l .columns) (omega arith) (l .inv .1 centre)
+    sides-end (starFrom (a .block) (a .mask) (a .threshold) centre (a .neighbours .now)) (l .side) (l .columns) (omega arith) (l .inv .1 centre)
 
 pub fine-columns-spec : {M : Type 1} → statement M
 fine-columns-spec =

@@ -6,7 +6,7 @@ use native.Mathlib.Numerals.{add-one}
 use native.Mathlib.Omega.{arith}
 use borrow.Author.Needs.{needs}
 use lib.ListN.{getD}
-use Rattle.model.specs.Steps.{total}
+use Rattle.laws.specs.Steps.{total}
 use Rattle.cells.specs.Kinds.{makesAt}
 use Rattle.cells.proofs.codes.count_made.Statement.{statement}
 use Rattle.cells.proofs.codes.count_made.Tie as tie

@@ -3,7 +3,7 @@ use mathlib.Core.Bool.{false}
 use mathlib.Core.Path.{_≡_}
 use borrow.Author.Needs.{needs}
 use Rattle.model.specs.Mesh.{regularCell}
-use Rattle.model.specs.Points.{Star, star}
+use Rattle.model.specs.Star.{Star, starFrom}
 use Rattle.model.specs.Rotations.{xyz}
 use Rattle.cells.specs.Fills.{nothing-put}
 use Rattle.cells.specs.Kinds.{cellOf}
@@ -14,7 +14,7 @@ use Rattle.cells.proofs.regular_cells.write_regular_cell.Statement.{sta
 use Rattle.cells.proofs.regular_cells.write_regular_cell.Tie as tie
 
 abbrev starOf : tie.Start → Star
-starOf b = star (b .args .block) (b .args .mask) (b .args .threshold) (b .args .centre .now) (b .args .neighbours .now)
+starOf b = starFrom (b .args .block) (b .args .mask) (b .args .threshold) (b .args .centre .now) (b .args .neighbours .now)
 
 -- the entry, from the place where the rows are lent
 abbrev start : tie.After-regular-case-cell → tie.Start

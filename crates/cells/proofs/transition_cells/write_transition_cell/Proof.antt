@@ -2,7 +2,7 @@
 use mathlib.Core.Path.{_≡_}
 use borrow.Author.Needs.{needs}
 use Rattle.model.specs.Mesh.{transitionCell}
-use Rattle.model.specs.Points.{Star, star}
+use Rattle.model.specs.Star.{Star, starFrom}
 use Rattle.points.specs.TransitionPoints.{bordered}
 use Rattle.cells.specs.Fills.{nothing-put}
 use Rattle.cells.specs.Kinds.{cellOf}
@@ -13,7 +13,7 @@ use Rattle.cells.proofs.transition_cells.write_transition_cell.Statemen
 use Rattle.cells.proofs.transition_cells.write_transition_cell.Tie as tie
 
 abbrev starOf : tie.Start → Star
-starOf b = star (b .args .block) (b .args .mask) (b .args .threshold) (b .args .centre .now) (b .args .neighbours .now)
+starOf b = starFrom (b .args .block) (b .args .mask) (b .args .threshold) (b .args .centre .now) (b .args .neighbours .now)
 
 -- the entry, from the place where the rows are lent
 abbrev start : tie.After-transition-turned → tie.Start

@@ -6,10 +6,10 @@ use borrow.Author.Needs.{needs}
 use lib.ListN.{length}
 use Rattle.tables.specs.Cases.{trianglesOf}
 use Rattle.model.specs.Extraction.{triangleIndices}
-use Rattle.model.specs.Steps.{listed}
+use Rattle.laws.specs.Steps.{listed}
 use Rattle.cells.specs.Buffers.{layTriangles}
 use Rattle.cells.specs.Fills.{triangles-more}
-use Rattle.cells.specs.Laying.{lay-none, length-lay}
+use Rattle.laws.specs.Laying.{lay-none, length-lay}
 use Rattle.cells.specs.Rows.{rowTriangle}
 use Rattle.cells.proofs.triangles.put_triangles.Statement.{statement}
 use Rattle.cells.proofs.triangles.put_triangles.Tie as tie

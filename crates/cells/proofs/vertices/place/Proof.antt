@@ -1,7 +1,7 @@
 -- `vertices::place` meets its contract, for each kind of cell. Assumes nothing.
 use native.Mathlib.Omega.{arith}
 use borrow.Author.Needs.{needs}
-use Rattle.cells.proofs.Turns.{regular-in, transition-in}
+use Rattle.cells.proofs.Uses.{regular-in, transition-in}
 use Rattle.cells.proofs.vertices.place.Statement.{statement}
 use Rattle.cells.proofs.vertices.place.Tie as tie
 

@@ -2,9 +2,9 @@
 use mathlib.Core.Path.{sym, _∙_}
 use native.Mathlib.Omega.{arith}
 use borrow.Author.Needs.{needs}
-use Rattle.model.specs.Points.{Star, star}
+use Rattle.model.specs.Star.{Star, starFrom}
 use Rattle.grid.specs.StorePlaces.{small-store}
-use Rattle.cells.proofs.Turns.{index-within, one-made, code-stored, code-loose, code-taken, back-placed, back-within}
+use Rattle.cells.proofs.Uses.{index-within, one-made, code-stored, code-loose, code-taken, back-placed, back-within}
 use Rattle.cells.proofs.vertices.put_code.Statement.{statement}
 use Rattle.cells.proofs.vertices.put_code.Tie as tie
 
@@ -15,7 +15,7 @@ abbrev start : tie.After-makes → tie.Start
 start m = m .before .before .before .before .before .before .before
 
 abbrev starOf : tie.Start → Star
-starOf b = star (b .args .block) (b .args .mask) (b .args .threshold) (b .args .centre .now) (b .args .neighbours .now)
+starOf b = starFrom (b .args .block) (b .args .mask) (b .args .threshold) (b .args .centre .now) (b .args .neighbours .now)
 
 reuse-index-requires : tie.Need-reuse-index-requires
 reuse-index-requires c κs = search needs

@@ -1,6 +1,6 @@
 -- `vertices::regular_vertex` meets its contract: its two points are corners of the cell. Assumes nothing.
 use borrow.Author.Needs.{needs}
-use Rattle.model.specs.Points.{star}
+use Rattle.model.specs.Star.{starFrom}
 use Rattle.cells.proofs.Making.{corner-within, regular-made}
 use Rattle.cells.proofs.vertices.regular_vertex.Statement.{statement}
 use Rattle.cells.proofs.vertices.regular_vertex.Tie as tie
@@ -39,7 +39,7 @@ vertex-between-requires c κs = search needs
 returns : tie.Need-returns
 returns c =
     let a = c .before .before .before .before .before .before .before .before .args in
-    λ ns. regular-made (star (a .block) (a .mask) (a .threshold) (a .centre .now) ns) (a .at .x) (a .at .y) (a .at .z) (a .code) _ _ _ _ _ _ _
+    λ ns. regular-made (starFrom (a .block) (a .mask) (a .threshold) (a .centre .now) ns) (a .at .x) (a .at .y) (a .at .z) (a .code) _ _ _ _ _ _ _
     (c .before .before .before .before .before .before .voxel-a-index .ensures .0) (c .before .before .before .before .voxel-b-index .ensures .0)
     (c .before .before .before .before .before .corner-point .ensures) (c .before .before .before .corner-point2 .ensures)
     (c .before .before .regular-point .ensures (a .threshold) ns) (c .before .regular-point2 .ensures (a .threshold) ns) (c .vertex-between .ensures)

@@ -1,6 +1,6 @@
 -- `vertices::transition_vertex` meets its contract: its two points are points of the cell. Assumes nothing.
 use borrow.Author.Needs.{needs}
-use Rattle.model.specs.Points.{star}
+use Rattle.model.specs.Star.{starFrom}
 use Rattle.cells.proofs.Making.{point-in-cell, transition-made}
 use Rattle.cells.proofs.vertices.transition_vertex.Statement.{statement}
 use Rattle.cells.proofs.vertices.transition_vertex.Tie as tie
@@ -35,7 +35,7 @@ vertex-between-requires c κs = search needs
 returns : tie.Need-returns
 returns c =
     let a = c .before .before .before .before .before .before .before .before .before .args in
-    transition-made (star (a .block) (a .mask) (a .threshold) (a .centre .now) (a .neighbours .now)) (a .at .side) (a .at .u) (a .at .v) (a .code) _ _ _ _ _ _ _
+    transition-made (starFrom (a .block) (a .mask) (a .threshold) (a .centre .now) (a .neighbours .now)) (a .at .side) (a .at .u) (a .at .v) (a .code) _ _ _ _ _ _ _
     (c .before .before .before .before .before .before .voxel-a-index .ensures .0) (c .before .before .before .before .voxel-b-index .ensures .0)
     (c .before .before .before .before .before .cell-point .ensures) (c .before .before .before .cell-point2 .ensures)
     (c .before .before .transition-point .ensures (a .threshold)) (c .before .transition-point2 .ensures (a .threshold)) (c .vertex-between .ensures)

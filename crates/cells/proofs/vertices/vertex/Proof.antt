@@ -1,7 +1,7 @@
 -- `vertices::vertex` meets its contract, for each kind of cell. Assumes nothing.
 use borrow.Author.Needs.{needs}
-use Rattle.model.specs.Mesh.{regularTurn, transitionTurn}
-use Rattle.cells.proofs.Turns.{regular-in}
+use Rattle.model.specs.Mesh.{regularUse, transitionUse}
+use Rattle.cells.proofs.Uses.{regular-in}
 use Rattle.cells.proofs.vertices.vertex.Statement.{statement}
 use Rattle.cells.proofs.vertices.vertex.Tie as tie
 
@@ -22,11 +22,11 @@ transition-vertex-requires c κs =
     rw (← c .before .at2 .given .1) (b .pre)
 
 returns : tie.Need-returns
-unfolding regularTurn
+unfolding regularUse
 returns c = rw (c .before .before .at .given .1) (c .regular-vertex .ensures (c .before .before .before .before .before .before .args .neighbours .now))
 
 returns-2 : tie.Need-returns-2
-unfolding transitionTurn
+unfolding transitionUse
 returns-2 c = rw (c .before .before .at2 .given .1) (c .transition-vertex .ensures)
 
 pub vertex-spec : {M : Type 1} → statement M

@@ -7,7 +7,7 @@ use lib.ListN.{getD}
 use Rattle.tables.specs.Cases.{verticesOf}
 use Rattle.cells.specs.Fills.{made-total}
 use Rattle.cells.specs.Kinds.{makesAt, cellOf}
-use Rattle.cells.proofs.Turns.{turn-count}
+use Rattle.cells.proofs.Uses.{use-count}
 use Rattle.cells.proofs.whole_cells.count_cell.Statement.{statement}
 use Rattle.cells.proofs.whole_cells.count_cell.Tie as tie
 
@@ -30,7 +30,7 @@ returns c =
       few = (omega (arith, b .pre .1), omega (arith, b .pre .1));
       vertices = λ base store.
           made-total (cellOf s (a .at) (a .codes .now) (a .row .now) turned) (λ i. cond (makesAt (a .at) (getD (a .codes .now) i 0)) 1 0)
-          (λ i. turn-count s (a .at) (getD (a .codes .now) i 0)) base store (verticesOf (a .row .now))
+          (λ i. use-count s (a .at) (getD (a .codes .now) i 0)) base store (verticesOf (a .row .now))
           ∙ sym (rw count at (c .before .count-made .ensures .0));
       triangles = sym (c .triangle-count .ensures);
     }

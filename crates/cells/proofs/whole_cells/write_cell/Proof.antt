@@ -3,7 +3,7 @@
 use native.Mathlib.Omega.{arith}
 use borrow.Author.Needs.{needs}
 use Rattle.model.specs.Mesh.{fillTo, triangleOf}
-use Rattle.model.specs.Points.{star}
+use Rattle.model.specs.Star.{starFrom}
 use Rattle.cells.specs.Fills.{cell-put}
 use Rattle.cells.specs.Kinds.{cellOf}
 use Rattle.cells.specs.Rows.{rowTriangle}
@@ -34,7 +34,7 @@ returns : tie.Need-returns
 unfolding fillTo triangleOf rowTriangle
 returns c =
     let a = c .before .before .before .before .before .before .before .before .before .before .before .before .before .before .before .before .before .before .before .before .before .args in
-    cell-put (cellOf (star (a .block) (a .mask) (a .threshold) (a .centre .now) (a .neighbours .now)) (a .at) (a .codes .now) (a .row .now) (a .turned)) (a .counts .vertices) (a .counts .triangles)
+    cell-put (cellOf (starFrom (a .block) (a .mask) (a .threshold) (a .centre .now) (a .neighbours .now)) (a .at) (a .codes .now) (a .row .now) (a .turned)) (a .counts .vertices) (a .counts .triangles)
     (a .vertices .now) (a .triangles .now) (a .store .now) _ _ _ _ _ _ _
     (c .before .before .before .before .before .before .before .before .before .before .before .fill-cell .ensures) (c .before .before .put-triangles .ensures .0) (c .before .before .put-triangles .ensures .1)
 

@@ -3,7 +3,7 @@ use mathlib.Core.Path.{sym, _∙_}
 use native.Mathlib.Omega.{arith}
 use borrow.Author.Needs.{needs}
 use borrow.Author.Tests.{le-leb, lt-leb, eq-eqb, ne-eqb}
-use Rattle.model.specs.Judging.{mostSubdivisions}
+use Rattle.model.specs.Limits.{mostSubdivisions}
 use Rattle.grid.proofs.voxel_blocks.judged.Statement.{statement}
 use Rattle.grid.proofs.voxel_blocks.judged.Tie as tie
 

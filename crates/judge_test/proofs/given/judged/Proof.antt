@@ -1,7 +1,7 @@
 -- `judge_test::given::judged` meets what it calls: a block that passes 1 to 7 has the shape that 8 asks for.
 use borrow.Author.Needs.{needs}
 use mathlib.Core.Path.{sym, _∙_}
-use Rattle.model.specs.Points.{star}
+use Rattle.model.specs.Star.{starFrom}
 use Rattle.judge.specs.Passing.{star-shaped}
 use Rattle.judge_test.proofs.given.judged.Statement.{statement}
 use Rattle.judge_test.proofs.given.judged.Tie as tie
@@ -21,7 +21,7 @@ enum-told c = search needs
 judge-faces-requires : tie.Need-judge-faces-requires
 judge-faces-requires c κs =
     let args = c .before .before .before .before .before .args in
-    star-shaped (star (args .block) (args .mask) (args .threshold) (args .centre .now) (args .neighbours .now))
+    star-shaped (starFrom (args .block) (args .mask) (args .threshold) (args .centre .now) (args .neighbours .now))
     (sym (c .before .before .judge-star .ensures) ∙ c .enum-told .given .1)
 
 returns-2 : tie.Need-returns-2

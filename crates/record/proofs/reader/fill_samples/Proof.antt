@@ -5,9 +5,9 @@ use mathlib.Core.List.{List, _++_}
 use native.Mathlib.Omega.{arith}
 use lib.Ieee.{Float}
 use lib.ListN.{length, drop, set, length-set}
-use Rattle.model.specs.Steps.{listed}
+use Rattle.laws.specs.Steps.{listed}
 use Rattle.model.specs.Record.{floatAt, countOf, samplesOf}
-use Rattle.record.specs.Lists.{length-listed, listed-more}
+use Rattle.laws.specs.Lists.{length-listed, listed-more}
 use Rattle.record.specs.Words.{usable-number}
 use Rattle.record.specs.Accepted.{count-by-length}
 use Rattle.record.proofs.reader.fill_samples.Statement.{statement}

@@ -3,8 +3,8 @@ use native.Mathlib.Omega.{arith}
 use borrow.Author.Needs.{needs}
 use lib.ListN.{length-append}
 use Rattle.model.specs.declared.Verdict.the-variants.{Passed, Refused}
-use Rattle.model.specs.Points.{star}
-use Rattle.model.specs.Extraction.{judgeStar}
+use Rattle.model.specs.Star.{starFrom}
+use Rattle.model.specs.Judging.{judgeStar}
 use Rattle.record.specs.Writable.{writable}
 use Rattle.record.proofs.writer.judge_writing.Statement.{statement}
 use Rattle.record.proofs.writer.judge_writing.Tie as tie
@@ -17,10 +17,10 @@ enum-known-whole c = search needs
 
 returns : tie.Need-returns
 returns c =
-    let whole : judgeStar (star (c .before .before .before .before .before .before .args .header .block) (c .before .before .before .before .before .before .args .header .mask) (c .before .before .before .before .before .before .args .header .threshold) (c .before .before .before .before .before .before .args .centre .now) (c .before .before .before .before .before .before .args .neighbours .now)) ≡ Refused (c .before .whole .given .0 .0) = sym (c .before .before .before .judge-star .ensures) ∙ c .before .whole .given .1 in
+    let whole : judgeStar (starFrom (c .before .before .before .before .before .before .args .header .block) (c .before .before .before .before .before .before .args .header .mask) (c .before .before .before .before .before .before .args .header .threshold) (c .before .before .before .before .before .before .args .centre .now) (c .before .before .before .before .before .before .args .neighbours .now)) ≡ Refused (c .before .whole .given .0 .0) = sym (c .before .before .before .judge-star .ensures) ∙ c .before .whole .given .1 in
     rw whole
 
-passed : (c : tie.After-enum-told) → judgeStar (star (c .before .before .before .before .before .args .header .block) (c .before .before .before .before .before .args .header .mask) (c .before .before .before .before .before .args .header .threshold) (c .before .before .before .before .before .args .centre .now) (c .before .before .before .before .before .args .neighbours .now)) ≡ Passed
+passed : (c : tie.After-enum-told) → judgeStar (starFrom (c .before .before .before .before .before .args .header .block) (c .before .before .before .before .before .args .header .mask) (c .before .before .before .before .before .args .header .threshold) (c .before .before .before .before .before .args .centre .now) (c .before .before .before .before .before .args .neighbours .now)) ≡ Passed
 passed c = sym (c .before .before .judge-star .ensures) ∙ c .enum-told .given .1
 
 enum-told : tie.Need-enum-told

@@ -7,7 +7,7 @@ use lib.Ieee.{Float, nan}
 use lib.ListN.{length, getD, take}
 use lib.Seq.{sets, take-length, length-sets}
 use borrow.Author.Needs.{needs}
-use Rattle.model.specs.Steps.{each}
+use Rattle.laws.specs.Steps.{each}
 use Rattle.model.specs.Record.{floatBytes}
 use Rattle.record.specs.Words.{put-more}
 use Rattle.record.proofs.writer.put_floats.Statement.{statement}

@@ -3,9 +3,9 @@ use mathlib.Core.Path.{ap, _∙_}
 use mathlib.Core.List.{List}
 use borrow.Author.Needs.{needs}
 use lib.Seq.{sets}
-use Rattle.model.specs.Steps.{each}
+use Rattle.laws.specs.Steps.{each}
 use Rattle.model.specs.Record.{wordBytes, floatBytes}
-use Rattle.record.specs.Lists.{sets-append}
+use Rattle.laws.specs.Lists.{sets-append}
 use Rattle.record.specs.Bytes.{startOf, measuresOf}
 use Rattle.record.proofs.writer.put_header.Statement.{statement}
 use Rattle.record.proofs.writer.put_header.Tie as tie

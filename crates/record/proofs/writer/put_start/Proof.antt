@@ -6,7 +6,7 @@ use borrow.Author.Needs.{needs}
 use lib.ListN.{length-set}
 use lib.Seq.{sets}
 use Rattle.model.specs.Record.{wordBytes}
-use Rattle.record.specs.Lists.{sets-append}
+use Rattle.laws.specs.Lists.{sets-append}
 use Rattle.record.proofs.writer.put_start.Statement.{statement}
 use Rattle.record.proofs.writer.put_start.Tie as tie
 

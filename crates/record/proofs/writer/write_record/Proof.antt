@@ -10,11 +10,10 @@ use Rattle.model.specs.declared.Header.{Header}
 use Rattle.model.specs.declared.Verdict.{Verdict}
 use Rattle.model.specs.declared.Verdict.the-variants.{Passed}
 use Rattle.model.specs.declared.RecordWritten.the-variants as RecordWritten
-use Rattle.model.specs.Steps.{each, laid}
+use Rattle.laws.specs.Steps.{each, laid}
 use Rattle.model.specs.Refusals.{orElse}
-use Rattle.model.specs.Points.{star}
-use Rattle.model.specs.Judging.{judgeBuffer}
-use Rattle.model.specs.Extraction.{judgeStar}
+use Rattle.model.specs.Star.{starFrom}
+use Rattle.model.specs.Judging.{judgeBuffer, judgeStar}
 use Rattle.model.specs.Record.{floatBytes, recordOf, writeAnswer, writeRecord}
 use Rattle.judge.specs.First.{both-passed}
 use Rattle.record.specs.Parts.{buffer-holds}
@@ -51,7 +50,7 @@ module _ (c : tie.After-enum-told) where
   before = c .before .before .before .before .before .before .args .bytes .now
 
   abbrev whole : Verdict
-  whole = judgeStar (star (h .block) (h .mask) (h .threshold) centre neighbours)
+  whole = judgeStar (starFrom (h .block) (h .mask) (h .threshold) centre neighbours)
 
   passed : orElse whole (judgeBuffer (27 + 4 * length (centre ++ neighbours)) (length before)) ≡ Passed
   passed = sym (c .before .before .judge-writing .ensures) ∙ c .enum-told .given .1

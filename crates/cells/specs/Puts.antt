@@ -5,8 +5,8 @@ use mathlib.Core.Bool.{cond}
 use mathlib.Core.List.{List}
 use lib.Ieee.{Float}
 use lib.ListN.{length, getD, set}
-use Rattle.model.specs.Steps.{listed}
-use Rattle.model.specs.Mesh.{Turn, Cell, Fill, madeBy, fillTo, triangleOf}
+use Rattle.laws.specs.Steps.{listed}
+use Rattle.model.specs.Mesh.{CodeUse, Cell, Fill, madeBy, fillTo, triangleOf}
 use Rattle.cells.specs.Buffers.{layVertices, layTriangles, pad}
 
 -- a buffer has room for so many items of so many places, and the items' indices fit a u32
@@ -15,7 +15,7 @@ pub record Room {A : Type 0} (width wanted : ℕ) (buffer : List A) : Type 0 whe
   pub short : wanted < 2 ^ 32
 
 -- one vertex of a cell: its index, and the buffers once it is made or found
-pub record TurnPut (t : Turn) (next : ℕ) (vertices : List Float) (store : List ℕ)
+pub record CodePut (t : CodeUse) (next : ℕ) (vertices : List Float) (store : List ℕ)
     (index next′ : ℕ) (vertices′ : List Float) (store′ : List ℕ) : Type 0 where
   pub index-is : index ≡ cond (t .makes) next (getD store (t .place) 0)
   pub next-is : next′ ≡ next + length (madeBy t)

@@ -4,37 +4,37 @@ use mathlib.Core.List.{List, [], _∷_, _++_, map}
 use Prim.Native.Nat.{ℕ, zero, suc, _+_, _<_}
 use native.Mathlib.Nat.{add-zero, zero-add, add-suc, le-refl, le-step}
 use native.Mathlib.Omega.{arith}
-use Rattle.tables.specs.Counting.{gather, total}
-use Rattle.model.specs.Steps.{total as sum}
+use Rattle.laws.specs.Counting.{gather, weighed}
+use Rattle.laws.specs.Steps.{total}
 
 -- ---- over a range
 
-pub sum-same : (f g : ℕ → ℕ) (n : ℕ) → ((k : ℕ) → k < n → f k ≡ g k) → sum f n ≡ sum g n
-sum-same f g zero h = refl
-sum-same f g (suc n) h = ap₂ _+_ (sum-same f g n (λ k l. h k (le-step l))) (h n (le-refl _))
+pub total-same : (f g : ℕ → ℕ) (n : ℕ) → ((k : ℕ) → k < n → f k ≡ g k) → total f n ≡ total g n
+total-same f g zero h = refl
+total-same f g (suc n) h = ap₂ _+_ (total-same f g n (λ k l. h k (le-step l))) (h n (le-refl _))
 
-sum-none : (f : ℕ → ℕ) (n : ℕ) → ((k : ℕ) → k < n → f k ≡ 0) → sum f n ≡ 0
-sum-none f zero h = refl
-sum-none f (suc n) h = ap₂ _+_ (sum-none f n (λ k l. h k (le-step l))) (h n (le-refl _))
+total-none : (f : ℕ → ℕ) (n : ℕ) → ((k : ℕ) → k < n → f k ≡ 0) → total f n ≡ 0
+total-none f zero h = refl
+total-none f (suc n) h = ap₂ _+_ (total-none f n (λ k l. h k (le-step l))) (h n (le-refl _))
 
 -- the first k, then the next j
-pub sum-more : (f : ℕ → ℕ) (k j : ℕ) → sum f (k + j) ≡ sum f k + sum (λ i. f (k + i)) j
-sum-more f k zero = rw (add-zero k) (sym (add-zero _))
-sum-more f k (suc j) = rw add-suc (omega (arith, sum-more f k j))
+pub total-more : (f : ℕ → ℕ) (k j : ℕ) → total f (k + j) ≡ total f k + total (λ i. f (k + i)) j
+total-more f k zero = rw (add-zero k) (sym (add-zero _))
+total-more f k (suc j) = rw add-suc (omega (arith, total-more f k j))
 
 -- ---- over a list
 
-pub total-append : (w : ℕ → ℕ) (xs ys : List ℕ) → total w (xs ++ ys) ≡ total w xs + total w ys
-total-append w [] ys = sym (zero-add _)
-total-append w (x ∷ xs) ys = omega (arith, total-append w xs ys)
+pub weighed-append : (w : ℕ → ℕ) (xs ys : List ℕ) → weighed w (xs ++ ys) ≡ weighed w xs + weighed w ys
+weighed-append w [] ys = sym (zero-add _)
+weighed-append w (x ∷ xs) ys = omega (arith, weighed-append w xs ys)
 
-pub total-gather : (w : ℕ → ℕ) (f : ℕ → List ℕ) (n : ℕ) → total w (gather f n) ≡ sum (λ k. total w (f k)) n
-total-gather w f zero = refl
-total-gather w f (suc n) = omega (arith, total-append w (gather f n) (f n), total-gather w f n)
+pub weighed-gather : (w : ℕ → ℕ) (f : ℕ → List ℕ) (n : ℕ) → weighed w (gather f n) ≡ total (λ k. weighed w (f k)) n
+weighed-gather w f zero = refl
+weighed-gather w f (suc n) = omega (arith, weighed-append w (gather f n) (f n), weighed-gather w f n)
 
-pub total-map : (w f : ℕ → ℕ) (xs : List ℕ) → total w (map f xs) ≡ total (λ x. w (f x)) xs
-total-map w f [] = refl
-total-map w f (x ∷ xs) = ap (λ (k : ℕ). w (f x) + k) (total-map w f xs)
+pub weighed-map : (w f : ℕ → ℕ) (xs : List ℕ) → weighed w (map f xs) ≡ weighed (λ x. w (f x)) xs
+weighed-map w f [] = refl
+weighed-map w f (x ∷ xs) = ap (λ (k : ℕ). w (f x) + k) (weighed-map w f xs)
 
 -- P at each item
 abbrev pub Each : (ℕ → Type 0) → List ℕ → Type 0
@@ -49,35 +49,35 @@ pub each-gather : (P : ℕ → Type 0) (f : ℕ → List ℕ) (n : ℕ) → ((k 
 each-gather P f zero h = tt
 each-gather P f (suc n) h = each-append P (gather f n) (f n) (each-gather P f n h) (h n)
 
-pub total-same : (w v : ℕ → ℕ) {P : ℕ → Type 0} → ((x : ℕ) → P x → w x ≡ v x) → (xs : List ℕ) → Each P xs → total w xs ≡ total v xs
-total-same w v h [] e = refl
-total-same w v h (x ∷ xs) e = ap₂ _+_ (h x (e .0)) (total-same w v h xs (e .1))
+pub weighed-same : (w v : ℕ → ℕ) {P : ℕ → Type 0} → ((x : ℕ) → P x → w x ≡ v x) → (xs : List ℕ) → Each P xs → weighed w xs ≡ weighed v xs
+weighed-same w v h [] e = refl
+weighed-same w v h (x ∷ xs) e = ap₂ _+_ (h x (e .0)) (weighed-same w v h xs (e .1))
 
-pub total-none : (w : ℕ → ℕ) {P : ℕ → Type 0} → ((x : ℕ) → P x → w x ≡ 0) → (xs : List ℕ) → Each P xs → total w xs ≡ 0
-total-none w h [] e = refl
-total-none w h (x ∷ xs) e = ap₂ _+_ (h x (e .0)) (total-none w h xs (e .1))
+pub weighed-none : (w : ℕ → ℕ) {P : ℕ → Type 0} → ((x : ℕ) → P x → w x ≡ 0) → (xs : List ℕ) → Each P xs → weighed w xs ≡ 0
+weighed-none w h [] e = refl
+weighed-none w h (x ∷ xs) e = ap₂ _+_ (h x (e .0)) (weighed-none w h xs (e .1))
 
 -- ---- over a square and a cube of cells
 
 abbrev pub square : (ℕ → ℕ → ℕ) → ℕ → ℕ
-square f n = sum (λ u. sum (f u) n) n
+square f n = total (λ u. total (f u) n) n
 
 abbrev pub cube : (ℕ → ℕ → ℕ → ℕ) → ℕ → ℕ
-cube f n = sum (λ x. square (f x) n) n
+cube f n = total (λ x. square (f x) n) n
 
 pub square-none : (f : ℕ → ℕ → ℕ) (n : ℕ) → ((u v : ℕ) → u < n → v < n → f u v ≡ 0) → square f n ≡ 0
-square-none f n h = sum-none _ n (λ u hu. sum-none _ n (λ v hv. h u v hu hv))
+square-none f n h = total-none _ n (λ u hu. total-none _ n (λ v hv. h u v hu hv))
 
 -- f and g differ in each cell of a row by what a and b say of its two ends: over the row, by what they say of the row's ends
 telescope : (f g a b : ℕ → ℕ) (n : ℕ) → ((k : ℕ) → k < n → f k + a (suc k) + b k ≡ g k + b (suc k) + a k)
-    → sum f n + a n + b 0 ≡ sum g n + b n + a 0
+    → total f n + a n + b 0 ≡ total g n + b n + a 0
 telescope f g a b zero h = omega arith
 telescope f g a b (suc n) h = omega (arith, telescope f g a b n (λ k l. h k (le-step l)), h n (le-refl _))
 
-sum-five : (f a b c d : ℕ → ℕ) (n : ℕ)
-    → sum (λ k. f k + (a k + b k) + (c k + d k)) n ≡ sum f n + (sum a n + sum b n) + (sum c n + sum d n)
-sum-five f a b c d zero = refl
-sum-five f a b c d (suc n) = omega (arith, sum-five f a b c d n)
+total-five : (f a b c d : ℕ → ℕ) (n : ℕ)
+    → total (λ k. f k + (a k + b k) + (c k + d k)) n ≡ total f n + (total a n + total b n) + (total c n + total d n)
+total-five f a b c d zero = refl
+total-five f a b c d (suc n) = omega (arith, total-five f a b c d n)
 
 -- what a says of the high faces of the cube and b of its low faces, where a d x y z is of the face at (x, y, z) across direction d
 abbrev pub border : (a b : ℕ → ℕ → ℕ → ℕ → ℕ) → ℕ → ℕ
@@ -91,7 +91,7 @@ module _ (f g : ℕ → ℕ → ℕ → ℕ) (a b : ℕ → ℕ → ℕ → ℕ 
     → f x y z + (a 0 (suc x) y z + b 0 x y z) + (a 1 x (suc y) z + b 1 x y z) + (a 2 x y (suc z) + b 2 x y z)
     ≡ g x y z + (b 0 (suc x) y z + a 0 x y z) + (b 1 x (suc y) z + a 1 x y z) + (b 2 x y (suc z) + a 2 x y z)) where
   row : (ℕ → ℕ → ℕ → ℕ) → ℕ → ℕ → ℕ
-  row h x y = sum (h x y) n
+  row h x y = total (h x y) n
 
   in-row : (x y : ℕ) → x < n → y < n
       → row f x y + (row (a 0) (suc x) y + row (b 0) x y) + (row (a 1) x (suc y) + row (b 1) x y) + (a 2 x y n + b 2 x y 0)
@@ -104,8 +104,8 @@ module _ (f g : ℕ → ℕ → ℕ → ℕ) (a b : ℕ → ℕ → ℕ → ℕ 
             (λ z. f x y z + (a 0 (suc x) y z + b 0 x y z) + (a 1 x (suc y) z + b 1 x y z))
             (λ z. g x y z + (b 0 (suc x) y z + a 0 x y z) + (b 1 x (suc y) z + a 1 x y z))
             (a 2 x y) (b 2 x y) n (λ z hz. omega (arith, cell x y z hx hy hz)),
-        sum-five (f x y) (a 0 (suc x) y) (b 0 x y) (a 1 x (suc y)) (b 1 x y) n,
-        sum-five (g x y) (b 0 (suc x) y) (a 0 x y) (b 1 x (suc y)) (a 1 x y) n,
+        total-five (f x y) (a 0 (suc x) y) (b 0 x y) (a 1 x (suc y)) (b 1 x y) n,
+        total-five (g x y) (b 0 (suc x) y) (a 0 x y) (b 1 x (suc y)) (a 1 x y) n,
       )
 
   slice : (ℕ → ℕ → ℕ → ℕ) → ℕ → ℕ
@@ -113,9 +113,9 @@ module _ (f g : ℕ → ℕ → ℕ → ℕ) (a b : ℕ → ℕ → ℕ → ℕ 
 
   in-slice : (x : ℕ) → x < n
       → slice f x + (slice (a 0) (suc x) + slice (b 0) x) + (row (a 1) x n + row (b 1) x 0)
-      + (sum (λ y. a 2 x y n) n + sum (λ y. b 2 x y 0) n)
+      + (total (λ y. a 2 x y n) n + total (λ y. b 2 x y 0) n)
       ≡ slice g x + (slice (b 0) (suc x) + slice (a 0) x) + (row (b 1) x n + row (a 1) x 0)
-      + (sum (λ y. b 2 x y n) n + sum (λ y. a 2 x y 0) n)
+      + (total (λ y. b 2 x y n) n + total (λ y. a 2 x y 0) n)
   unfolding row slice
   in-slice x hx =
       omega (
@@ -124,8 +124,8 @@ module _ (f g : ℕ → ℕ → ℕ → ℕ) (a b : ℕ → ℕ → ℕ → ℕ 
             (λ y. row f x y + (row (a 0) (suc x) y + row (b 0) x y) + (a 2 x y n + b 2 x y 0))
             (λ y. row g x y + (row (b 0) (suc x) y + row (a 0) x y) + (b 2 x y n + a 2 x y 0))
             (row (a 1) x) (row (b 1) x) n (λ y hy. omega (arith, in-row x y hx hy)),
-        sum-five (row f x) (row (a 0) (suc x)) (row (b 0) x) (λ y. a 2 x y n) (λ y. b 2 x y 0) n,
-        sum-five (row g x) (row (b 0) (suc x)) (row (a 0) x) (λ y. b 2 x y n) (λ y. a 2 x y 0) n,
+        total-five (row f x) (row (a 0) (suc x)) (row (b 0) x) (λ y. a 2 x y n) (λ y. b 2 x y 0) n,
+        total-five (row g x) (row (b 0) (suc x)) (row (a 0) x) (λ y. b 2 x y n) (λ y. a 2 x y 0) n,
       )
 
   pub telescope-cube : cube f n + border a b n ≡ cube g n + border b a n
@@ -134,9 +134,9 @@ module _ (f g : ℕ → ℕ → ℕ → ℕ) (a b : ℕ → ℕ → ℕ → ℕ 
       omega (
         arith,
         telescope
-            (λ x. slice f x + (row (a 1) x n + row (b 1) x 0) + (sum (λ y. a 2 x y n) n + sum (λ y. b 2 x y 0) n))
-            (λ x. slice g x + (row (b 1) x n + row (a 1) x 0) + (sum (λ y. b 2 x y n) n + sum (λ y. a 2 x y 0) n))
+            (λ x. slice f x + (row (a 1) x n + row (b 1) x 0) + (total (λ y. a 2 x y n) n + total (λ y. b 2 x y 0) n))
+            (λ x. slice g x + (row (b 1) x n + row (a 1) x 0) + (total (λ y. b 2 x y n) n + total (λ y. a 2 x y 0) n))
             (slice (a 0)) (slice (b 0)) n (λ x hx. omega (arith, in-slice x hx)),
-        sum-five (slice f) (λ x. row (a 1) x n) (λ x. row (b 1) x 0) (λ x. sum (λ y. a 2 x y n) n) (λ x. sum (λ y. b 2 x y 0) n) n,
-        sum-five (slice g) (λ x. row (b 1) x n) (λ x. row (a 1) x 0) (λ x. sum (λ y. b 2 x y n) n) (λ x. sum (λ y. a 2 x y 0) n) n,
+        total-five (slice f) (λ x. row (a 1) x n) (λ x. row (b 1) x 0) (λ x. total (λ y. a 2 x y n) n) (λ x. total (λ y. b 2 x y 0) n) n,
+        total-five (slice g) (λ x. row (b 1) x n) (λ x. row (a 1) x 0) (λ x. total (λ y. b 2 x y n) n) (λ x. total (λ y. a 2 x y 0) n) n,
       )

@@ -1,4 +1,4 @@
--- Counting: the numbers below a bound that pass a test, the total of a weight over a list, and lists that hold the same items in another order.
+-- Counting: the numbers below a bound that pass a test, the weighed of a weight over a list, and lists that hold the same items in another order.
 -- Assumes nothing.
 use mathlib.Core.Path.{_≡_, refl, sym, subst}
 use mathlib.Core.Logic.{_⊎_, inl, inr}
@@ -10,7 +10,7 @@ use native.Mathlib.Decide.{decLt}
 use native.Mathlib.Omega.{arith}
 use borrow.Author.Tests.{eqb-true}
 use lib.Dec.{T, eqb}
-use Rattle.tables.specs.Each.{both, both-left, both-right}
+use Rattle.laws.specs.Tests.{both, both-left, both-right}
 
 module _ {A : Type 0} where
   abbrev pub pick : Bool → A → A → A
@@ -144,22 +144,22 @@ matches [] [] = true
 matches [] (y ∷ ys) = false
 matches (x ∷ xs) ys = both (has x ys) (matches xs (without x ys))
 
-abbrev pub total : (ℕ → ℕ) → List ℕ → ℕ
-total w [] = 0
-total w (x ∷ xs) = w x + total w xs
+abbrev pub weighed : (ℕ → ℕ) → List ℕ → ℕ
+weighed w [] = 0
+weighed w (x ∷ xs) = w x + weighed w xs
 
--- then any weight has the same total over both
+-- then any weight has the same weighed over both
 module _ (w : ℕ → ℕ) where
   taken-at : (x y : ℕ) (ys : List ℕ) (b : Bool) → (b ≡ true → x ≡ y) → T (pick b true (has x ys))
-      → (T (has x ys) → total w ys ≡ total w (x ∷ without x ys)) → total w (y ∷ ys) ≡ total w (x ∷ pick b ys (y ∷ without x ys))
+      → (T (has x ys) → weighed w ys ≡ weighed w (x ∷ without x ys)) → weighed w (y ∷ ys) ≡ weighed w (x ∷ pick b ys (y ∷ without x ys))
   taken-at x y ys true e t i = rw (e refl) refl
   taken-at x y ys false e t i = omega (arith, i t)
 
-  taken : (x : ℕ) (ys : List ℕ) → T (has x ys) → total w ys ≡ total w (x ∷ without x ys)
+  taken : (x : ℕ) (ys : List ℕ) → T (has x ys) → weighed w ys ≡ weighed w (x ∷ without x ys)
   taken x [] t = absurd t
   taken x (y ∷ ys) t = taken-at x y ys (eqb x y) (eqb-true x y) t (taken x ys)
 
-  pub matched : (xs ys : List ℕ) → T (matches xs ys) → total w xs ≡ total w ys
+  pub matched : (xs ys : List ℕ) → T (matches xs ys) → weighed w xs ≡ weighed w ys
   matched [] [] t = refl
   matched [] (y ∷ ys) t = absurd t
   matched (x ∷ xs) ys t = omega (arith, matched xs (without x ys) (both-right _ _ t), taken x ys (both-left _ _ t))

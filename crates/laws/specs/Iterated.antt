@@ -1,11 +1,9 @@
--- Laws of a step that is taken again and again, and of a list that is made item by item.
-use Prim.Native.Nat.{ℕ, zero, suc, _+_, _-_, _≤_}
-use mathlib.Core.Path.{_≡_, refl, ap, _∙_}
+-- Laws of a step that is taken again and again: what it keeps, what it only adds to, and steps that change nothing. Assumes nothing.
+use Prim.Native.Nat.{ℕ, zero, suc, _+_, _-_, _≤_, _<_}
+use mathlib.Core.Path.{_≡_, refl, sym, _∙_}
 use native.Mathlib.Nat.{add-zero, add-suc, le-refl, le-trans}
-use native.Mathlib.Numerals.{add-one}
 use native.Mathlib.Omega.{arith}
-use lib.ListN.{length, length-append}
-use Rattle.model.specs.Steps.{iterate, listed}
+use Rattle.laws.specs.Steps.{iterate}
 
 module _ {A : Type 0} (measure : A → ℕ) (step : ℕ → A → A) where
   -- what a step keeps, many steps keep
@@ -24,10 +22,14 @@ module _ {A : Type 0} (measure : A → ℕ) (step : ℕ → A → A) where
         let e : k ≡ j + (k - j) = omega arith in
         rw e (iterate-on j (k - j))
 
-pub length-listed : {A : Type 0} (f : ℕ → A) (k : ℕ) → length (listed f k) ≡ k
-length-listed f zero = refl
-length-listed f (suc k) = rw (length-append, add-one) (ap suc (length-listed f k))
+-- steps that change nothing are stepped over
+module _ {A : Type 0} (f : ℕ → A → A) (a : A) where
+  skip : (from k : ℕ) → ((i : ℕ) → from ≤ i → i < from + k → (a : A) → f i a ≡ a) → iterate f (from + k) a ≡ iterate f from a
+  skip from zero h = rw add-zero
+  skip from (suc k) h =
+      rw add-suc (h (from + k) (omega arith) (omega arith) (iterate f (from + k) a) ∙ skip from k (λ i l u. h i l (omega arith)))
 
-pub listed-same : {A : Type 0} (f g : ℕ → A) → ((k : ℕ) → f k ≡ g k) → (k : ℕ) → listed f k ≡ listed g k
-listed-same f g same zero = refl
-listed-same f g same (suc k) = rw (listed-same f g same k, same k)
+  pub steps-skip : (from next : ℕ) → from ≤ next → ((i : ℕ) → from ≤ i → i < next → (a : A) → f i a ≡ a) → iterate f from a ≡ iterate f next a
+  steps-skip from next l h =
+      let e : next ≡ from + (next - from) = omega arith in
+      rw e (sym (skip from (next - from) (λ i a b. h i a (omega arith))))

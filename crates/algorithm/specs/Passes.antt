@@ -8,15 +8,15 @@ use lib.ListN.{length, take}
 use Rattle.model.specs.declared.Counts.{Counts}
 use Rattle.model.specs.declared.Verdict.{Verdict}
 use Rattle.model.specs.declared.Extraction.{Extraction}
-use Rattle.model.specs.Steps.{each}
+use Rattle.laws.specs.Steps.{each}
 use Rattle.model.specs.Refusals.{orElse}
 use Rattle.model.specs.Sides.{named}
-use Rattle.model.specs.Points.{Star, subdivisions}
+use Rattle.model.specs.Star.{Star, subdivisions}
 use Rattle.model.specs.Mesh.{Mesh, storeLength, meshOf}
-use Rattle.model.specs.Judging.{judgeFaces, judgeStore, judgeRoom}
-use Rattle.model.specs.Extraction.{vertexFloats, triangleIndices, judgeStar, Outcome, outcome}
+use Rattle.model.specs.Judging.{judgeFaces, judgeStore, judgeRoom, judgeStar}
+use Rattle.model.specs.Extraction.{vertexFloats, triangleIndices, Outcome, outcome}
 use Rattle.cases.specs.Columns.{Columns, FineColumns}
-use Rattle.cells.specs.Posts.{Room}
+use Rattle.cells.specs.Puts.{Room}
 
 -- 1 to 9, in that order
 abbrev pub judged : Star → ℕ → Verdict

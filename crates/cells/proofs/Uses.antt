@@ -12,29 +12,29 @@ use Rattle.tables.specs.Codes.{isNew, reuseIndex}
 use Rattle.model.specs.declared.Xyz.{Xyz}
 use Rattle.model.specs.declared.FacePoint.{FacePoint}
 use Rattle.model.specs.declared.Vertex.{Vertex}
-use Rattle.model.specs.Points.{Star, subdivisions}
-use Rattle.model.specs.Mesh.{Turn, madeBy, regularTurn, transitionTurn}
+use Rattle.model.specs.Star.{Star, subdivisions}
+use Rattle.model.specs.Mesh.{CodeUse, madeBy, regularUse, transitionUse}
 use Rattle.model.specs.Extraction.{vertexFloats}
 use Rattle.cells.specs.declared.CellIndex.{CellIndex}
 use Rattle.cells.specs.declared.CellIndex.the-variants.{Regular, Transition}
 use Rattle.cells.specs.Buffers.{layVertices}
-use Rattle.cells.specs.Laying.{lay-none}
-use Rattle.cells.specs.Kinds.{turnAt, makesAt, backFrom, placeAt, InBlock, OnSide, Placed, slots, Usable}
-use Rattle.cells.specs.Posts.{TurnPut}
+use Rattle.laws.specs.Laying.{lay-none}
+use Rattle.cells.specs.Kinds.{useAt, makesAt, backFrom, placeAt, InBlock, OnSide, Placed, slots, Usable}
+use Rattle.cells.specs.Puts.{CodePut}
 use Rattle.cells.proofs.Staying.{neither}
 
--- ---- any turn
+-- ---- any use of a code
 
-module _ (t : Turn) (next : ℕ) (vertices : List Float) (store : List ℕ) where
-  turn-made : t .makes ≡ true → (vertices′ : List Float) (store′ : List ℕ)
+module _ (t : CodeUse) (next : ℕ) (vertices : List Float) (store : List ℕ) where
+  use-made : t .makes ≡ true → (vertices′ : List Float) (store′ : List ℕ)
       → vertices′ ≡ layVertices vertices next (t .made ∷ []) → store′ ≡ cond (t .stores) (set store (t .place) next) store
-      → TurnPut t next vertices store next (next + 1) vertices′ store′
-  turn-made m vertices′ store′ v e =
+      → CodePut t next vertices store next (next + 1) vertices′ store′
+  use-made m vertices′ store′ v e =
       let one : madeBy t ≡ t .made ∷ [] = rw m in
       record { index-is = rw m; next-is = rw one; vertices-are = rw one v; store-is = e }
 
-  turn-taken : t .makes ≡ false → t .stores ≡ false → TurnPut t next vertices store (getD store (t .place) 0) next vertices store
-  turn-taken m k =
+  use-taken : t .makes ≡ false → t .stores ≡ false → CodePut t next vertices store (getD store (t .place) 0) next vertices store
+  use-taken m k =
       let none : madeBy t ≡ [] = rw m in
       record {
         index-is = rw m;
@@ -43,23 +43,23 @@ module _ (t : Turn) (next : ℕ) (vertices : List Float) (store : List ℕ) wher
         store-is = rw k;
       }
 
--- ---- the turn of a code
+-- ---- what a code comes to
 
-pub turn-makes : (s : Star) (at : CellIndex) (code : ℕ) → turnAt s at code .makes ≡ makesAt at code
-unfolding regularTurn transitionTurn
-turn-makes s (Regular at) code = refl
-turn-makes s (Transition at) code = refl
+pub use-makes : (s : Star) (at : CellIndex) (code : ℕ) → useAt s at code .makes ≡ makesAt at code
+unfolding regularUse transitionUse
+use-makes s (Regular at) code = refl
+use-makes s (Transition at) code = refl
 
-turn-stores : (s : Star) (at : CellIndex) (code : ℕ) → turnAt s at code .stores ≡ eqb (isNew code) 1
-unfolding regularTurn transitionTurn
-turn-stores s (Regular at) code = refl
-turn-stores s (Transition at) code = refl
+use-stores : (s : Star) (at : CellIndex) (code : ℕ) → useAt s at code .stores ≡ eqb (isNew code) 1
+unfolding regularUse transitionUse
+use-stores s (Regular at) code = refl
+use-stores s (Transition at) code = refl
 
-turn-place : (s : Star) (at : CellIndex) (code : ℕ) → turnAt s at code .place
+use-place : (s : Star) (at : CellIndex) (code : ℕ) → useAt s at code .place
     ≡ cond (eqb (isNew code) 1) (placeAt (subdivisions s) at (reuseIndex code)) (placeAt (subdivisions s) (backFrom at code) (reuseIndex code))
-unfolding regularTurn transitionTurn
-turn-place s (Regular at) code = refl
-turn-place s (Transition at) code = refl
+unfolding regularUse transitionUse
+use-place s (Regular at) code = refl
+use-place s (Transition at) code = refl
 
 pub kept-old : (at : CellIndex) (code : ℕ) → makesAt at code ≡ false → eqb (isNew code) 1 ≡ false
 kept-old (Regular at) code e = neither _ _ e .0
@@ -92,45 +92,45 @@ module _ (code : ℕ) where
       go (Regular at) h = h
       go (Transition at) h = h
 
-made-by-test : (t : Turn) (makes : Bool) → t .makes ≡ makes → length (madeBy t) ≡ cond makes 1 0
+made-by-test : (t : CodeUse) (makes : Bool) → t .makes ≡ makes → length (madeBy t) ≡ cond makes 1 0
 made-by-test t true e = rw e
 made-by-test t false e = rw e
 
-pub turn-count : (s : Star) (at : CellIndex) (code : ℕ) → length (madeBy (turnAt s at code)) ≡ cond (makesAt at code) 1 0
-turn-count s at code = made-by-test (turnAt s at code) (makesAt at code) (turn-makes s at code)
+pub use-count : (s : Star) (at : CellIndex) (code : ℕ) → length (madeBy (useAt s at code)) ≡ cond (makesAt at code) 1 0
+use-count s at code = made-by-test (useAt s at code) (makesAt at code) (use-makes s at code)
 
 pub one-made : (s : Star) (at : CellIndex) (code : ℕ) (makes : Bool) → makes ≡ makesAt at code → makes ≡ true
-    → length (madeBy (turnAt s at code)) ≡ 1
-one-made s at code makes makes-is m = made-by-test (turnAt s at code) true (turn-makes s at code ∙ sym makes-is ∙ m)
+    → length (madeBy (useAt s at code)) ≡ 1
+one-made s at code makes makes-is m = made-by-test (useAt s at code) true (use-makes s at code ∙ sym makes-is ∙ m)
 
 module _ (s : Star) (at : CellIndex) (code next r : ℕ) (vertices : List Float) (store : List ℕ)
     (makes : Bool) (makes-is : makes ≡ makesAt at code) (r-is : r ≡ reuseIndex code) where
-  module _ (vertices′ : List Float) (v : Vertex) (new : Bool) (v-is : v ≡ turnAt s at code .made .vertex)
+  module _ (vertices′ : List Float) (v : Vertex) (new : Bool) (v-is : v ≡ useAt s at code .made .vertex)
       (put : (edge : ℕ) → vertices′ ≡ layVertices vertices next (record { vertex = v; edge = edge } ∷ []))
       (new-is : new ≡ eqb (isNew code) 1) (m : makes ≡ true) where
     pub code-stored : (p : ℕ) → p ≡ placeAt (subdivisions s) at r → new ≡ true
-        → TurnPut (turnAt s at code) next vertices store next (next + 1) vertices′ (set store p next)
+        → CodePut (useAt s at code) next vertices store next (next + 1) vertices′ (set store p next)
     code-stored p p-is e =
-        let t = turnAt s at code in
-        let stores : t .stores ≡ true = turn-stores s at code ∙ sym new-is ∙ e in
+        let t = useAt s at code in
+        let stores : t .stores ≡ true = use-stores s at code ∙ sym new-is ∙ e in
         let fresh : eqb (isNew code) 1 ≡ true = sym new-is ∙ e in
-        let place : t .place ≡ placeAt (subdivisions s) at (reuseIndex code) = rw fresh at (turn-place s at code) in
-        turn-made t next vertices store (turn-makes s at code ∙ sym makes-is ∙ m) vertices′ (set store p next)
+        let place : t .place ≡ placeAt (subdivisions s) at (reuseIndex code) = rw fresh at (use-place s at code) in
+        use-made t next vertices store (use-makes s at code ∙ sym makes-is ∙ m) vertices′ (set store p next)
         (rw v-is at (put (t .made .edge))) (rw stores (cc))
 
-    pub code-loose : new ≡ false → TurnPut (turnAt s at code) next vertices store next (next + 1) vertices′ store
+    pub code-loose : new ≡ false → CodePut (useAt s at code) next vertices store next (next + 1) vertices′ store
     code-loose e =
-        let t = turnAt s at code in
-        let stores : t .stores ≡ false = turn-stores s at code ∙ sym new-is ∙ e in
-        turn-made t next vertices store (turn-makes s at code ∙ sym makes-is ∙ m) vertices′ store
+        let t = useAt s at code in
+        let stores : t .stores ≡ false = use-stores s at code ∙ sym new-is ∙ e in
+        use-made t next vertices store (use-makes s at code ∙ sym makes-is ∙ m) vertices′ store
         (rw v-is at (put (t .made .edge))) (rw stores)
 
   pub code-taken : (p : ℕ) (from : CellIndex) → from ≡ backFrom at code → p ≡ placeAt (subdivisions s) from r → makes ≡ false
-      → TurnPut (turnAt s at code) next vertices store (getD store p 0) next vertices store
+      → CodePut (useAt s at code) next vertices store (getD store p 0) next vertices store
   code-taken p from from-is p-is m =
-      let t = turnAt s at code in
+      let t = useAt s at code in
       let kept : makesAt at code ≡ false = sym makes-is ∙ m in
       let old = kept-old at code kept in
-      let place : t .place ≡ placeAt (subdivisions s) (backFrom at code) (reuseIndex code) = rw old at (turn-place s at code) in
+      let place : t .place ≡ placeAt (subdivisions s) (backFrom at code) (reuseIndex code) = rw old at (use-place s at code) in
       let e : p ≡ t .place = cc in
-      rw e (turn-taken t next vertices store (turn-makes s at code ∙ kept) (turn-stores s at code ∙ old))
+      rw e (use-taken t next vertices store (use-makes s at code ∙ kept) (use-stores s at code ∙ old))

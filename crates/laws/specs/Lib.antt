@@ -1,0 +1,10 @@
+-- the words that other definitions are said in
+pub mod Steps
+-- what holds of them
+pub mod Iterated
+pub mod Lists
+pub mod Laying
+pub mod Sums
+-- tests as Bools, and counting what passes one
+pub mod Tests
+pub mod Counting
