@@ -8,7 +8,7 @@ use lib.Dec.{T, eqb, leb, T-not}
 use lib.IntN.{ℤ}
 use lib.Ieee.{Float, nan}
 use lib.ListN.{length, getD, take, drop}
-use Rattle.tables.specs.Each.{eq→eqb, both, both-left, both-right}
+use Rattle.laws.specs.Tests.{eq→eqb, both, both-left, both-right}
 use Rattle.model.specs.declared.Block.{Block}
 use Rattle.model.specs.declared.Counts.{Counts}
 use Rattle.model.specs.declared.Header.{Header}
@@ -19,10 +19,11 @@ use Rattle.model.specs.declared.Verdict.the-variants.{Passed, Refused}
 use Rattle.model.specs.Sides.{named, namedBelow, neighbourLength, neighboursLength}
 use Rattle.model.specs.Refusals.{numbersOf, unless, orElse, first}
 use Rattle.model.specs.Samples.{sampleLength, sampled, oneUp}
-use Rattle.model.specs.Points.{Star, star, subdivisions}
+use Rattle.model.specs.Limits.{mostSubdivisions, mostMask, sideCount}
+use Rattle.model.specs.Star.{Star, star, subdivisions}
 use Rattle.model.specs.Mesh.{storeLength}
-use Rattle.model.specs.Judging.{mostSubdivisions, judgeSubdivisions, judgeMask, measureUsable, judgeMeasures, judgeCentre, sideThere, judgeMissing, judgeBuffer, usable, sampleUsable, judgeSamples, facesAgree, faceSpot, faceRow, judgeFaces}
-use Rattle.model.specs.Extraction.{judgeStar, judgeExtraction}
+use Rattle.model.specs.Judging.{judgeStar, judgeSubdivisions, judgeMask, measureUsable, judgeMeasures, judgeCentre, sideThere, judgeMissing, judgeBuffer, usable, sampleUsable, judgeSamples, facesAgree, faceSpot, faceRow, judgeFaces}
+use Rattle.model.specs.Extraction.{judgeExtraction}
 use Rattle.model.specs.Record.{headerLength, wordAt, headerOf, countOf, samplesOf, judgeRecord}
 use Rattle.judge.specs.First.{or-else-assoc, or-else-passed}
 use Rattle.promises.specs.Promises.{Judge, inOrder, Numbered, Lent, counts, blockJudges, extractionJudges, writingJudges, recordJudges, readingJudges, pointJudge, pointJudges, sampleJudges}
@@ -49,7 +50,7 @@ reading-in-order bytes samples = simp (or-else-assoc, or-else-passed)
 
 pub writing-in-order : (h : Header) (centre neighbours : List Float) (bytes : List ℕ)
     → inOrder (writingJudges h centre neighbours bytes)
-    ≡ orElse (judgeStar (star (h .block) (h .mask) (h .threshold) centre neighbours))
+    ≡ orElse (judgeStar (star h centre neighbours))
     (judgeBuffer (headerLength + 4 * length (centre ++ neighbours)) (length bytes))
 unfolding judgeStar
 writing-in-order h centre neighbours bytes = simp (or-else-assoc, or-else-passed)
@@ -104,7 +105,7 @@ missing-number n mask held =
     by-first 5 (sideThere n mask held)
     (λ side.
         if-named 5 (named mask side) _ (by-unless (leb ((namedBelow mask side + 1) * neighbourLength n) held) (MissingNeighbour side)))
-    6
+    sideCount
 
 samples-number : (samples : List Float) → Refuses 7 (judgeSamples samples)
 unfolding judgeSamples
@@ -118,13 +119,13 @@ faces-number s =
         if-named 8 (named (s .mask) side) _
         (by-first 8 (λ u. faceRow s side u (subdivisions s + 1))
         (λ u. by-first 8 (faceSpot s side u) (λ v. by-unless (facesAgree s side u v) (FaceMismatch (record { side = side; u = u; v = v }))) (subdivisions s + 1)) (subdivisions s + 1)))
-    6
+    sideCount
 
 subdivisions-number : (n : ℕ) → Refuses 1 (judgeSubdivisions n)
 subdivisions-number n = by-unless (leb 1 n && leb n mostSubdivisions) (Subdivisions n)
 
 mask-number : (mask : ℕ) → Refuses 2 (judgeMask mask)
-mask-number mask = by-unless (leb mask 63) (Mask mask)
+mask-number mask = by-unless (leb mask mostMask) (Mask mask)
 
 centre-number : (n held : ℕ) → Refuses 4 (judgeCentre n held)
 centre-number n held = by-unless (eqb held (sampleLength n)) (CentreLength (sampleLength n))
@@ -166,7 +167,7 @@ extraction-numbered s lent =
 
 pub writing-numbered : (h : Header) (centre neighbours : List Float) (bytes : List ℕ) → Numbered (writingJudges h centre neighbours bytes)
 writing-numbered h centre neighbours bytes =
-    let s = star (h .block) (h .mask) (h .threshold) centre neighbours in
+    let s = star h centre neighbours in
     numbered-append (blockJudges s) (drop 7 (writingJudges h centre neighbours bytes)) (block-numbered s)
     (buffer-number (headerLength + 4 * length (centre ++ neighbours)) (length bytes), tt)
 

@@ -24,13 +24,14 @@ use Rattle.model.specs.declared.Extraction.the-variants as Extraction
 use Rattle.model.specs.declared.PointRead.the-variants as PointRead
 use Rattle.model.specs.declared.RecordRead.the-variants as RecordRead
 use Rattle.model.specs.declared.RecordWritten.the-variants as RecordWritten
-use Rattle.model.specs.Steps.{laid, each}
+use Rattle.laws.specs.Steps.{laid, each}
+use Rattle.laws.specs.Lists.{length-listed, length-each}
 use Rattle.model.specs.Samples.{sampled, valueAt, readingAt, oneUp}
 use Rattle.model.specs.Refusals.{numbersOf, unless, orElse}
-use Rattle.model.specs.Points.{Star, star, subdivisions}
-use Rattle.model.specs.Judging.{judgeSubdivisions, judgeCentre, judgeFaces, judgeStore, judgeRoom, judgeBuffer}
+use Rattle.model.specs.Star.{Star, star, subdivisions}
+use Rattle.model.specs.Judging.{judgeStar, judgeSubdivisions, judgeCentre, judgeFaces, judgeStore, judgeRoom, judgeBuffer}
 use Rattle.model.specs.Mesh.{Mesh, storeLength, regularMesh, meshOf}
-use Rattle.model.specs.Extraction.{vertexFloats, triangleIndices, Outcome, judgeStar, judgeExtraction, outcome, extract, pointAnswer, readPoint}
+use Rattle.model.specs.Extraction.{vertexFloats, triangleIndices, Outcome, judgeExtraction, outcome, extract, pointAnswer, readPoint}
 use Rattle.model.specs.Record.{headerLength, wordBytes, floatBytes, floatAt, headerOf, countOf, samplesOf, judgeRecord, ReadOutcome, readAnswer, readRecord, recordOf, WriteOutcome, writeAnswer, writeRecord}
 use Rattle.model.specs.Viewer.{packed, subdivisionsAnswer, blankOf, blankAnswer, sampleBits, sampleAnswer}
 use Rattle.model.specs.Figures.{figures-agree}
@@ -39,7 +40,7 @@ use Rattle.record.specs.RoundTrip.{read-write, write-read}
 use Rattle.closed.specs.Front.{regular-first, store-long, none-named}
 use Rattle.promises.specs.Promises.{inOrder, Judged, Packed, Lent, answered, left, counts, extractionJudges, writingJudges, recordJudges, readingJudges, pointJudges, sampleJudges, pointValue, Laid, EqualMesh, NoHoleIsLeft, Promises}
 use Rattle.promises.specs.Judges.{record-in-order, reading-in-order, writing-in-order, point-in-order, sample-in-order, extraction-in-order, extraction-numbered, writing-numbered, record-numbered, reading-numbered, point-numbered, sample-numbered, no-room}
-use Rattle.promises.specs.Buffers.{is-laid, length-listed, length-each}
+use Rattle.promises.specs.Buffers.{is-laid}
 use Rattle.promises.specs.Surface.{no-hole-left}
 
 -- ---- extraction
@@ -210,7 +211,7 @@ module _ (h : Header) (centre neighbours : List Float) (bytes : List ℕ) where
 
   abbrev writtenVerdict : Verdict
   writtenVerdict =
-      orElse (judgeStar (star (h .block) (h .mask) (h .threshold) centre neighbours)) (judgeBuffer (headerLength + 4 * length all) (length bytes))
+      orElse (judgeStar (star h centre neighbours)) (judgeBuffer (headerLength + 4 * length all) (length bytes))
 
   write-refused : (v : Verdict) (r : Refusal) → (written v .answer ≡ RecordWritten.Refused r) ↔ (v ≡ Refused r)
   write-refused Passed r = (λ e. cc, λ e. cc)
@@ -249,7 +250,7 @@ module _ (h : Header) (centre neighbours : List Float) (bytes : List ℕ) where
   bytes-laid k e =
       let a = write-answered writtenVerdict k e in
       let wanted = headerLength + 4 * length all in
-      let fits = leb-true wanted (length bytes) (unless-passed _ (BufferTooShort wanted) (both-passed (judgeStar (star (h .block) (h .mask) (h .threshold) centre neighbours)) _ (a .0) .1)) in
+      let fits = leb-true wanted (length bytes) (unless-passed _ (BufferTooShort wanted) (both-passed (judgeStar (star h centre neighbours)) _ (a .0) .1)) in
       rw (a .1) (subst (Laid wanted (recordOf h all) bytes) (sym (ap (λ (v : Verdict). written v .bytes) (a .0))) (is-laid _ _ _ record-long fits))
 
 -- ---- points, and the viewer's calls

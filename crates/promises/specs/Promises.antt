@@ -23,12 +23,12 @@ use Rattle.model.specs.declared.Extraction.the-variants as Extraction
 use Rattle.model.specs.declared.PointRead.the-variants as PointRead
 use Rattle.model.specs.declared.RecordRead.the-variants as RecordRead
 use Rattle.model.specs.declared.RecordWritten.the-variants as RecordWritten
-use Rattle.model.specs.Steps.{listed, each, laid}
+use Rattle.laws.specs.Steps.{listed, each, laid}
 use Rattle.model.specs.Samples.{sampleLength, sampled, valueAt, oneUp}
 use Rattle.model.specs.Sides.{neighboursLength}
 use Rattle.model.specs.Formulas.{vector}
 use Rattle.model.specs.Refusals.{numbersOf, unless, orElse}
-use Rattle.model.specs.Points.{Star, star, subdivisions}
+use Rattle.model.specs.Star.{Star, star, subdivisions}
 use Rattle.model.specs.Judging.{judgeSubdivisions, judgeMask, judgeMeasures, judgeCentre, judgeMissing, judgeTooLong, judgeSamples, judgeFaces, judgeStore, judgeRoom, judgeBuffer}
 use Rattle.model.specs.Mesh.{Mesh, storeLength, regularMesh, meshOf}
 use Rattle.model.specs.Extraction.{vertexFloats, triangleIndices, extract, readPoint}
@@ -110,7 +110,7 @@ extractionJudges s lent =
 
 abbrev pub writingJudges : Header → List Float → List Float → List ℕ → List Judge
 writingJudges h centre neighbours bytes =
-    blockJudges (star (h .block) (h .mask) (h .threshold) centre neighbours) ++
+    blockJudges (star h centre neighbours) ++
     judge 14 (judgeBuffer (headerLength + 4 * length (centre ++ neighbours)) (length bytes)) ∷
     []
 

@@ -8,16 +8,17 @@ use mathlib.Core.List.{List, _++_}
 use lib.Ieee.{Float, nan}
 use lib.ListN.{length, getD, drop, length-append, List·getD-append}
 use Rattle.model.specs.declared.Triangle.{Triangle}
-use Rattle.model.specs.Steps.{each, laid}
+use Rattle.laws.specs.Steps.{each, laid}
+use Rattle.laws.specs.Lists.{length-each, listed-is}
 use Rattle.model.specs.Formulas.{vector}
-use Rattle.model.specs.Points.{Star}
+use Rattle.model.specs.Star.{Star}
 use Rattle.model.specs.Mesh.{Made, Mesh, regularMesh, meshOf}
 use Rattle.model.specs.Extraction.{vertexFloats, triangleIndices}
 use Rattle.closed.specs.Clauses.{noVertex, edgeAt, noTriangle, sides, runs, OwnVertex, NoHole}
 use Rattle.closed.specs.NoHole.{no-hole}
 use Rattle.closed.specs.Front.{regular-first}
 use Rattle.promises.specs.Promises.{Lent, numberIn, cornerIn, vertexIn, triangleIn, regularPart}
-use Rattle.promises.specs.Buffers.{each-at, length-each, listed-is}
+use Rattle.promises.specs.Buffers.{each-at}
 
 -- place j of item k of what is laid into a buffer
 module _ {A B : Type 0} (f : A → List B) (w : ℕ) (wide : (a : A) → length (f a) ≡ w) (l : List A) (before after : List B)
