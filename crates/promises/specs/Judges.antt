@@ -104,7 +104,7 @@ unfolding judgeMissing
 missing-number n mask held =
     by-first 5 (sideThere n mask held)
     (λ side.
-        if-named 5 (named mask side) _ (by-unless (leb ((namedBelow mask side + 1) * neighbourLength n) held) (MissingNeighbour side)))
+    if-named 5 (named mask side) _ (by-unless (leb ((namedBelow mask side + 1) * neighbourLength n) held) (MissingNeighbour side)))
     sideCount
 
 samples-number : (samples : List Float) → Refuses 7 (judgeSamples samples)
@@ -116,9 +116,9 @@ unfolding judgeFaces
 faces-number s =
     by-first 8 _
     (λ side.
-        if-named 8 (named (s .mask) side) _
-        (by-first 8 (λ u. faceRow s side u (subdivisions s + 1))
-        (λ u. by-first 8 (faceSpot s side u) (λ v. by-unless (facesAgree s side u v) (FaceMismatch (record { side = side; u = u; v = v }))) (subdivisions s + 1)) (subdivisions s + 1)))
+    if-named 8 (named (s .mask) side) _
+    (by-first 8 (λ u. faceRow s side u (subdivisions s + 1))
+    (λ u. by-first 8 (faceSpot s side u) (λ v. by-unless (facesAgree s side u v) (FaceMismatch (record { side = side; u = u; v = v }))) (subdivisions s + 1)) (subdivisions s + 1)))
     sideCount
 
 subdivisions-number : (n : ℕ) → Refuses 1 (judgeSubdivisions n)
@@ -153,8 +153,7 @@ block-numbered s =
 
 pub extraction-numbered : (s : Star) (lent : Lent) → Numbered (extractionJudges s lent)
 extraction-numbered s lent =
-    numbered-append (blockJudges s) (drop 7 (extractionJudges s lent)) (block-numbered s)
-    (
+    numbered-append (blockJudges s) (drop 7 (extractionJudges s lent)) (block-numbered s) (
       faces-number s,
       (
         by-unless (leb (storeLength (subdivisions s)) (length (lent .store))) (IndexStoreTooShort (storeLength (subdivisions s))),

@@ -63,13 +63,13 @@ module _ (s : Star) (b : Lent) (vertices : List Float) (triangles : List ℕ)
       → _≡_ {A = Made} (record { vertex = vertexIn b i; edge = edgeAt (meshOf s .made) i }) (getD (meshOf s .made) i noVertex)
   vertex-is i h =
       λ j.
-          record {
-            vertex = record {
-              position = vector (number-is i 0 h (omega arith) j) (number-is i 1 h (omega arith) j) (number-is i 2 h (omega arith) j);
-              gradient = vector (number-is i 3 h (omega arith) j) (number-is i 4 h (omega arith) j) (number-is i 5 h (omega arith) j);
-            };
-            edge = edgeAt (meshOf s .made) i;
-          }
+      record {
+        vertex = record {
+          position = vector (number-is i 0 h (omega arith) j) (number-is i 1 h (omega arith) j) (number-is i 2 h (omega arith) j);
+          gradient = vector (number-is i 3 h (omega arith) j) (number-is i 4 h (omega arith) j) (number-is i 5 h (omega arith) j);
+        };
+        edge = edgeAt (meshOf s .made) i;
+      }
 
   corner-is : (t k : ℕ) → t < length (meshOf s .triangles) → k < 3 → cornerIn b t k ≡ getD (triangleIndices (getD (meshOf s .triangles) t noTriangle)) k 0
   corner-is t k h small = laid-at triangleIndices 3 (λ m. refl) (meshOf s .triangles) triangles (b .triangles) triangles-left t k noTriangle 0 h small
@@ -89,8 +89,8 @@ module _ (s : Star) (b : Lent) (vertices : List Float) (triangles : List ℕ)
       let f = regular-first s in
       listed-is _ (regularMesh s .triangles) noTriangle
       (λ t h.
-          let r = begun-at (meshOf s .triangles) (regularMesh s .triangles) (f .triangles) noTriangle t (f .triangles-are) h in
-          triangle-is t (r .0) ∙ r .1)
+      let r = begun-at (meshOf s .triangles) (regularMesh s .triangles) (f .triangles) noTriangle t (f .triangles-are) h in
+      triangle-is t (r .0) ∙ r .1)
 
   pub no-hole-left : NoHole s (regularPart s b)
   no-hole-left = as-surface s (regularMesh s) _ _ (b .store) (sym made-back) (sym triangles-back) (no-hole s)
