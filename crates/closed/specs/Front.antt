@@ -8,8 +8,9 @@ use lib.ListN.{length, set, length-set}
 use Rattle.model.specs.declared.Triangle.{Triangle}
 use Rattle.model.specs.Sides.{named}
 use Rattle.laws.specs.Steps.{iterate}
+use Rattle.laws.specs.Iterated.{iterate-keeps}
 use Rattle.model.specs.Star.{Star, subdivisions}
-use Rattle.model.specs.Mesh.{Made, CodeUse, Cell, Fill, Mesh, fillStep, fillTo, storeLength, cellStep, transitionCell, transitionRow, transitionSide, regularMesh, meshOf}
+use Rattle.model.specs.Mesh.{Made, Cell, Fill, Mesh, fillStep, fillTo, storeLength, cellStep, transitionCell, transitionRow, transitionSide, regularMesh, meshOf}
 use Rattle.closed.specs.Whole.{whole}
 
 pub record Begins (first all : Mesh) : Type 0 where
@@ -37,17 +38,15 @@ then-added {a} p q =
     }
 
 -- a cell's codes keep the store's length
+stored-long : (b : Bool) (l : List ℕ) (i v : ℕ) → length (cond b (set l i v) l) ≡ length l
+stored-long true l i v = length-set l i v
+stored-long false l i v = refl
+
 filled-long : (c : Cell) (base : ℕ) (store : List ℕ) (k : ℕ) → length (fillTo c base store k .store) ≡ length store
 unfolding fillTo fillStep
-filled-long c base store zero = refl
-filled-long c base store (suc k) = go (c .uses k) (fillTo c base store k) (filled-long c base store k)
-  where
-    stored : (b : Bool) (l : List ℕ) (i v : ℕ) → length (cond b (set l i v) l) ≡ length l
-    stored true l i v = length-set l i v
-    stored false l i v = refl
-
-    go : (t : CodeUse) (f : Fill) → length (f .store) ≡ length store → length (fillStep t (base + length (f .made)) f .store) ≡ length store
-    go t f e = stored (t .stores) (f .store) (t .place) (base + length (f .made)) ∙ e
+filled-long c base store =
+    iterate-keeps (λ (f : Fill). length (f .store)) (λ i f. fillStep (c .uses i) (base + length (f .made)) f)
+    (λ i f. stored-long (c .uses i .stores) (f .store) (c .uses i .place) (base + length (f .made))) _
 
 cell-added : (c : Cell) (m : Mesh) → Begins m (cellStep c m)
 unfolding cellStep

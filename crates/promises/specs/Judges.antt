@@ -1,4 +1,5 @@
--- Judges that are asked one after another: an order that is cut in two, what comes first in it, and that each judge refuses with its own number.
+-- Laws of the orders: each comes to what the model's judge of the call says, each judge in it refuses with its own number, and so a refusal by its number is
+-- that judge's.
 use Prim.Native.Nat.{ℕ, zero, suc, _+_, _-_, _*_, _/_}
 use mathlib.Core.Path.{_≡_, refl, sym, ap, _∙_}
 use mathlib.Core.Logic.{_⊎_, inl, inr, ⊎-elim}
@@ -26,7 +27,8 @@ use Rattle.model.specs.Judging.{judgeStar, judgeSubdivisions, judgeMask, measur
 use Rattle.model.specs.Extraction.{judgeExtraction}
 use Rattle.model.specs.Record.{headerLength, wordAt, headerOf, countOf, samplesOf, judgeRecord}
 use Rattle.judge.specs.First.{or-else-assoc, or-else-passed}
-use Rattle.promises.specs.Promises.{Judge, inOrder, Numbered, Lent, counts, blockJudges, extractionJudges, writingJudges, recordJudges, readingJudges, pointJudge, pointJudges, sampleJudges}
+use Rattle.promises.specs.Left.{Lent, counts}
+use Rattle.promises.specs.Orders.{Judge, inOrder, Numbered, blockJudges, extractionJudges, writingJudges, recordJudges, readingJudges, pointJudge, pointJudges, sampleJudges}
 
 -- ---- orders
 

@@ -17,8 +17,8 @@ use Rattle.model.specs.Extraction.{vertexFloats, triangleIndices}
 use Rattle.closed.specs.Clauses.{noVertex, edgeAt, noTriangle, sides, runs, OwnVertex, NoHole}
 use Rattle.closed.specs.NoHole.{no-hole}
 use Rattle.closed.specs.Front.{regular-first}
-use Rattle.promises.specs.Promises.{Lent, numberIn, cornerIn, vertexIn, triangleIn, regularPart}
-use Rattle.promises.specs.Buffers.{each-at}
+use Rattle.promises.specs.Left.{Lent, numberIn, cornerIn, vertexIn, triangleIn, regularPart}
+use Rattle.promises.specs.ReadBack.{each-at}
 
 -- place j of item k of what is laid into a buffer
 module _ {A B : Type 0} (f : A → List B) (w : ℕ) (wide : (a : A) → length (f a) ≡ w) (l : List A) (before after : List B)

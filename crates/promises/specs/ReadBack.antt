@@ -8,7 +8,7 @@ use lib.ListN.{length, getD, drop, List·getD-append}
 use lib.Seq.{take-at, drop-at, getD-append-add}
 use Rattle.laws.specs.Steps.{each, laid}
 use Rattle.laws.specs.Lists.{length-laid}
-use Rattle.promises.specs.Promises.{Laid}
+use Rattle.promises.specs.Left.{Laid}
 
 pub is-laid : {A : Type 0} (k : ℕ) (written before : List A) → length written ≡ k → k ≤ length before → Laid k written before (laid written before)
 is-laid k written before e room =
