@@ -137,5 +137,5 @@ module _ (s : Star) (lent : Lent) where
           no-hole = no-hole-left s (left s lent) (lent .vertices) (lent .triangles) vertices-left triangles-left;
           vertices-in = omega (arith, ap length (first .made-are), length-append (regularMesh s .made) (first .made));
           triangles-in = omega (arith, ap length (first .triangles-are), length-append (regularMesh s .triangles) (first .triangles));
-          whole = none-named s;
+          all-regular = none-named s;
         })

@@ -7,7 +7,7 @@ use Rattle.record.specs.RoundTrip.{read-write, write-read}
 use Rattle.promises.specs.Promises.{Promises}
 use Rattle.promises.specs.Extracted.{extraction, extraction-untouched, wanted, equal-mesh, no-hole-is-left}
 use Rattle.promises.specs.Records.{reading, reading-untouched, samples-laid, writing, writing-untouched, bytes-laid}
-use Rattle.promises.specs.Views.{point, packed-record, viewer-sample}
+use Rattle.promises.specs.Views.{point, packed-record, subdivisions-apart, blank-apart, viewer-sample}
 
 pub kept : Promises
 unfolding subdivisionsAnswer blankAnswer
@@ -21,10 +21,11 @@ kept =
         writing = writing;
         writing-untouched = writing-untouched;
         point = point;
-        viewer-subdivisions = λ bytes. packed-record bytes 100 (headerOf bytes .block .subdivisions);
+        viewer-subdivisions = λ bytes. packed-record bytes 100 (headerOf bytes .block .subdivisions) (subdivisions-apart bytes);
         viewer-blank = λ bytes.
             let m = headerOf bytes .block .subdivisions + 1 in
-            packed-record bytes 100 (blankOf (m * m * m) (headerOf bytes .threshold) (samplesOf bytes));
+            packed-record bytes 100 (blankOf (m * m * m) (headerOf bytes .threshold) (samplesOf bytes))
+            (λ e. blank-apart (m * m * m) (headerOf bytes .threshold) (samplesOf bytes));
         viewer-sample = viewer-sample;
       };
       definition = record { mesh = equal-mesh; wanted = wanted; samples = samples-laid; bytes = bytes-laid };

@@ -43,11 +43,12 @@ pub record Judged (judges : List Judge) (refused : Refusal → Type 0) (accepted
   pub refused-by-first : (r : Refusal) → refused r ↔ (inOrder judges ≡ Refused r)
   pub accepted-by-all : accepted ↔ (inOrder judges ≡ Passed)
 
--- a call that answers with one number: its value, or a base plus the number of the first refusal
+-- a call that answers with one number: its value, or a base plus the number of the first refusal; no value reads as a refusal
 pub record Packed (judges : List Judge) (base value answer : ℕ) : Type 0 where
   pub numbered : Numbered judges
   pub refused : (r : Refusal) → inOrder judges ≡ Refused r → answer ≡ base + numbersOf r .number
   pub accepted : inOrder judges ≡ Passed → answer ≡ value
+  pub apart : inOrder judges ≡ Passed → value < base
 
 -- document 01's orders: 1 to 7 of a block, 1 to 10 of extraction, 1 to 7 and 14 of the writer
 abbrev pub blockJudges : Star → List Judge

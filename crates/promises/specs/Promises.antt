@@ -32,27 +32,35 @@ use Rattle.promises.specs.Orders.{Judged, Packed, extractionJudges, writ
 
 -- ---- 1. every call is answered
 
+-- the value of a point that was sampled, by its signed coordinates
 abbrev pub pointValue : ℕ → List Float → ℤ → ℤ → ℤ → Float
 pointValue n samples x y z = valueAt n samples (oneUp n x) (oneUp n y) (oneUp n z)
 
--- every call is answered: refused exactly when, and as, the first judge of its order refuses, and then every lent buffer is as it was
 pub record EveryCallIsAnswered : Type 0 where
+  -- extraction is refused exactly as the first of 1 to 10 that refuses says, and otherwise accepted with the counts of the definition's mesh
   pub extraction : (s : Star) (lent : Lent)
       → Judged (extractionJudges s lent) (λ r. answered s lent ≡ Extraction.Refused r) (answered s lent ≡ Extraction.Mesh (counts s))
+  -- refused, it leaves every lent buffer as it was
   pub extraction-untouched : (s : Star) (lent : Lent) (r : Refusal) → answered s lent ≡ Extraction.Refused r → left s lent ≡ lent
+  -- the reader is refused exactly as the first of 11, 12, 1, 2, 3, 13, 7, 14 says, and otherwise answers the record's block
   pub reading : (bytes : List ℕ) (samples : List Float)
       → Judged (readingJudges bytes samples) (λ r. readRecord bytes samples .answer ≡ RecordRead.Refused r)
       (readRecord bytes samples .answer ≡ RecordRead.Block (headerOf bytes))
+  -- refused, it leaves the lent samples as they were
   pub reading-untouched : (bytes : List ℕ) (samples : List Float) (r : Refusal) → readRecord bytes samples .answer ≡ RecordRead.Refused r
       → readRecord bytes samples .samples ≡ samples
+  -- the writer is refused exactly as the first of 1 to 7 and 14 says, and otherwise answers the record's length
   pub writing : (h : Header) (centre neighbours : List Float) (bytes : List ℕ)
       → Judged (writingJudges h centre neighbours bytes) (λ r. writeRecord h centre neighbours bytes .answer ≡ RecordWritten.Refused r)
       (writeRecord h centre neighbours bytes .answer ≡ RecordWritten.Bytes (headerLength + 4 * length (centre ++ neighbours)))
+  -- refused, it leaves the lent bytes as they were
   pub writing-untouched : (h : Header) (centre neighbours : List Float) (bytes : List ℕ) (r : Refusal)
       → writeRecord h centre neighbours bytes .answer ≡ RecordWritten.Refused r → writeRecord h centre neighbours bytes .bytes ≡ bytes
+  -- a point read is refused exactly as the first of 1, 4, 15 says, and otherwise answers the point's value
   pub point : (n : ℕ) (samples : List Float) (x y z : ℤ)
       → Judged (pointJudges n samples x y z) (λ r. readPoint n samples x y z ≡ PointRead.Refused r)
       (readPoint n samples x y z ≡ PointRead.Value (pointValue n samples x y z))
+  -- the viewer's calls answer n, whether the block is blank, and a point's bits; or 100 and 2^32 plus the number of the first refusal
   pub viewer-subdivisions : (bytes : List ℕ) → Packed (recordJudges bytes) 100 (headerOf bytes .block .subdivisions) (subdivisionsAnswer bytes)
   pub viewer-blank : (bytes : List ℕ)
       → let m = headerOf bytes .block .subdivisions + 1 in
@@ -63,33 +71,36 @@ pub record EveryCallIsAnswered : Type 0 where
 
 -- ---- 2. equal to the definition
 
--- the counts, the vertices six numbers each, the triangles three each and the index store are those of the definition's mesh
+-- the first places of the buffers hold the definition's mesh, six numbers a vertex and three a triangle, and all beyond is as it was
 pub record EqualMesh (s : Star) (lent : Lent) (c : Counts) : Type 0 where
   pub counted : c ≡ counts s
   pub vertices : Laid (6 * c .vertices) (each vertexFloats (meshOf s .made)) (lent .vertices) (left s lent .vertices)
   pub triangles : Laid (3 * c .triangles) (each triangleIndices (meshOf s .triangles)) (lent .triangles) (left s lent .triangles)
   pub store : Laid (storeLength (subdivisions s)) (meshOf s .store) (lent .store) (left s lent .store)
 
--- what is accepted leaves the definition's mesh, samples or bytes and nothing else; the counts that 10 asks for are those of the definition's mesh
 pub record EqualToTheDefinition : Type 0 where
+  -- accepted, extraction answers and leaves the definition's mesh and nothing else
   pub mesh : (s : Star) (lent : Lent) (c : Counts) → answered s lent ≡ Extraction.Mesh c → EqualMesh s lent c
+  -- the counts that refusal 10 asks for are those of the definition's mesh
   pub wanted : (s : Star) (lent : Lent) (c : Counts) → answered s lent ≡ Extraction.Refused (NoRoom c) → c ≡ counts s
+  -- accepted, the reader leaves the record's samples in the first places, and the writer the block's record
   pub samples : (bytes : List ℕ) (samples : List Float) (h : Header) → readRecord bytes samples .answer ≡ RecordRead.Block h
       → Laid (countOf bytes) (samplesOf bytes) samples (readRecord bytes samples .samples)
   pub bytes : (h : Header) (centre neighbours : List Float) (bytes : List ℕ) (k : ℕ)
       → writeRecord h centre neighbours bytes .answer ≡ RecordWritten.Bytes k
       → Laid k (recordOf h (centre ++ neighbours)) bytes (writeRecord h centre neighbours bytes .bytes)
 
--- ---- 3. no hole
+-- ---- 3. no hole: regular cells; not yet the fine sides, not the outer faces
 
--- the regular cells' triangles, as they stand in the buffers, leave no hole: a grid edge carries a vertex exactly if it is crossed, each corner names a
--- vertex of its own cell, sides run both ways as often except in an outer face, and each vertex's six numbers are those between its grid edge's ends.
--- Where no neighbour is finer, that is the whole mesh
 pub record NoHoleIsLeft (s : Star) (lent : Lent) (c : Counts) : Type 0 where
+  -- of what the regular cells leave in the buffers: a grid edge carries a vertex exactly if it is crossed; each triangle corner names a vertex on an edge
+  -- of its own cell; between two grid edges that do not both lie in one outer face as many sides run one way as the other; and the six numbers of a
+  -- vertex are those between the two ends of its grid edge
   pub no-hole : NoHole s (regularPart s (left s lent))
+  -- it is the first part of the mesh, and the whole of it where no neighbour is finer
   pub vertices-in : length (regularMesh s .made) ≤ c .vertices
   pub triangles-in : length (regularMesh s .triangles) ≤ c .triangles
-  pub whole : s .mask ≡ 0 → meshOf s ≡ regularMesh s
+  pub all-regular : s .mask ≡ 0 → meshOf s ≡ regularMesh s
 
 -- ---- 4. records round trip
 
@@ -110,7 +121,6 @@ centreOf h read = take (sampleLength (h .block .subdivisions)) read
 abbrev pub neighboursOf : Header → List Float → List Float
 neighboursOf h read = take (neighboursLength (h .block .subdivisions) (h .mask)) (drop (sampleLength (h .block .subdivisions)) read)
 
--- what is written is read back, bit for bit
 pub record RecordsRoundTrip : Type 0 where
   -- reading then writing gives the same bytes
   pub read-write : (bytes : List ℕ) (samples : List Float) (out : List ℕ) (h : Header)
@@ -124,12 +134,13 @@ pub record RecordsRoundTrip : Type 0 where
       → readRecord (take k (writeRecord h centre neighbours out .bytes)) samples
       ≡ record { answer = RecordRead.Block h; samples = laid (centre ++ neighbours) samples }
 
--- ---- all five
+-- ---- all, with 5: the starred figures of document 01
 
 pub record Promises : Type 0 where
   pub every-call : EveryCallIsAnswered
   pub definition : EqualToTheDefinition
+  -- accepted, the regular part of what extraction leaves has no hole
   pub no-hole : (s : Star) (lent : Lent) (c : Counts) → answered s lent ≡ Extraction.Mesh c → NoHoleIsLeft s lent c
   pub round-trips : RecordsRoundTrip
-  -- 5. document 01's starred figures are what the definitions work out
+  -- what the definitions work out is what document 01 states
   pub starred : map (λ (f : Figure). f .worked) figures ≡ map (λ (f : Figure). f .stated) figures
