@@ -7,7 +7,7 @@ use mathlib.Core.List.{List, _++_, append-nil}
 use lib.ListN.{length, take, drop, replicate, length-append, drop-of-length-le}
 use lib.Seq.{sets-eq, length-take-le, take-at}
 use Rattle.laws.specs.Steps.{each}
-use Rattle.cells.specs.Buffers.{lay}
+use Rattle.laws.specs.Laying.{lay}
 use Rattle.laws.specs.Laying.{length-each}
 
 module _ {A T : Type 0} (width : ℕ) (out : T → List A) (wide : (t : T) → length (out t) ≡ width) where

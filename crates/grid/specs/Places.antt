@@ -10,6 +10,7 @@ use lib.Dec.{eqb, leb}
 use lib.Ieee.{Float, nan}
 use lib.ListN.{getD}
 use borrow.Author.Tests.{le-leb, eq-eqb, ne-eqb, leb-true, leb-false, eqb-true, eqb-false}
+use Rattle.model.specs.Limits.{mostFine, sideCount}
 use Rattle.model.specs.declared.Xyz.{Xyz}
 use Rattle.model.specs.Samples.{sampleLength, inBlock, onFace, placeOf, outside, sampled, valueAt, sampleOf}
 
@@ -23,12 +24,12 @@ pub record Within (n : ℕ) (p : Xyz) : Type 0 where
 
 -- a neighbour of a block of 16 subdivisions has 32
 pub record Small (n : ℕ) : Type 0 where
-  pub square : (n + 1) * (n + 1) ≤ 1089
-  pub cube : (n + 1) * (n + 1) * (n + 1) ≤ 35937
+  pub square : (n + 1) * (n + 1) ≤ (mostFine + 1) * (mostFine + 1)
+  pub cube : (n + 1) * (n + 1) * (n + 1) ≤ (mostFine + 1) * (mostFine + 1) * (mostFine + 1)
 
-pub small : (n : ℕ) → n ≤ 32 → Small n
+pub small : (n : ℕ) → n ≤ mostFine → Small n
 small n h =
-    let one : n + 1 ≤ 33 = omega arith in
+    let one : n + 1 ≤ mostFine + 1 = omega arith in
     let two = mul-le-mul one one in
     record { square = two; cube = mul-le-mul two one }
 
@@ -46,7 +47,7 @@ module _ (n : ℕ) where
       let layer : m * m * (x + 1) ≤ m * m * m = mul-le-mul-left (m * m) (omega arith) in
       omega (arith, mul-add (m * m) x 1)
 
-  pub on-face : (face i j : ℕ) → face < 6 → i ≤ n → j ≤ n → onFace n face i j < sampleLength n
+  pub on-face : (face i j : ℕ) → face < sideCount → i ≤ n → j ≤ n → onFace n face i j < sampleLength n
   on-face face i j hf hi hj =
       let m = n + 1 in
       let row : m * i + j < m * m = in-grid (omega arith) (omega arith) in
@@ -101,7 +102,7 @@ here-not-outside n c h = inner-not-outside n (c + 1) (omega arith)
 abbrev pub acrossOf : ℕ → ℕ → ℕ → ℕ → ℕ → ℕ
 acrossOf n low c i j = cond (eqb c 0) (onFace n low (i - 1) (j - 1)) (onFace n (low + 1) (i - 1) (j - 1))
 
-across-in : (n low c i j : ℕ) → low < 5 → Inner n i → Inner n j → acrossOf n low c i j < sampleLength n
+across-in : (n low c i j : ℕ) → low + 1 < sideCount → Inner n i → Inner n j → acrossOf n low c i j < sampleLength n
 across-in n low c i j h hi hj =
     by-test (λ k. k < sampleLength n) (eqb c 0) (λ e. on-face n low (i - 1) (j - 1) (omega arith) (inner-le hi) (inner-le hj))
     (λ e. on-face n (low + 1) (i - 1) (j - 1) (omega arith) (inner-le hi) (inner-le hj))

@@ -1,28 +1,19 @@
--- Document 01, 'The block and its samples': what the point read answers by its judges, and that extraction reads no point that was never
--- sampled.
-use Prim.Native.Nat.{ℕ, _+_, _*_, _≤_, _<_}
-use mathlib.Core.Path.{_≡_, refl}
-use mathlib.Core.Bool.{Bool, true, false, _&&_}
+-- Document 01, 'The block and its samples': what reading a point answers, and that extraction reads no point that was never sampled.
+use Prim.Native.Nat.{ℕ, _+_, _*_, _<_}
+use mathlib.Core.Path.{_≡_}
+use mathlib.Core.Bool.{true}
 use mathlib.Core.List.{List}
 use native.Mathlib.Omega.{arith}
-use lib.Dec.{leb}
 use lib.Ieee.{Float}
-use borrow.Author.Tests.{leb-true, eqb-true, lt-leb}
-use Rattle.model.specs.declared.Refusal.{Refusal}
-use Rattle.model.specs.declared.Refusal.the-variants.{Subdivisions, CentreLength}
-use Rattle.model.specs.declared.Verdict.{Verdict}
-use Rattle.model.specs.declared.Verdict.the-variants.{Passed, Refused}
+use borrow.Author.Tests.{lt-leb}
 use Rattle.model.specs.declared.Reading.the-variants.{Value, NeverSampled}
-use Rattle.model.specs.Samples.{sampleLength, outside, sampled, valueAt, readingAt}
-use Rattle.model.specs.Refusals.{unless, orElse}
-use Rattle.model.specs.Limits.{mostSubdivisions}
-use Rattle.model.specs.Judging.{judgeSubdivisions, judgeCentre}
+use Rattle.model.specs.Samples.{outside, sampled, valueAt, readingAt}
 use Rattle.model.specs.Rotations.{facePoint, neighbourPoint}
 use Rattle.model.specs.Points.{cornerPoint}
 use Rattle.grid.specs.Places.{StepsSampled, steps-sampled}
 use Rattle.grid.specs.RotationLaws.{OnFace, OnFineFace, face-point-in, neighbour-point-in}
 
--- ---- the point read
+-- ---- what reading answers
 
 module _ (n : ℕ) (samples : List Float) (x y z : ℕ) where
   pub reading-value : sampled n x y z ≡ true → readingAt n samples x y z ≡ Value (valueAt n samples x y z)
@@ -32,32 +23,6 @@ module _ (n : ℕ) (samples : List Float) (x y z : ℕ) where
   pub reading-never : 1 < outside n x + outside n y + outside n z → readingAt n samples x y z ≡ NeverSampled
   unfolding readingAt sampled
   reading-never h = rw (lt-leb (outside n x + outside n y + outside n z) 1 h)
-
--- a verdict that passes passed each of its judges, and a judge that passes has its test
-pub both-passed : (v w : Verdict) → orElse v w ≡ Passed → (v ≡ Passed) × (w ≡ Passed)
-both-passed Passed w e = (refl, e)
-both-passed (Refused r) w e = (e, cc)
-
-pub unless-passed : (b : Bool) (r : Refusal) → unless b r ≡ Passed → b ≡ true
-unless-passed true r e = refl
-unless-passed false r e = cc
-
-and-right : (a b : Bool) → (a && b) ≡ true → b ≡ true
-and-right true b e = e
-and-right false b e = cc
-
--- what 1 and 4 leave
-pub record Judged (n held : ℕ) : Type 0 where
-  pub few : n ≤ 16
-  pub held-is : held ≡ sampleLength n
-
-pub judged : (n held : ℕ) → orElse (judgeSubdivisions n) (judgeCentre n held) ≡ Passed → Judged n held
-judged n held e =
-    let p = both-passed (judgeSubdivisions n) (judgeCentre n held) e in
-    record {
-      few = leb-true n mostSubdivisions (and-right (leb 1 n) _ (unless-passed _ (Subdivisions n) (p .0)));
-      held-is = eqb-true held (sampleLength n) (unless-passed _ (CentreLength (sampleLength n)) (p .1));
-    }
 
 -- ---- the reads of extraction
 

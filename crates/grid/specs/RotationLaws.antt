@@ -3,6 +3,7 @@
 use Prim.Native.Nat.{ℕ, zero, suc, _+_, _-_, _*_, _≤_, _<_}
 use mathlib.Core.Path.{_≡_}
 use native.Mathlib.Omega.{arith}
+use Rattle.model.specs.Limits.{mostSubdivisions, mostFine, sideCount}
 use Rattle.model.specs.declared.Xyz.{Xyz}
 use Rattle.model.specs.declared.Direction.{Direction}
 use Rattle.model.specs.declared.Rotation.{Rotation}
@@ -26,7 +27,7 @@ pub record TurnedPoint (r : Rotation) (m u v w : ℕ) : Type 0 where
   pub y : Turned (λ p. p .y) r m u v w
   pub z : Turned (λ p. p .z) r m u v w
 
-by-side : (P : ℕ → Type 0) → P 0 → P 1 → P 2 → P 3 → P 4 → P 5 → (side : ℕ) → side < 6 → P side
+by-side : (P : ℕ → Type 0) → P 0 → P 1 → P 2 → P 3 → P 4 → P 5 → (side : ℕ) → side < sideCount → P side
 by-side P a b c d e f zero h = a
 by-side P a b c d e f (suc zero) h = b
 by-side P a b c d e f (suc (suc zero)) h = c
@@ -36,7 +37,7 @@ by-side P a b c d e f (suc (suc (suc (suc (suc zero))))) h = f
 by-side P a b c d e f (suc (suc (suc (suc (suc (suc k)))))) h = absurd (omega arith)
 
 module _ (m u v w : ℕ) (hu : u ≤ m) (hv : v ≤ m) (hw : w ≤ m) where
-  pub turned : (side : ℕ) → side < 6 → TurnedPoint (rotationOf side) m u v w
+  pub turned : (side : ℕ) → side < sideCount → TurnedPoint (rotationOf side) m u v w
   unfolding rotationOf rotations
   turned =
       by-side (λ side. TurnedPoint (rotationOf side) m u v w) (omega arith) (omega arith) (omega arith) (omega arith) (omega arith)
@@ -46,21 +47,21 @@ module _ (m u v w : ℕ) (hu : u ≤ m) (hv : v ≤ m) (hw : w ≤ m) where
 
 -- a grid point of a side's face, and a fine point of it
 pub record OnFace (n side u v : ℕ) : Type 0 where
-  pub few : n ≤ 16
-  pub side-is : side < 6
+  pub few : n ≤ mostSubdivisions
+  pub side-is : side < sideCount
   pub u-in : u ≤ n
   pub v-in : v ≤ n
 
 pub record OnFineFace (n side u2 v2 : ℕ) : Type 0 where
-  pub few : n ≤ 16
-  pub side-is : side < 6
+  pub few : n ≤ mostSubdivisions
+  pub side-is : side < sideCount
   pub u-in : u2 ≤ 2 * n
   pub v-in : v2 ≤ 2 * n
 
 -- the point (u, v, w) of a side, each of the three in 0..m
 pub record OnSide (side m u v w : ℕ) : Type 0 where
-  pub few : m ≤ 32
-  pub side-is : side < 6
+  pub few : m ≤ mostFine
+  pub side-is : side < sideCount
   pub u-in : u ≤ m
   pub v-in : v ≤ m
   pub w-in : w ≤ m
@@ -104,16 +105,16 @@ movedBy p k d =
 
 -- one coordinate's step, which neither wraps nor takes away more than is there
 pub record Step (at k up down : ℕ) : Type 0 where
-  pub at-few : at ≤ 32
-  pub k-few : k ≤ 32
+  pub at-few : at ≤ mostFine
+  pub k-few : k ≤ mostFine
   pub up-unit : up ≤ 1
   pub down-unit : down ≤ 1
   pub enough : k * down ≤ at + k * up
 
 -- a move that takes away no more than is there
 pub record Move (p : Xyz) (k : ℕ) (d : Direction) : Type 0 where
-  pub few : k ≤ 32
-  pub from : Within 32 p
+  pub few : k ≤ mostFine
+  pub from : Within mostFine p
   pub x-enough : k * d .down .x ≤ p .x + k * d .up .x
   pub y-enough : k * d .down .y ≤ p .y + k * d .up .y
   pub z-enough : k * d .down .z ≤ p .z + k * d .up .z
@@ -125,7 +126,7 @@ abbrev pub end : Rotation → ℕ → ℕ → ℕ → ℕ → Xyz
 end r m u v w = movedBy (movedBy (movedBy (corner r m) u (r .u)) v (r .v)) w (r .w)
 
 pub record Moves (r : Rotation) (m u v w : ℕ) : Type 0 where
-  pub few : m ≤ 32
+  pub few : m ≤ mostFine
   pub by-u : Move (corner r m) u (r .u)
   pub by-v : Move (movedBy (corner r m) u (r .u)) v (r .v)
   pub by-w : Move (movedBy (movedBy (corner r m) u (r .u)) v (r .v)) w (r .w)
@@ -133,13 +134,13 @@ pub record Moves (r : Rotation) (m u v w : ℕ) : Type 0 where
   pub y-is : end r m u v w .y ≡ coordinate (λ p. p .y) r m u v w
   pub z-is : end r m u v w .z ≡ coordinate (λ p. p .z) r m u v w
 
-pub units : (side : ℕ) → side < 6 → UnitVectors (rotationOf side)
+pub units : (side : ℕ) → side < sideCount → UnitVectors (rotationOf side)
 unfolding rotationOf rotations
 units =
     by-side (λ side. UnitVectors (rotationOf side)) (omega arith) (omega arith) (omega arith) (omega arith) (omega arith) (omega arith)
 
-module _ (m u v w : ℕ) (few : m ≤ 32) (hu : u ≤ m) (hv : v ≤ m) (hw : w ≤ m) where
-  pub moves : (side : ℕ) → side < 6 → Moves (rotationOf side) m u v w
+module _ (m u v w : ℕ) (few : m ≤ mostFine) (hu : u ≤ m) (hv : v ≤ m) (hw : w ≤ m) where
+  pub moves : (side : ℕ) → side < sideCount → Moves (rotationOf side) m u v w
   unfolding rotationOf rotations
   moves =
       by-side (λ side. Moves (rotationOf side) m u v w) (omega arith) (omega arith) (omega arith) (omega arith) (omega arith)

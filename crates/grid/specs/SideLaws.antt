@@ -11,6 +11,7 @@ use lib.Dec.{T, eqb, leb, ltb, eqb→eq, leb→le, le→leb, ltb→lt, lt→ltb}
 use lib.Ieee.{Float}
 use lib.ListN.{length, length-take, length-drop}
 use Rattle.laws.specs.Tests.{both, both-left, both-right, then, then-holds, below, all, all₂}
+use Rattle.model.specs.Limits.{mostSubdivisions, sideCount, mostMask}
 use Rattle.model.specs.Sides.{named, namedBelow, neighbourLength, neighboursLength, neighbourOf}
 
 -- a test that holds, and one that does not
@@ -27,9 +28,9 @@ fails false t = refl
 -- the first named side at or after from, or 6
 pub record NextSide (mask from r : ℕ) : Type 0 where
   pub from-le : from ≤ r
-  pub le-six : r ≤ 6
+  pub le-six : r ≤ sideCount
   pub none-between : (k : ℕ) → from ≤ k → k < r → named mask k ≡ false
-  pub is-named : r < 6 → named mask r ≡ true
+  pub is-named : r < sideCount → named mask r ≡ true
 
 -- bit 6, which is no side's, ends the search
 unfoldable pub nextSide : ℕ → ℕ → ℕ
@@ -44,7 +45,7 @@ all-step : T (below (λ mask. below (λ from. steps mask from (nextSide mask fro
 unfolding both then named trailingZeros nextSide steps
 all-step = tt
 
-module _ (mask from : ℕ) (hm : mask ≤ 63) (hf : from ≤ 6) where
+module _ (mask from : ℕ) (hm : mask ≤ mostMask) (hf : from ≤ sideCount) where
   step : T (steps mask from (nextSide mask from))
   step = all₂ (λ m f. steps m f (nextSide m f)) 64 7 all-step mask from (omega arith) (omega arith)
 
@@ -63,7 +64,7 @@ module _ (mask from : ℕ) (hm : mask ≤ 63) (hf : from ≤ 6) where
 -- ---- a side's part of the neighbour list
 
 -- what a shift by a side's number comes to
-pub bit-of : (side : ℕ) → side < 6 → 1 * 2 ^ side % 2 ^ 8 ≡ 2 ^ side
+pub bit-of : (side : ℕ) → side < sideCount → 1 * 2 ^ side % 2 ^ 8 ≡ 2 ^ side
 unfolding both
 bit-of side h = eqb→eq _ _ (all (λ s. eqb (1 * 2 ^ s % 2 ^ 8) (2 ^ s)) 6 tt side h)
 
@@ -73,13 +74,13 @@ all-there = tt
 
 -- a named side of a block whose neighbour list is as long as its mask asks
 pub record NeighbourThere (n mask : ℕ) (neighbours : List Float) (side : ℕ) : Type 0 where
-  pub few : n ≤ 16
-  pub sides : mask ≤ 63
-  pub side-is : side < 6
+  pub few : n ≤ mostSubdivisions
+  pub sides : mask ≤ mostMask
+  pub side-is : side < sideCount
   pub is-named : named mask side ≡ true
   pub neighbours-are : length neighbours ≡ neighboursLength n mask
 
-pub named-below : (mask side : ℕ) → mask ≤ 63 → side < 6 → named mask side ≡ true → namedBelow mask side < ones mask
+pub named-below : (mask side : ℕ) → mask ≤ mostMask → side < sideCount → named mask side ≡ true → namedBelow mask side < ones mask
 named-below mask side hm hs hn =
     ltb→lt _ _
     (then-holds _ _

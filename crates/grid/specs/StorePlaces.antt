@@ -3,11 +3,12 @@ use Prim.Native.Nat.{ℕ, _+_, _*_, _≤_, _<_}
 use mathlib.Core.Path.{_≡_}
 use native.Mathlib.Nat.{mul-le-mul, mul-le-mul-left, mul-add, mul-assoc}
 use native.Mathlib.Omega.{arith}
+use Rattle.model.specs.Limits.{mostSubdivisions, sideCount}
 use Rattle.model.specs.Mesh.{regularStore, storeLength, regularPlace, transitionPlace}
 
 -- a regular cell and a reuse index
 pub record RegularCell (n x y z r : ℕ) : Type 0 where
-  pub few : n ≤ 16
+  pub few : n ≤ mostSubdivisions
   pub x-in : x < n
   pub y-in : y < n
   pub z-in : z < n
@@ -15,18 +16,18 @@ pub record RegularCell (n x y z r : ℕ) : Type 0 where
 
 -- a transition cell and a reuse index
 pub record TransitionCell (n side u v r : ℕ) : Type 0 where
-  pub few : n ≤ 16
-  pub side-is : side < 6
+  pub few : n ≤ mostSubdivisions
+  pub side-is : side < sideCount
   pub u-in : u < n
   pub v-in : v < n
   pub reuse : r < 10
 
 -- n up to 16: neither store wraps
 pub record SmallStore (n : ℕ) : Type 0 where
-  pub square : n * n ≤ 256
-  pub cube : n * n * n ≤ 4096
+  pub square : n * n ≤ mostSubdivisions * mostSubdivisions
+  pub cube : n * n * n ≤ mostSubdivisions * mostSubdivisions * mostSubdivisions
 
-pub small-store : (n : ℕ) → n ≤ 16 → SmallStore n
+pub small-store : (n : ℕ) → n ≤ mostSubdivisions → SmallStore n
 small-store n h =
     let two = mul-le-mul h h in
     record { square = two; cube = mul-le-mul two h }

@@ -1,6 +1,7 @@
 // The six rotations, by value, and the points that they give (document 01, 'Transition cells').
 ghost use mathlib.Core.Path.{_≡_};
 ghost use Prim.Native.Nat.{_*_, _<_};
+ghost use Rattle.model.specs.Limits.{sideCount};
 ghost use Rattle.model.specs.Rotations.{rotationOf, pointFrom, facePoint, finePoint, neighbourPoint};
 ghost use Rattle.grid.specs.Places.{Within};
 ghost use Rattle.grid.specs.RotationLaws.{OnFace, OnFineFace, OnSide, UnitVector, UnitVectors, Step, Move, Moves, steppedBy, movedBy};
@@ -37,7 +38,7 @@ fn rotation(origin: Xyz, u: Direction, v: Direction, w: Direction) -> Rotation
 }
 
 pub fn rotation_for_side(side: usize) -> Rotation
-    requires { ⌜ side < 6 ⌝ }
+    requires { ⌜ side < sideCount ⌝ }
     ensures { λ r. ⌜ r ≡ rotationOf side ⌝ }
 {
     match side {

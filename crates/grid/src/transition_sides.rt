@@ -4,14 +4,16 @@ ghost use mathlib.Core.Path.{_≡_};
 ghost use Prim.Native.Nat.{_≤_, _<_};
 ghost use lib.Count.{ones, trailingZeros};
 ghost use lib.ListN.{length};
-ghost use Rattle.model.specs.Sides.{named, namedBelow, neighbourLength, neighbourOf};
+ghost use Rattle.model.specs.Limits.{mostSubdivisions, sideCount, mostMask};
+ghost use Rattle.model.specs.Sides.{named, namedBelow, neighbourLength, sampleCount, neighbourOf};
 ghost use Rattle.grid.specs.SideLaws.{NextSide, NeighbourThere};
+ghost use Rattle.grid.specs.Counts.{mostSamples};
 use crate::voxel_blocks::sample_length;
 
 pub const SIDES: usize = 6;
 
 pub fn is_named(mask: u8, side: usize) -> bool
-    requires { ⌜ side < 6 ⌝ }
+    requires { ⌜ side < sideCount ⌝ }
     ensures { λ r. ⌜ r ≡ named mask side ⌝ }
 {
     (mask >> side) % 2 == 1
@@ -32,7 +34,7 @@ fn lowest_bit(bits: u8) -> usize
 
 // The first named side at or after from, or 6: bit 6, which is no side's, ends the search.
 pub fn next_side(mask: u8, from: usize) -> usize
-    requires { ⌜ (mask ≤ 63) × (from ≤ 6) ⌝ }
+    requires { ⌜ (mask ≤ mostMask) × (from ≤ sideCount) ⌝ }
     ensures { λ r. ⌜ NextSide mask from r ⌝ }
 {
     from + lowest_bit((mask + 64) >> from)
@@ -40,10 +42,18 @@ pub fn next_side(mask: u8, from: usize) -> usize
 
 // How many sides below this one the mask names.
 pub fn count_below(mask: u8, side: usize) -> usize
-    requires { ⌜ side < 6 ⌝ }
+    requires { ⌜ side < sideCount ⌝ }
     ensures { λ r. ⌜ r ≡ namedBelow mask side ⌝ }
 {
     count(mask % (1u8 << side))
+}
+
+// The samples of a block and of its neighbours.
+pub fn sample_count(n: usize, mask: u8) -> usize
+    requires { ⌜ (n ≤ mostSubdivisions) × (mask ≤ mostMask) ⌝ }
+    ensures { λ r. ⌜ (r ≡ sampleCount n mask) × (r ≤ mostSamples) ⌝ }
+{
+    sample_length(n) + count(mask) * sample_length(2 * n)
 }
 
 // The samples of the neighbour at a named side.

@@ -1,25 +1,26 @@
 // A block's samples: m^3 in the block and six extension faces of m^2, with m = n + 1 (document 01, 'The block and its samples').
-// Where a neighbour block is read, 2n stands for n, so n is at most 32 here. A coordinate that may be outside 0..n is kept one up.
+// Where a neighbour block is read, 2n stands for n, so n is at most MOST_FINE here. A coordinate that may be outside 0..n is kept one up.
 ghost use mathlib.Core.Path.{_≡_};
 ghost use mathlib.Core.Bool.{true};
-ghost use Prim.Native.Nat.{_-_, _≤_, _<_};
+ghost use Prim.Native.Nat.{_+_, _-_, _≤_, _<_};
 ghost use lib.ListN.{length};
+ghost use Rattle.model.specs.Limits.{mostFine, sideCount};
 ghost use Rattle.model.specs.Samples.{sampleLength, inBlock, onFace, placeOf, outside, sampled, sampleOf, readingAt, oneUp};
-ghost use Rattle.model.specs.Refusals.{orElse};
-ghost use Rattle.model.specs.Judging.{judgeSubdivisions, judgeCentre};
-ghost use Rattle.model.specs.Extraction.{pointAnswer, readPoint};
-ghost use Rattle.model.specs.declared.Verdict.the-variants.{Passed};
+ghost use Rattle.model.specs.Formulas as Formulas;
 ghost use Rattle.grid.specs.Places.{Within, Inner, acrossOf};
-use model::PointRead;
 use model::Reading;
-use model::Refusal;
-use model::Verdict;
 use model::Xyz;
 
 pub const MOST_SUBDIVISIONS: usize = 16;
 
+pub fn inside(threshold: f32, sample: f32) -> bool
+    ensures { λ r. ⌜ r ≡ Formulas.inside threshold sample ⌝ }
+{
+    sample >= threshold
+}
+
 pub fn sample_length(n: usize) -> usize
-    requires { ⌜ n ≤ 32 ⌝ }
+    requires { ⌜ n ≤ mostFine ⌝ }
     ensures { λ r. ⌜ r ≡ sampleLength n ⌝ }
 {
     let m = n + 1;
@@ -28,7 +29,7 @@ pub fn sample_length(n: usize) -> usize
 }
 
 pub fn in_block(n: usize, x: usize, y: usize, z: usize) -> usize
-    requires { ⌜ (n ≤ 32) × ((x ≤ n) × ((y ≤ n) × (z ≤ n))) ⌝ }
+    requires { ⌜ (n ≤ mostFine) × ((x ≤ n) × ((y ≤ n) × (z ≤ n))) ⌝ }
     ensures { λ r. ⌜ (r ≡ inBlock n x y z) × (r < sampleLength n) ⌝ }
 {
     let m = n + 1;
@@ -37,7 +38,7 @@ pub fn in_block(n: usize, x: usize, y: usize, z: usize) -> usize
 
 // The point of an extension face at the two other coordinates, each kept one up.
 fn on_face(n: usize, face: usize, i: usize, j: usize) -> usize
-    requires { ⌜ (n ≤ 32) × ((face < 6) × (Inner n i × Inner n j)) ⌝ }
+    requires { ⌜ (n ≤ mostFine) × ((face < sideCount) × (Inner n i × Inner n j)) ⌝ }
     ensures { λ r. ⌜ (r ≡ onFace n face (i - 1) (j - 1)) × (r < sampleLength n) ⌝ }
 {
     let m = n + 1;
@@ -46,7 +47,7 @@ fn on_face(n: usize, face: usize, i: usize, j: usize) -> usize
 }
 
 pub fn sample(n: usize, samples: &[f32], p: Xyz) -> f32
-    requires { ⌜ (n ≤ 32) × ((length (now samples) ≡ sampleLength n) × Within n p) ⌝ }
+    requires { ⌜ (n ≤ mostFine) × ((length (now samples) ≡ sampleLength n) × Within n p) ⌝ }
     ensures { λ r. ⌜ r ≡ sampleOf n (now (samples .entry)) p ⌝ }
 {
     let at = in_block(n, p.x, p.y, p.z);
@@ -55,7 +56,7 @@ pub fn sample(n: usize, samples: &[f32], p: Xyz) -> f32
 
 // How far a coordinate is outside 0..n: not, by one step, or by more.
 pub fn outside_by(n: usize, c: usize) -> usize
-    requires { ⌜ n ≤ 32 ⌝ }
+    requires { ⌜ n ≤ mostFine ⌝ }
     ensures { λ r. ⌜ (r ≡ outside n c) × (r ≤ 2) ⌝ }
 {
     if c == 0 {
@@ -69,7 +70,7 @@ pub fn outside_by(n: usize, c: usize) -> usize
 
 // The place of a point outside across the axis of c: low is the number of the lower of the two faces, i and j are the other coordinates.
 fn across(n: usize, low: usize, c: usize, i: usize, j: usize) -> usize
-    requires { ⌜ (n ≤ 32) × ((low < 5) × (Inner n i × Inner n j)) ⌝ }
+    requires { ⌜ (n ≤ mostFine) × ((low + 1 < sideCount) × (Inner n i × Inner n j)) ⌝ }
     ensures { λ r. ⌜ (r ≡ acrossOf n low c i j) × (r < sampleLength n) ⌝ }
 {
     if c == 0 {
@@ -81,7 +82,7 @@ fn across(n: usize, low: usize, c: usize, i: usize, j: usize) -> usize
 
 // The place of a point at most one step outside, its coordinates kept one up.
 pub fn place(n: usize, x: usize, y: usize, z: usize) -> usize
-    requires { ⌜ (n ≤ 32) × (sampled n x y z ≡ true) ⌝ }
+    requires { ⌜ (n ≤ mostFine) × (sampled n x y z ≡ true) ⌝ }
     ensures { λ r. ⌜ (r ≡ placeOf n x y z) × (r < sampleLength n) ⌝ }
 {
     if outside_by(n, x) != 0 {
@@ -98,7 +99,7 @@ pub fn place(n: usize, x: usize, y: usize, z: usize) -> usize
 
 // The value of a point, or that it was never sampled.
 pub fn reading(n: usize, samples: &[f32], x: usize, y: usize, z: usize) -> Reading
-    requires { ⌜ (n ≤ 32) × (length (now samples) ≡ sampleLength n) ⌝ }
+    requires { ⌜ (n ≤ mostFine) × (length (now samples) ≡ sampleLength n) ⌝ }
     ensures { λ r. ⌜ r ≡ readingAt n (now (samples .entry)) x y z ⌝ }
 {
     let steps = outside_by(n, x) + outside_by(n, y) + outside_by(n, z);
@@ -112,7 +113,7 @@ pub fn reading(n: usize, samples: &[f32], x: usize, y: usize, z: usize) -> Readi
 
 // A signed coordinate, kept one up: the one function that reads a signed number.
 pub fn one_up(n: usize, c: i32) -> usize
-    requires { ⌜ n ≤ 32 ⌝ }
+    requires { ⌜ n ≤ mostFine ⌝ }
     ensures { λ r. ⌜ r ≡ oneUp n c ⌝ }
 {
     if c < -1 {
@@ -122,43 +123,4 @@ pub fn one_up(n: usize, c: i32) -> usize
         return 0;
     }
     c as u32 as usize + 1
-}
-
-fn judged(n: usize, held: usize) -> Verdict
-    ensures { λ r. ⌜ r ≡ orElse (judgeSubdivisions n) (judgeCentre n held) ⌝ }
-{
-    if n < 1 {
-        return Verdict::Refused(Refusal::Subdivisions(n));
-    }
-    if MOST_SUBDIVISIONS < n {
-        return Verdict::Refused(Refusal::Subdivisions(n));
-    }
-    let wanted = sample_length(n);
-    if held == wanted {
-        Verdict::Passed
-    } else {
-        Verdict::Refused(Refusal::CentreLength(wanted))
-    }
-}
-
-fn answered(read: Reading) -> PointRead
-    ensures { λ r. ⌜ r ≡ pointAnswer Passed read ⌝ }
-{
-    match read {
-        Reading::Value(v) => PointRead::Value(v),
-        Reading::NeverSampled => PointRead::Refused(Refusal::PointNeverSampled),
-    }
-}
-
-// The point read: judges 1, 4, 15.
-pub fn read_point(n: usize, samples: &[f32], x: i32, y: i32, z: i32) -> PointRead
-    ensures { λ r. ⌜ r ≡ readPoint n (now (samples .entry)) x y z ⌝ }
-{
-    let verdict = judged(n, samples.len());
-    match verdict {
-        Verdict::Refused(refusal) => PointRead::Refused(refusal),
-        Verdict::Passed => {
-            answered(reading(n, samples, one_up(n, x), one_up(n, y), one_up(n, z)))
-        }
-    }
 }

@@ -3,7 +3,6 @@ ghost use mathlib.Core.Path.{_≡_};
 ghost use Prim.Native.Nat.{_≤_};
 ghost use Rattle.model.specs.Refusals.{numbersOf, unless, orElse};
 ghost use Rattle.model.specs.Judging.{usable, usableSize, judgeSubdivisions, judgeMask, judgeMeasures, judgeBuffer, judgeRoom, judgeStore, judgeStar};
-ghost use Rattle.model.specs.Mesh.{storeLength};
 ghost use Rattle.model.specs.Star.{starFrom};
 ghost use Rattle.judge.specs.Parts.{judgeBase};
 
@@ -11,6 +10,7 @@ pub mod faces;
 mod lengths;
 mod samples;
 
+use grid::shared_vertex_indices::store_length;
 use grid::voxel_blocks::MOST_SUBDIVISIONS;
 use lengths::judge_lengths;
 use model::Block;
@@ -200,14 +200,6 @@ pub fn judge_room(wanted: Counts, vertices: usize, triangles: usize) -> Verdict
 {
     let fits = (wanted.vertices <= vertices / 6) & (wanted.triangles <= triangles / 3);
     unless(fits, Refusal::NoRoom(wanted))
-}
-
-// The places that the index store of a block takes.
-pub fn store_length(n: usize) -> usize
-    requires { ⌜ n ≤ 16 ⌝ }
-    ensures { λ r. ⌜ r ≡ storeLength n ⌝ }
-{
-    4 * (n * n * n) + 60 * (n * n)
 }
 
 pub fn judge_store(n: usize, held: usize) -> Verdict

@@ -20,7 +20,8 @@ use Rattle.model.specs.Refusals.{orElse}
 use Rattle.model.specs.Judging.{judgeBuffer}
 use Rattle.model.specs.Star.{Star, starFrom}
 use Rattle.model.specs.Extraction.{Outcome, extract}
-use Rattle.model.specs.Record.{headerOf, countOf, sampleCount, samplesOf, judgeRecord, ReadOutcome, readAnswer, readRecord}
+use Rattle.model.specs.Sides.{sampleCount}
+use Rattle.model.specs.Record.{headerOf, countOf, samplesOf, judgeRecord, ReadOutcome, readAnswer, readRecord}
 use Rattle.judge.specs.First.{both-passed}
 use Rattle.record.specs.Accepted.{accepted, length-samples}
 use Rattle.record.specs.Parts.{buffer-holds}

@@ -3,7 +3,8 @@ ghost use mathlib.Core.Path.{_≡_};
 ghost use lib.ListN.{length, take};
 ghost use Rattle.model.specs.Star.{starFrom};
 ghost use Rattle.model.specs.Extraction.{extract};
-ghost use Rattle.model.specs.Record.{sampleCount, readRecord};
+ghost use Rattle.model.specs.Sides.{sampleCount};
+ghost use Rattle.model.specs.Record.{readRecord};
 ghost use Rattle.meshing.specs.Answer.{answerNumbers, blockOf};
 ghost use Rattle.meshing.specs.Whole.{Held, starOf, meshRecord};
 use grid::voxel_blocks::sample_length;
@@ -13,7 +14,7 @@ use model::Header;
 use model::Numbers;
 use model::RecordRead;
 use model::Vector;
-use record::judging::sample_count;
+use grid::transition_sides::sample_count;
 use record::reader::read_record;
 
 // The mesh of a block whose samples stand in the first places of a list, centre first.

@@ -15,8 +15,7 @@ use Rattle.model.specs.declared.RecordRead.the-variants as RecordRead
 use Rattle.model.specs.declared.RecordWritten.{RecordWritten}
 use Rattle.model.specs.declared.RecordWritten.the-variants as RecordWritten
 use Rattle.laws.specs.Steps.{listed, each, laid}
-use Rattle.model.specs.Samples.{sampleLength}
-use Rattle.model.specs.Sides.{neighboursLength}
+use Rattle.model.specs.Sides.{sampleCount}
 use Rattle.model.specs.Formulas.{vector}
 use Rattle.model.specs.Refusals.{unless, orElse}
 use Rattle.model.specs.Judging.{judgeSubdivisions, judgeMask, judgeMeasures, judgeSamples, judgeBuffer, judgeStar}
@@ -56,13 +55,10 @@ headerOf bytes =
       threshold = floatAt bytes 7;
     }
 
--- centre first
-abbrev pub sampleCount : ℕ → ℕ → ℕ
-sampleCount n mask = sampleLength n + neighboursLength n mask
-
 abbrev pub countOf : List ℕ → ℕ
 countOf bytes = sampleCount (getD bytes 5 0) (getD bytes 6 0)
 
+-- centre first
 unfoldable pub samplesOf : List ℕ → List Float
 samplesOf bytes = listed (λ k. floatAt bytes (headerLength + 4 * k)) (countOf bytes)
 

@@ -1,6 +1,6 @@
 -- Document 01, 'The block and its samples': the sides as bits of a mask, and the part of the neighbour list that is a side's.
 -- LowX 0, HighX 1, LowY 2, HighY 3, LowZ 4, HighZ 5. Definitions only.
-use Prim.Native.Nat.{ℕ, _*_, _/_, _%_, _^_}
+use Prim.Native.Nat.{ℕ, _+_, _*_, _/_, _%_, _^_}
 use mathlib.Core.Bool.{Bool}
 use mathlib.Core.List.{List}
 use lib.Count.{ones}
@@ -19,6 +19,10 @@ neighbourLength n = sampleLength (2 * n)
 -- the number of sides named by the mask times the length of one neighbour block
 abbrev pub neighboursLength : ℕ → ℕ → ℕ
 neighboursLength n mask = ones mask * neighbourLength n
+
+-- the samples of a block and of its neighbours
+abbrev pub sampleCount : ℕ → ℕ → ℕ
+sampleCount n mask = sampleLength n + neighboursLength n mask
 
 -- how many sides below this one the mask names
 abbrev pub namedBelow : ℕ → ℕ → ℕ

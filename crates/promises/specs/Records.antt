@@ -18,7 +18,7 @@ use Rattle.model.specs.declared.RecordWritten.the-variants as RecordWritten
 use Rattle.model.specs.Refusals.{orElse}
 use Rattle.model.specs.Star.{star}
 use Rattle.model.specs.Judging.{judgeStar, judgeBuffer}
-use Rattle.model.specs.Record.{headerLength, wordBytes, floatBytes, floatAt, headerOf, countOf, samplesOf, judgeRecord, ReadOutcome, readAnswer, readRecord, recordOf, WriteOutcome, writeAnswer, writeRecord}
+use Rattle.model.specs.Record.{headerLength, wordBytes, floatBytes, headerOf, countOf, samplesOf, judgeRecord, ReadOutcome, readAnswer, readRecord, recordOf, WriteOutcome, writeAnswer, writeRecord}
 use Rattle.judge.specs.First.{both-passed, unless-passed}
 use Rattle.promises.specs.Left.{Laid}
 use Rattle.promises.specs.Orders.{Judged, writingJudges, readingJudges}
@@ -67,7 +67,7 @@ module _ (bytes : List ℕ) (samples : List Float) where
       let passed = read-answered readVerdict h e in
       let fits = leb-true (countOf bytes) (length samples) (unless-passed _ (BufferTooShort (countOf bytes)) (both-passed (judgeRecord bytes) _ passed .1)) in
       subst (Laid (countOf bytes) (samplesOf bytes) samples) (sym (ap (λ (v : Verdict). read v .samples) passed))
-      (is-laid _ _ _ (length-listed (λ k. floatAt bytes (headerLength + 4 * k)) (countOf bytes)) fits)
+      (is-laid _ _ _ (length-listed _ (countOf bytes)) fits)
 
 -- ---- writing
 

@@ -19,7 +19,7 @@ use Rattle.model.specs.Refusals.{unless, first}
 use Rattle.model.specs.Judging.{usable, measureUsable, judgeMeasures, judgeSamples, sampleUsable}
 use Rattle.model.specs.Sides.{neighbourLength}
 use Rattle.grid.specs.Places.{small}
-use Rattle.model.specs.Record.{wordAt, sampleCount, floatAt, headerOf, countOf, samplesOf, judgeRecord}
+use Rattle.model.specs.Record.{wordAt, floatAt, headerOf, countOf, samplesOf, judgeRecord}
 use Rattle.laws.specs.Lists.{length-listed, getD-listed}
 use Rattle.judge.specs.First.{unless-passed, both-passed, passed-over}
 use Rattle.record.specs.Words.{usable-number, size-number}

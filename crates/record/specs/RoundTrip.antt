@@ -23,7 +23,8 @@ use Rattle.model.specs.Sides.{named, namedBelow, neighbourLength, neighboursLen
 use Rattle.model.specs.Refusals.{unless, orElse}
 use Rattle.model.specs.Star.{starFrom}
 use Rattle.model.specs.Judging.{judgeMeasures, judgeMissing, sideThere, usable, judgeSamples, judgeBuffer, judgeStar}
-use Rattle.model.specs.Record.{sampleCount, countOf, headerOf, samplesOf, recordOf, judgeRecord, readAnswer, readRecord, writeAnswer, writeRecord}
+use Rattle.model.specs.Sides.{sampleCount}
+use Rattle.model.specs.Record.{countOf, headerOf, samplesOf, recordOf, judgeRecord, readAnswer, readRecord, writeAnswer, writeRecord}
 use Rattle.grid.specs.Shape.{Shaped}
 use Rattle.grid.specs.SideLaws.{named-below}
 use Rattle.judge.specs.First.{both-passed, passed-over}

@@ -4,7 +4,8 @@ ghost use Prim.Native.Nat.{_+_, _*_, _≤_, _<_};
 ghost use lib.ListN.{length};
 ghost use Rattle.model.specs.Refusals.{first};
 ghost use Rattle.model.specs.Judging.{usable, usableSize, measureUsable, judgeMeasures};
-ghost use Rattle.model.specs.Record.{floatAt, headerOf, sampleCount, judgeLength, judgeRecord};
+ghost use Rattle.model.specs.Sides.{sampleCount};
+ghost use Rattle.model.specs.Record.{floatAt, headerOf, judgeLength, judgeRecord};
 ghost use Rattle.record.specs.Parts.{HeadPassed, sampleUsableAt, judgeHead, judgeBody};
 use crate::words::word_at;
 use grid::transition_sides::count;
@@ -99,14 +100,6 @@ fn judge_head(bytes: &[u8]) -> Verdict
         return Verdict::Refused(r);
     }
     judge_measures(bytes)
-}
-
-// The samples of a block and of its neighbours.
-pub fn sample_count(n: usize, mask: u8) -> usize
-    requires { ⌜ (n ≤ 16) × (mask ≤ 63) ⌝ }
-    ensures { λ r. ⌜ (r ≡ sampleCount n mask) × (r ≤ 297297) ⌝ }
-{
-    sample_length(n) + count(mask) * sample_length(2 * n)
 }
 
 fn judge_samples(bytes: &[u8], count: usize) -> Verdict

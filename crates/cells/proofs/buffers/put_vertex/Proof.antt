@@ -3,7 +3,7 @@ use native.Mathlib.Numerals.{towards-suc}
 use native.Mathlib.Omega.{arith}
 use borrow.Author.Needs.{needs}
 use lib.ListN.{length-set}
-use Rattle.cells.specs.Buffers.{lay}
+use Rattle.laws.specs.Laying.{lay}
 use Rattle.cells.proofs.buffers.put_vertex.Statement.{statement}
 use Rattle.cells.proofs.buffers.put_vertex.Tie as tie
 

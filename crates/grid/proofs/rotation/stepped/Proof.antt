@@ -3,13 +3,14 @@ use Prim.Native.Nat.{_*_, _≤_}
 use native.Mathlib.Nat.{mul-le-mul}
 use native.Mathlib.Omega.{arith}
 use borrow.Author.Needs.{needs}
+use Rattle.model.specs.Limits.{mostFine}
 use Rattle.grid.proofs.rotation.stepped.Statement.{statement}
 use Rattle.grid.proofs.rotation.stepped.Tie as tie
 
-ups : (c : tie.Start) → c .args .k * c .args .up ≤ 32
+ups : (c : tie.Start) → c .args .k * c .args .up ≤ mostFine
 ups c = mul-le-mul (c .pre .k-few) (c .pre .up-unit)
 
-downs : (c : tie.Start) → c .args .k * c .args .down ≤ 32
+downs : (c : tie.Start) → c .args .k * c .args .down ≤ mostFine
 downs c = mul-le-mul (c .pre .k-few) (c .pre .down-unit)
 
 mul-result : tie.Need-mul-result

@@ -1,11 +1,12 @@
+-- `grid::transition_sides::sample_count` meets its contract: the centre's samples and at most six neighbours' are few.
 use Prim.Native.Nat.{_+_, _*_, _≤_}
 use mathlib.Core.Path.{_≡_, ap₂}
 use native.Mathlib.Omega.{arith}
 use borrow.Author.Needs.{needs}
-use Rattle.model.specs.Record.{sampleCount}
-use Rattle.record.specs.Accepted.{count-small}
-use Rattle.record.proofs.judging.sample_count.Statement.{statement}
-use Rattle.record.proofs.judging.sample_count.Tie as tie
+use Rattle.model.specs.Sides.{sampleCount}
+use Rattle.grid.specs.Counts.{mostSamples, count-small}
+use Rattle.grid.proofs.transition_sides.sample_count.Statement.{statement}
+use Rattle.grid.proofs.transition_sides.sample_count.Tie as tie
 
 sample-length-requires : tie.Need-sample-length-requires
 sample-length-requires c κs = search needs
@@ -22,7 +23,7 @@ sample-length-requires-2 c κs = search needs
 -- what is worked out, and that it is small
 counted : (c : tie.After-sample-length2)
     → (c .before .before .sample-length .result + c .before .count .result * c .sample-length2 .result ≡ sampleCount (c .before .before .before .args .n) (c .before .before .before .args .mask))
-    × (c .before .before .sample-length .result + c .before .count .result * c .sample-length2 .result ≤ 297297)
+    × (c .before .before .sample-length .result + c .before .count .result * c .sample-length2 .result ≤ mostSamples)
 counted c =
     let start = c .before .before .before in
     let is = ap₂ _+_ (c .before .before .sample-length .ensures) (ap₂ _*_ (c .before .count .ensures) (c .sample-length2 .ensures)) in

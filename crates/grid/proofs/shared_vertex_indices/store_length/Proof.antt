@@ -1,16 +1,12 @@
--- `judge::store_length` meets its contract: the square and the cube of a number of subdivisions are small.
+-- `grid::shared_vertex_indices::store_length` meets its contract: the square and the cube of a number of subdivisions are small.
 use borrow.Author.Needs.{needs}
-use Prim.Native.Nat.{_*_, _≤_}
-use native.Mathlib.Nat.{mul-le-mul}
 use native.Mathlib.Omega.{arith}
-use Rattle.judge.proofs.store_length.Statement.{statement}
-use Rattle.judge.proofs.store_length.Tie as tie
+use Rattle.grid.specs.StorePlaces.{SmallStore, small-store}
+use Rattle.grid.proofs.shared_vertex_indices.store_length.Statement.{statement}
+use Rattle.grid.proofs.shared_vertex_indices.store_length.Tie as tie
 
--- the square and the cube of a number of subdivisions
-small : (c : tie.Start) → (c .args .n * c .args .n ≤ 256) × (c .args .n * c .args .n * c .args .n ≤ 4096)
-small c =
-    let square = mul-le-mul (c .pre) (c .pre) in
-    (square, mul-le-mul square (c .pre))
+small : (c : tie.Start) → SmallStore (c .args .n)
+small c = small-store (c .args .n) (c .pre)
 
 mul-result : tie.Need-mul-result
 mul-result c = omega (arith, small c)
