@@ -2,8 +2,7 @@
 -- words, into buffers in which 9 and 10 have found room.
 use Prim.Native.Nat.{ℕ, _*_, _/_, _≤_}
 use native.Mathlib.Omega.{arith}
-use mathlib.Core.Path.{_≡_, refl, ap}
-use mathlib.Core.Logic.{_↔_}
+use mathlib.Core.Path.{_≡_, refl, sym, ap, _∙_}
 use mathlib.Core.Bool.{and-eq-true-iff}
 use borrow.Author.Tests.{leb-true}
 use lib.Dec.{leb}
@@ -25,7 +24,7 @@ use Rattle.closed.specs.Front.{regular-first, store-long, none-named}
 use Rattle.promises.specs.Left.{Lent, answered, left, counts}
 use Rattle.promises.specs.Orders.{Judged, extractionJudges}
 use Rattle.promises.specs.Promises.{EqualMesh, NoHoleIsLeft}
-use Rattle.promises.specs.Judges.{extraction-in-order, extraction-numbered, no-room}
+use Rattle.promises.specs.Judges.{judged, extraction-in-order, extraction-numbered, no-room}
 use Rattle.promises.specs.ReadBack.{is-laid}
 use Rattle.promises.specs.Surface.{no-hole-left}
 
@@ -35,16 +34,6 @@ module _ (m : Mesh) (lent : Lent) where
 
   abbrev meshed : Counts
   meshed = record { vertices = length (m .made); triangles = length (m .triangles) }
-
-  mesh-refused : (v : Verdict) (r : Refusal) → (came v .answer ≡ Extraction.Refused r) ↔ (v ≡ Refused r)
-  unfolding outcome
-  mesh-refused Passed r = (λ e. cc, λ e. cc)
-  mesh-refused (Refused q) r = (λ e. cc, λ e. cc)
-
-  mesh-accepted : (v : Verdict) → (came v .answer ≡ Extraction.Mesh meshed) ↔ (v ≡ Passed)
-  unfolding outcome
-  mesh-accepted Passed = (λ e. refl, λ e. refl)
-  mesh-accepted (Refused q) = (λ e. cc, λ e. cc)
 
   mesh-answered : (v : Verdict) (c : Counts) → came v .answer ≡ Extraction.Mesh c → (v ≡ Passed) × (c ≡ meshed)
   unfolding outcome
@@ -56,19 +45,16 @@ module _ (s : Star) (lent : Lent) where
   verdict = judgeExtraction s (length (lent .store)) (length (lent .vertices)) (length (lent .triangles))
 
   pub extraction : Judged (extractionJudges s lent) (λ r. answered s lent ≡ Extraction.Refused r) (answered s lent ≡ Extraction.Mesh (counts s))
-  unfolding extract
+  unfolding extract outcome
   extraction =
-      record {
-        numbered = extraction-numbered s lent;
-        refused-by-first = λ r. rw (extraction-in-order s lent) (mesh-refused (meshOf s) lent verdict r);
-        accepted-by-all = rw (extraction-in-order s lent) (mesh-accepted (meshOf s) lent verdict);
-      }
+      judged Extraction.Refused (Extraction.Mesh (counts s)) (λ v. came (meshOf s) lent v .answer) refl (λ r. refl) (λ q r e. cc) (λ r e. cc)
+      (extractionJudges s lent) verdict (extraction-in-order s lent) (extraction-numbered s lent)
 
   pub extraction-untouched : (r : Refusal) → answered s lent ≡ Extraction.Refused r → left s lent ≡ lent
   unfolding extract outcome
   extraction-untouched r e =
-      let refused : verdict ≡ Refused r = mesh-refused (meshOf s) lent verdict r .0 e in
-      ap (λ (v : Verdict). let o = came (meshOf s) lent v in record { store = o .store; vertices = o .vertices; triangles = o .triangles }) refused
+      ap (λ (v : Verdict). let o = came (meshOf s) lent v in record { store = o .store; vertices = o .vertices; triangles = o .triangles })
+      (sym (extraction-in-order s lent) ∙ extraction .refused-by-first r .0 e)
 
   pub wanted : (c : Counts) → answered s lent ≡ Extraction.Refused (NoRoom c) → c ≡ counts s
   wanted c e = no-room s lent c (extraction .refused-by-first (NoRoom c) .0 e)

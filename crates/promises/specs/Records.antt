@@ -1,8 +1,7 @@
 -- The reader and the writer, by the two things that their judges can come to, passed and refused.
 use Prim.Native.Nat.{ℕ, _+_, _*_}
 use native.Mathlib.Omega.{arith}
-use mathlib.Core.Path.{_≡_, refl, sym, ap, subst}
-use mathlib.Core.Logic.{_↔_}
+use mathlib.Core.Path.{_≡_, refl, sym, ap, _∙_, subst}
 use mathlib.Core.List.{List, _++_}
 use borrow.Author.Tests.{leb-true}
 use lib.Ieee.{Float}
@@ -22,7 +21,7 @@ use Rattle.model.specs.Record.{headerLength, wordBytes, floatBytes, headerOf, c
 use Rattle.judge.specs.First.{both-passed, unless-passed}
 use Rattle.promises.specs.Left.{Laid}
 use Rattle.promises.specs.Orders.{Judged, writingJudges, readingJudges}
-use Rattle.promises.specs.Judges.{reading-in-order, writing-in-order, writing-numbered, reading-numbered}
+use Rattle.promises.specs.Judges.{judged, reading-in-order, writing-in-order, writing-numbered, reading-numbered}
 use Rattle.promises.specs.ReadBack.{is-laid}
 
 -- ---- reading
@@ -34,14 +33,6 @@ module _ (bytes : List ℕ) (samples : List Float) where
   abbrev readVerdict : Verdict
   readVerdict = orElse (judgeRecord bytes) (judgeBuffer (countOf bytes) (length samples))
 
-  read-refused : (v : Verdict) (r : Refusal) → (read v .answer ≡ RecordRead.Refused r) ↔ (v ≡ Refused r)
-  read-refused Passed r = (λ e. cc, λ e. cc)
-  read-refused (Refused q) r = (λ e. cc, λ e. cc)
-
-  read-accepted : (v : Verdict) → (read v .answer ≡ RecordRead.Block (headerOf bytes)) ↔ (v ≡ Passed)
-  read-accepted Passed = (λ e. refl, λ e. refl)
-  read-accepted (Refused q) = (λ e. cc, λ e. cc)
-
   read-answered : (v : Verdict) (h : Header) → read v .answer ≡ RecordRead.Block h → v ≡ Passed
   read-answered Passed h e = refl
   read-answered (Refused q) h e = cc
@@ -50,15 +41,12 @@ module _ (bytes : List ℕ) (samples : List Float) where
       (readRecord bytes samples .answer ≡ RecordRead.Block (headerOf bytes))
   unfolding readRecord
   reading =
-      record {
-        numbered = reading-numbered bytes samples;
-        refused-by-first = λ r. rw (reading-in-order bytes samples) (read-refused readVerdict r);
-        accepted-by-all = rw (reading-in-order bytes samples) (read-accepted readVerdict);
-      }
+      judged RecordRead.Refused (RecordRead.Block (headerOf bytes)) (λ v. read v .answer) refl (λ r. refl) (λ q r e. cc) (λ r e. cc)
+      (readingJudges bytes samples) readVerdict (reading-in-order bytes samples) (reading-numbered bytes samples)
 
   pub reading-untouched : (r : Refusal) → readRecord bytes samples .answer ≡ RecordRead.Refused r → readRecord bytes samples .samples ≡ samples
   unfolding readRecord
-  reading-untouched r e = ap (λ (v : Verdict). read v .samples) (read-refused readVerdict r .0 e)
+  reading-untouched r e = ap (λ (v : Verdict). read v .samples) (sym (reading-in-order bytes samples) ∙ reading .refused-by-first r .0 e)
 
   pub samples-laid : (h : Header) → readRecord bytes samples .answer ≡ RecordRead.Block h
       → Laid (countOf bytes) (samplesOf bytes) samples (readRecord bytes samples .samples)
@@ -82,14 +70,6 @@ module _ (h : Header) (centre neighbours : List Float) (bytes : List ℕ) where
   writtenVerdict =
       orElse (judgeStar (star h centre neighbours)) (judgeBuffer (headerLength + 4 * length all) (length bytes))
 
-  write-refused : (v : Verdict) (r : Refusal) → (written v .answer ≡ RecordWritten.Refused r) ↔ (v ≡ Refused r)
-  write-refused Passed r = (λ e. cc, λ e. cc)
-  write-refused (Refused q) r = (λ e. cc, λ e. cc)
-
-  write-accepted : (v : Verdict) → (written v .answer ≡ RecordWritten.Bytes (headerLength + 4 * length all)) ↔ (v ≡ Passed)
-  write-accepted Passed = (λ e. refl, λ e. refl)
-  write-accepted (Refused q) = (λ e. cc, λ e. cc)
-
   write-answered : (v : Verdict) (k : ℕ) → written v .answer ≡ RecordWritten.Bytes k → (v ≡ Passed) × (k ≡ headerLength + 4 * length all)
   write-answered Passed k e = (refl, cc)
   write-answered (Refused q) k e = (cc, cc)
@@ -98,16 +78,13 @@ module _ (h : Header) (centre neighbours : List Float) (bytes : List ℕ) where
       (writeRecord h centre neighbours bytes .answer ≡ RecordWritten.Bytes (headerLength + 4 * length all))
   unfolding writeRecord
   writing =
-      record {
-        numbered = writing-numbered h centre neighbours bytes;
-        refused-by-first = λ r. rw (writing-in-order h centre neighbours bytes) (write-refused writtenVerdict r);
-        accepted-by-all = rw (writing-in-order h centre neighbours bytes) (write-accepted writtenVerdict);
-      }
+      judged RecordWritten.Refused (RecordWritten.Bytes (headerLength + 4 * length all)) (λ v. written v .answer) refl (λ r. refl) (λ q r e. cc) (λ r e. cc)
+      (writingJudges h centre neighbours bytes) writtenVerdict (writing-in-order h centre neighbours bytes) (writing-numbered h centre neighbours bytes)
 
   pub writing-untouched : (r : Refusal) → writeRecord h centre neighbours bytes .answer ≡ RecordWritten.Refused r
       → writeRecord h centre neighbours bytes .bytes ≡ bytes
   unfolding writeRecord
-  writing-untouched r e = ap (λ (v : Verdict). written v .bytes) (write-refused writtenVerdict r .0 e)
+  writing-untouched r e = ap (λ (v : Verdict). written v .bytes) (sym (writing-in-order h centre neighbours bytes) ∙ writing .refused-by-first r .0 e)
 
   record-long : length (recordOf h all) ≡ headerLength + 4 * length all
   unfolding recordOf wordBytes

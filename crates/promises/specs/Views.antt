@@ -3,7 +3,6 @@ use Prim.Native.Nat.{ℕ, _+_, _*_, _^_, _≤_, _<_}
 use native.Mathlib.Decide.{decLt}
 use native.Mathlib.Omega.{arith}
 use mathlib.Core.Path.{_≡_, refl, sym, ap, _∙_}
-use mathlib.Core.Logic.{_↔_}
 use mathlib.Core.Bool.{Bool, true, false, cond, _||_, _&&_, and-eq-true-iff}
 use mathlib.Core.List.{List}
 use borrow.Author.Tests.{leb-true}
@@ -21,6 +20,7 @@ use Rattle.model.specs.declared.Refusal.{Refusal}
 use Rattle.model.specs.declared.Refusal.the-variants.{Subdivisions, PointNeverSampled}
 use Rattle.model.specs.declared.Verdict.{Verdict}
 use Rattle.model.specs.declared.Verdict.the-variants.{Passed, Refused}
+use Rattle.model.specs.declared.PointRead.{PointRead}
 use Rattle.model.specs.declared.PointRead.the-variants as PointRead
 use Rattle.model.specs.Samples.{placeOf, sampled, valueAt, readingAt, oneUp}
 use Rattle.model.specs.Formulas.{insideBit}
@@ -33,7 +33,7 @@ use Rattle.model.specs.Viewer.{packed, blankOf, sampleBits, sampleAnswer}
 use Rattle.judge.specs.First.{both-passed, unless-passed}
 use Rattle.promises.specs.Orders.{inOrder, Judged, Packed, recordJudges, pointJudges, sampleJudges}
 use Rattle.promises.specs.Promises.{pointValue}
-use Rattle.promises.specs.Judges.{record-in-order, point-in-order, sample-in-order, record-numbered, point-numbered, sample-numbered}
+use Rattle.promises.specs.Judges.{judged, record-in-order, point-in-order, sample-in-order, record-numbered, point-numbered, sample-numbered}
 
 abbrev readingIf : Bool → Float → Reading
 readingIf b x = cond b (Reading.Value x) Reading.NeverSampled
@@ -41,15 +41,15 @@ readingIf b x = cond b (Reading.Value x) Reading.NeverSampled
 abbrev andPoint : Verdict → Bool → Verdict
 andPoint v b = orElse v (unless b PointNeverSampled)
 
-point-refused : (v : Verdict) (b : Bool) (x : Float) (r : Refusal) → (pointAnswer v (readingIf b x) ≡ PointRead.Refused r) ↔ (andPoint v b ≡ Refused r)
-point-refused (Refused q) b x r = (λ e. cc, λ e. cc)
-point-refused Passed true x r = (λ e. cc, λ e. cc)
-point-refused Passed false x r = (λ e. cc, λ e. cc)
+-- what a point read says of its judges' verdict, the point's own among them
+abbrev pointOf : Float → Verdict → PointRead
+pointOf x Passed = PointRead.Value x
+pointOf x (Refused r) = PointRead.Refused r
 
-point-accepted : (v : Verdict) (b : Bool) (x : Float) → (pointAnswer v (readingIf b x) ≡ PointRead.Value x) ↔ (andPoint v b ≡ Passed)
-point-accepted (Refused q) b x = (λ e. cc, λ e. cc)
-point-accepted Passed true x = (λ e. refl, λ e. refl)
-point-accepted Passed false x = (λ e. cc, λ e. cc)
+point-of : (v : Verdict) (b : Bool) (x : Float) → pointAnswer v (readingIf b x) ≡ pointOf x (andPoint v b)
+point-of (Refused q) b x = refl
+point-of Passed true x = refl
+point-of Passed false x = refl
 
 pub point : (n : ℕ) (samples : List Float) (x y z : ℤ)
     → Judged (pointJudges n samples x y z) (λ r. readPoint n samples x y z ≡ PointRead.Refused r)
@@ -59,11 +59,9 @@ point n samples x y z =
     let v = orElse (judgeSubdivisions n) (judgeCentre n (length samples)) in
     let b = sampled n (oneUp n x) (oneUp n y) (oneUp n z) in
     let value = pointValue n samples x y z in
-    record {
-      numbered = point-numbered n samples x y z;
-      refused-by-first = λ r. rw (point-in-order n samples x y z) (point-refused v b value r);
-      accepted-by-all = rw (point-in-order n samples x y z) (point-accepted v b value);
-    }
+    rw (point-of v b value)
+    (judged PointRead.Refused (PointRead.Value value) (pointOf value) refl (λ r. refl) (λ q r e. cc) (λ r e. cc)
+    (pointJudges n samples x y z) (andPoint v b) (point-in-order n samples x y z) (point-numbered n samples x y z))
 
 pub packed-record : (bytes : List ℕ) (base value : ℕ) → (inOrder (recordJudges bytes) ≡ Passed → value < base)
     → Packed (recordJudges bytes) base value (packed base (judgeRecord bytes) value)
