@@ -1,6 +1,4 @@
-mod Words
-mod Corners
-mod Filling
-mod FineBits
-mod FineCases
-mod FineLines
+mod Rows
+mod Lines
+mod Cuts
+mod Fine

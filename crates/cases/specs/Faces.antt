@@ -1,19 +1,35 @@
--- The words that hold the fine points of the named sides. Definitions only.
+-- The three lines of fine samples that a row of transition cells lies on, each at a fixed step along v. Definitions only.
 use Prim.Native.Nat.{ℕ, _+_, _*_, _≤_, _<_}
-use mathlib.Core.Path.{_≡_}
-use mathlib.Core.Bool.{true}
 use mathlib.Core.List.{List}
+use lib.Ieee.{Float, nan}
 use lib.ListN.{getD}
-use Rattle.model.specs.Sides.{named}
-use Rattle.model.specs.Star.{Star, subdivisions}
-use Rattle.model.specs.Points.{fineSample}
-use Rattle.cases.specs.Words.{wordOf}
+use Rattle.model.specs.Formulas.{insideBit}
+use Rattle.grid.specs.declared.face_walk.Stride.{Stride}
+use Rattle.grid.specs.Walks.{alongBy, Leads}
+use Rattle.cases.specs.declared.transition.Lines.{Lines}
 
--- a side's whole word at u2
-unfoldable pub wholeColumn : Star → ℕ → ℕ → ℕ
-wholeColumn s side u2 = wordOf (s .threshold) (fineSample s side u2) (2 * subdivisions s + 1)
+-- the place after v2 steps from the first is one of so many
+pub record Spot (held first : ℕ) (step : Stride) (v2 : ℕ) : Type 0 where
+  pub leads : Leads first step v2
+  pub there : alongBy first step v2 < held
 
--- the columns of each named side below this one are written
-pub record SidesTo (s : Star) (side : ℕ) (columns : List ℕ) : Type 0 where
-  pub column-at : (k u2 : ℕ) → k < side → named (s .mask) k ≡ true → u2 ≤ 2 * subdivisions s
-      → getD columns (33 * k + u2) 0 ≡ wholeColumn s k u2
+-- so it is on each of the three lines
+pub record Lined (held : ℕ) (l : Lines) (v2 : ℕ) : Type 0 where
+  pub on-a : Spot held (l .a) (l .step) v2
+  pub on-b : Spot held (l .b) (l .step) v2
+  pub on-c : Spot held (l .c) (l .step) v2
+
+-- what a point adds if it is inside
+abbrev pub weighedAt : Float → List Float → ℕ → Stride → ℕ → ℕ → ℕ
+weighedAt t fine first step v2 w = w * insideBit t (getD fine (alongBy first step v2) nan)
+
+-- the three points at one v2
+abbrev pub threeInside : Float → List Float → Lines → ℕ → ℕ → ℕ → ℕ → ℕ
+threeInside t fine l v2 wa wb wc =
+    weighedAt t fine (l .a) (l .step) v2 wa + weighedAt t fine (l .b) (l .step) v2 wb + weighedAt t fine (l .c) (l .step) v2 wc
+
+-- the nine points of the cell at v
+abbrev pub nineInside : Float → List Float → Lines → ℕ → ℕ
+nineInside t fine l v =
+    threeInside t fine l (2 * v) 0x01 0x02 0x04 + threeInside t fine l (2 * v + 1) 0x80 0x100 0x08
+    + threeInside t fine l (2 * v + 2) 0x40 0x20 0x10

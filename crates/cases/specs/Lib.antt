@@ -1,6 +1,3 @@
-pub mod Bits
-pub mod Columns
-pub mod Words
-pub mod Layers
+pub mod Sheets
 pub mod Faces
-pub mod Lines
+pub mod Scans

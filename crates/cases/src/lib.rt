@@ -1,5 +1,5 @@
-// The case numbers. Which points are inside is found once and kept as bits, a column of points to a word; a cell's case number, and
-// which cells of a column are cut at all, come from those words.
-pub mod bits;
+// The case numbers. A sheet holds those of a layer of regular cells, or of a side's transition cells: rows of sixty-four places, of which
+// the first n are cells. Each cell reads its own samples; a scan steps over the cells that are not cut.
 pub mod regular;
+pub mod scan;
 pub mod transition;

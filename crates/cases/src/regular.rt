@@ -1,99 +1,95 @@
-// Regular cells: the columns of the centre's points along z, the cells of a column that are cut, and a cell's case number.
+// The sheet of a layer of regular cells: each cell reads its own eight samples, from four lines along z.
 ghost use mathlib.Core.Path.{_≡_};
-ghost use mathlib.Core.Bool.{true};
 ghost use mathlib.Core.List.{List};
-ghost use Prim.Native.Nat.{ℕ, _+_, _*_, _/_, _%_, _^_, _≤_, _<_};
+ghost use Prim.Native.Nat.{_+_, _*_, _≤_, _<_};
 ghost use lib.Ieee.{Float};
 ghost use lib.ListN.{length};
+ghost use Rattle.model.specs.Limits.{mostSubdivisions};
 ghost use Rattle.model.specs.Samples.{sampleLength};
-ghost use Rattle.model.specs.Star.{Star, starFrom};
+ghost use Rattle.model.specs.Formulas.{insideBit};
+ghost use Rattle.model.specs.Star.{star};
 ghost use Rattle.model.specs.Points.{regularCase};
-ghost use Rattle.cases.specs.Columns.{Columns, uncut};
-ghost use Rattle.cases.specs.Layers.{columnAt, fourBits};
-ghost use Rattle.cases.specs.Words.{WordsPut};
-use crate::bits::bit_at;
-use crate::bits::inside_bit;
-use grid::voxel_blocks::sample;
-use model::Block;
-use model::Xyz;
+ghost use Rattle.cases.specs.Sheets.{rowWidth, sheetPlaces, Sheet, RowPut, Line, fourInside, lineCase};
+use crate::scan::ROW;
+use grid::voxel_blocks::in_block;
+use grid::voxel_blocks::inside;
+use model::Header;
 
-// Bit z tells whether the point (x, y, z) is inside.
-fn column(n: usize, threshold: f32, centre: &[f32], x: usize, y: usize) -> u64
-    requires { ⌜ (n ≤ 16) × (length (now centre) ≡ sampleLength n) ⌝ }
-    requires { ⌜ (x ≤ n) × (y ≤ n) ⌝ }
-    ensures { λ r. ⌜ r ≡ columnAt n threshold (now (centre .entry)) x y ⌝ }
+fn bit(threshold: f32, sample: f32) -> u8
+    ensures { λ r. ⌜ (r ≡ insideBit threshold sample) × (r ≤ 1) ⌝ }
 {
-    let m = n + 1;
-    let mut bits = 0u64;
-    let mut z = 0;
-    while z < m {
-        bits += inside_bit(threshold, sample(n, centre, Xyz { x, y, z })) << z;
-        z += 1;
-    }
-    bits
-}
-
-fn layer(n: usize, threshold: f32, centre: &[f32], x: usize, columns: &mut [u64])
-    requires { ⌜ (n ≤ 16) × (length (now centre) ≡ sampleLength n) ⌝ }
-    requires { ⌜ (x ≤ n) × (length (now columns) ≡ 289) ⌝ }
-    ensures { λ _. ⌜ WordsPut (columnAt n threshold (now (centre .entry)) x) (17 * x) (n + 1) (now (columns .entry)) (now (columns .exit)) ⌝ }
-{
-    let m = n + 1;
-    let mut y = 0;
-    while y < m {
-        columns[17 * x + y] = column(n, threshold, centre, x, y);
-        y += 1;
-    }
-}
-
-// The column at (x, y) stands at 17 x + y.
-pub fn regular_columns(block: Block, threshold: f32, centre: &[f32], columns: &mut [u64; 289])
-    requires { ⌜ (block .subdivisions ≤ 16) × (length (now centre) ≡ sampleLength (block .subdivisions)) ⌝ }
-    ensures { λ _. ⌜ ((mask : ℕ) (ns : List Float) → Columns (block .subdivisions) (starFrom block mask threshold (now (centre .entry)) ns) (now (columns .exit))) ⌝ }
-{
-    let n = block.subdivisions;
-    let m = n + 1;
-    let mut x = 0;
-    while x < m {
-        layer(n, threshold, centre, x, columns);
-        x += 1;
-    }
-}
-
-// Bit z is clear only if the cell (x, y, z) is not cut.
-pub fn cut_cells(n: usize, columns: &[u64; 289], x: usize, y: usize) -> u64
-    requires { ⌜ (n ≤ 16) × ((x < n) × (y < n)) ⌝ }
-    ensures { λ r. ⌜ ((s : Star) → Columns n s (now (columns .entry)) → (z : ℕ) → z < n → r / 2 ^ z % 2 ≡ 0 → uncut (regularCase s x y z) 255 ≡ true) ⌝ }
-{
-    let at = 17 * x + y;
-    let a = columns[at];
-    let b = columns[at + 17];
-    let c = columns[at + 1];
-    let d = columns[at + 18];
-    let any = (a | b) | (c | d);
-    let all = (a & b) & (c & d);
-    (any | (any >> 1)) ^ (all & (all >> 1))
+    if inside(threshold, sample) { 1 } else { 0 }
 }
 
 // The four corners at one z, as the Rust numbers them.
-fn four_corners(a: u64, b: u64, c: u64, d: u64, z: usize) -> usize
-    requires { ⌜ z < 64 ⌝ }
-    ensures { λ r. ⌜ (r ≡ fourBits a b c d z) × (r < 16) ⌝ }
+fn four(threshold: f32, a: &[f32], b: &[f32], c: &[f32], d: &[f32], z: usize) -> u8
+    requires { ⌜ (z < length (now a)) × ((z < length (now b)) × ((z < length (now c)) × (z < length (now d)))) ⌝ }
+    ensures { λ r. ⌜ (r ≡ fourInside threshold (now (a .entry)) (now (b .entry)) (now (c .entry)) (now (d .entry)) z) × (r ≤ 15) ⌝ }
 {
-    bit_at(a, z) + 2 * bit_at(b, z) + 4 * bit_at(c, z) + 8 * bit_at(d, z)
+    bit(threshold, a[z])
+        + 2 * bit(threshold, b[z])
+        + 4 * bit(threshold, c[z])
+        + 8 * bit(threshold, d[z])
 }
 
-pub fn regular_case(n: usize, columns: &[u64; 289], x: usize, y: usize, z: usize) -> usize
-    requires { ⌜ (n ≤ 16) × ((x < n) × ((y < n) × (z < n))) ⌝ }
-    ensures { λ r. ⌜ ((s : Star) → Columns n s (now (columns .entry)) → r ≡ regularCase s x y z) ⌝ }
-    ensures { λ r. ⌜ r < 256 ⌝ }
+// The cells between four lines, their numbers from start on.
+fn row_between(
+    n: usize,
+    threshold: f32,
+    a: &[f32],
+    b: &[f32],
+    c: &[f32],
+    d: &[f32],
+    cases: &mut [u8],
+    start: usize,
+)
+    requires { ⌜ (n ≤ mostSubdivisions) × (start + n ≤ length (now cases)) ⌝ }
+    requires { ⌜ (length (now a) ≡ n + 1) × ((length (now b) ≡ n + 1) × ((length (now c) ≡ n + 1) × (length (now d) ≡ n + 1))) ⌝ }
+    ensures { λ _. ⌜ RowPut (lineCase threshold (now (a .entry)) (now (b .entry)) (now (c .entry)) (now (d .entry))) start n (now (cases .entry)) (now (cases .exit)) ⌝ }
 {
-    let at = 17 * x + y;
-    let a = columns[at];
-    let b = columns[at + 17];
-    let c = columns[at + 1];
-    let d = columns[at + 18];
-    let low = four_corners(a, b, c, d, z);
-    let high = four_corners(a, b, c, d, z + 1);
-    low + 16 * high
+    let mut z = 0;
+    while z < n {
+        let low = four(threshold, a, b, c, d, z);
+        let high = four(threshold, a, b, c, d, z + 1);
+        cases[start + z] = low + 16 * high;
+        z += 1;
+    }
+}
+
+// The samples along z at (x, y).
+fn line(n: usize, centre: &[f32], x: usize, y: usize) -> &[f32]
+    requires { ⌜ (n ≤ mostSubdivisions) × ((x ≤ n) × (y ≤ n)) ⌝ }
+    requires { ⌜ length (now centre) ≡ sampleLength n ⌝ }
+    ensures { λ r. ⌜ Line n (now (centre .entry)) x y (now r) ⌝ }
+{
+    let start = in_block(n, x, y, 0);
+    let end = in_block(n, x, y, n) + 1;
+    &centre[start..end]
+}
+
+fn row(header: Header, centre: &[f32], x: usize, y: usize, cases: &mut [u8])
+    requires { ⌜ (header .block .subdivisions ≤ mostSubdivisions) × (length (now centre) ≡ sampleLength (header .block .subdivisions)) ⌝ }
+    requires { ⌜ (x < header .block .subdivisions) × ((y < header .block .subdivisions) × (length (now cases) ≡ sheetPlaces)) ⌝ }
+    ensures { λ _. ⌜ ((ns : List Float) → RowPut (regularCase (star header (now (centre .entry)) ns) x y) (rowWidth * y) (header .block .subdivisions) (now (cases .entry)) (now (cases .exit))) ⌝ }
+{
+    let n = header.block.subdivisions;
+    let a = line(n, centre, x, y);
+    let b = line(n, centre, x + 1, y);
+    let c = line(n, centre, x, y + 1);
+    let d = line(n, centre, x + 1, y + 1);
+    row_between(n, header.threshold, a, b, c, d, cases, ROW * y);
+}
+
+// The case numbers of the cells at x.
+pub fn layer_cases(header: Header, centre: &[f32], x: usize, cases: &mut [u8])
+    requires { ⌜ (header .block .subdivisions ≤ mostSubdivisions) × (length (now centre) ≡ sampleLength (header .block .subdivisions)) ⌝ }
+    requires { ⌜ (x < header .block .subdivisions) × (length (now cases) ≡ sheetPlaces) ⌝ }
+    ensures { λ _. ⌜ ((ns : List Float) → Sheet (regularCase (star header (now (centre .entry)) ns) x) (header .block .subdivisions) (header .block .subdivisions) (now (cases .exit))) ⌝ }
+{
+    let n = header.block.subdivisions;
+    let mut y = 0;
+    while y < n {
+        row(header, centre, x, y, cases);
+        y += 1;
+    }
 }

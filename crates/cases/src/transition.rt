@@ -1,154 +1,121 @@
-// Transition cells: the columns of a side's fine points along v, the cells of a row that are cut, and a cell's case number.
+// The sheet of a side's transition cells: each cell reads its own nine fine samples, from three lines along v. The side's first place and
+// its steps along u and v are found once.
 ghost use mathlib.Core.Path.{_≡_};
-ghost use mathlib.Core.Bool.{true};
 ghost use mathlib.Core.List.{List};
-ghost use Prim.Native.Nat.{ℕ, _+_, _*_, _/_, _%_, _^_, _≤_, _<_};
+ghost use Prim.Native.Nat.{ℕ, _+_, _*_, _≤_, _<_};
 ghost use lib.Ieee.{Float};
 ghost use lib.ListN.{length};
-ghost use Rattle.model.specs.Sides.{named, neighbourLength, neighboursLength};
-ghost use Rattle.model.specs.Star.{Star, starFrom};
+ghost use Rattle.model.specs.Limits.{mostSubdivisions, sideCount};
+ghost use Rattle.model.specs.Sides.{neighbourLength, neighbourOf};
+ghost use Rattle.model.specs.Star.{star};
 ghost use Rattle.model.specs.Points.{transitionCase};
 ghost use Rattle.grid.specs.SideLaws.{NeighbourThere};
-ghost use Rattle.grid.specs.RotationLaws.{OnFineFace};
-ghost use Rattle.cases.specs.Columns.{FineColumns, uncut};
-ghost use Rattle.cases.specs.Faces.{wholeColumn};
-ghost use Rattle.cases.specs.Lines.{lineOf, finePlace, stepUp, stepDown};
-ghost use Rattle.cases.specs.Words.{wordOf, WordsPut};
-use crate::bits::bit_at;
-use crate::bits::inside_bit;
-use grid::rotation::neighbour_point;
-use grid::transition_sides::SIDES;
+ghost use Rattle.grid.specs.Walks.{walkOf, alongBy, Leads};
+ghost use Rattle.cases.specs.Sheets.{rowWidth, sheetPlaces, Sheet, RowPut};
+ghost use Rattle.cases.specs.Faces.{Spot, Lined, weighedAt, threeInside, nineInside};
+use crate::scan::ROW;
+use grid::face_walk::FaceWalk;
+use grid::face_walk::Stride;
+use grid::face_walk::along;
+use grid::face_walk::face_walk;
 use grid::transition_sides::neighbour;
-use grid::transition_sides::next_side;
-use grid::voxel_blocks::in_block;
-use model::Block;
+use grid::voxel_blocks::inside;
+use model::Header;
 
-// The place of the fine point (u2, 0) of a side among the neighbour's samples.
-fn first_place(n: usize, side: usize, u2: usize) -> usize
-    requires { ⌜ OnFineFace n side u2 0 ⌝ }
-    ensures { λ r. ⌜ r ≡ finePlace n side u2 0 ⌝ }
-{
-    let p = neighbour_point(n, side, u2, 0);
-    in_block(2 * n, p.x, p.y, p.z)
+// The first places of the three lines that a row of cells lies on, and their step.
+struct Lines {
+    a: usize,
+    b: usize,
+    c: usize,
+    step: Stride,
 }
 
-// How far a step along v leads up among the neighbour's samples: on side 2 it leads down, as V is -Z there.
-fn step_up(n: usize, side: usize) -> usize
-    requires { ⌜ (n ≤ 16) × (side < 6) ⌝ }
-    ensures { λ r. ⌜ r ≡ stepUp n side ⌝ }
+// The weight of the point v2 steps along a line, if it is inside.
+fn weighed(threshold: f32, fine: &[f32], first: usize, step: Stride, v2: usize, w: u16) -> u16
+    requires { ⌜ Spot (length (now fine)) first step v2 ⌝ }
+    ensures { λ r. ⌜ (r ≡ weighedAt threshold (now (fine .entry)) first step v2 w) × (r ≤ w) ⌝ }
 {
-    match side {
-        2 => 0,
-        3 => 1,
-        _ => 2 * n + 1,
-    }
+    let i = along(first, step, v2);
+    if inside(threshold, fine[i]) { w } else { 0 }
 }
 
-// How far it leads down.
-fn step_down(side: usize) -> usize
-    requires { ⌜ side < 6 ⌝ }
-    ensures { λ r. ⌜ ((n : ℕ) → r ≡ stepDown n side) × (r ≤ 1) ⌝ }
+fn three(threshold: f32, fine: &[f32], lines: Lines, v2: usize, wa: u16, wb: u16, wc: u16) -> u16
+    requires { ⌜ Lined (length (now fine)) lines v2 × ((wa ≤ 256) × ((wb ≤ 256) × (wc ≤ 256))) ⌝ }
+    ensures { λ r. ⌜ (r ≡ threeInside threshold (now (fine .entry)) lines v2 wa wb wc) × (r ≤ wa + wb + wc) ⌝ }
 {
-    match side {
-        2 => 1,
-        _ => 0,
-    }
-}
-
-// Bit v2 tells whether the fine point (u2, v2) of a side is inside.
-fn column(n: usize, threshold: f32, fine: &[f32], side: usize, u2: usize) -> u64
-    requires { ⌜ OnFineFace n side u2 0 ⌝ }
-    requires { ⌜ length (now fine) ≡ neighbourLength n ⌝ }
-    ensures { λ r. ⌜ r ≡ wordOf threshold (lineOf n (now (fine .entry)) side u2) (2 * n + 1) ⌝ }
-{
-    let end = 2 * n;
-    let first = first_place(n, side, u2);
-    let up = step_up(n, side);
-    let down = step_down(side);
-    let mut bits = 0u64;
-    let mut v2 = 0;
-    while v2 <= end {
-        let at = first + v2 * up - v2 * down;
-        bits += inside_bit(threshold, fine[at]) << v2;
-        v2 += 1;
-    }
-    bits
-}
-
-fn face(
-    block: Block,
-    mask: u8,
-    threshold: f32,
-    neighbours: &[f32],
-    side: usize,
-    columns: &mut [u64],
-)
-    requires { ⌜ NeighbourThere (block .subdivisions) mask (now neighbours) side ⌝ }
-    requires { ⌜ length (now columns) ≡ 198 ⌝ }
-    ensures { λ _. ⌜ ((centre : List Float) → WordsPut (wholeColumn (starFrom block mask threshold centre (now (neighbours .entry))) side) (33 * side) (2 * block .subdivisions + 1) (now (columns .entry)) (now (columns .exit))) ⌝ }
-{
-    let end = 2 * block.subdivisions;
-    let fine = neighbour(block.subdivisions, mask, neighbours, side);
-    let mut u2 = 0;
-    while u2 <= end {
-        columns[33 * side + u2] = column(block.subdivisions, threshold, fine, side, u2);
-        u2 += 1;
-    }
-}
-
-// The column at u2 of a side stands at 33 side + u2.
-pub fn fine_columns(
-    block: Block,
-    mask: u8,
-    threshold: f32,
-    neighbours: &[f32],
-    columns: &mut [u64; 198],
-)
-    requires { ⌜ (block .subdivisions ≤ 16) × ((mask ≤ 63) × (length (now neighbours) ≡ neighboursLength (block .subdivisions) mask)) ⌝ }
-    ensures { λ _. ⌜ ((centre : List Float) → FineColumns (block .subdivisions) (starFrom block mask threshold centre (now (neighbours .entry))) (now (columns .exit))) ⌝ }
-{
-    let mut side = next_side(mask, 0);
-    while side < SIDES {
-        face(block, mask, threshold, neighbours, side, columns);
-        side = next_side(mask, side + 1);
-    }
-}
-
-// Bit 2 v is clear only if the cell (u, v) of the side is not cut.
-pub fn cut_row(n: usize, columns: &[u64; 198], side: usize, u: usize) -> u64
-    requires { ⌜ (n ≤ 16) × ((side < 6) × (u < n)) ⌝ }
-    ensures { λ r. ⌜ ((s : Star) → FineColumns n s (now (columns .entry)) → named (s .mask) side ≡ true → (v : ℕ) → v < n → r / 2 ^ (2 * v) % 2 ≡ 0 → uncut (transitionCase s side u v) 511 ≡ true) ⌝ }
-{
-    let at = 33 * side + 2 * u;
-    let a = columns[at];
-    let b = columns[at + 1];
-    let c = columns[at + 2];
-    let any = a | (b | c);
-    let all = a & (b & c);
-    (any | ((any >> 1) | (any >> 2))) ^ (all & ((all >> 1) & (all >> 2)))
-}
-
-// The bits of three columns at one v2, each with its weight.
-fn three_bits(a: u64, b: u64, c: u64, v2: usize, wa: usize, wb: usize, wc: usize) -> usize
-    requires { ⌜ (v2 < 64) × ((wa ≤ 256) × ((wb ≤ 256) × (wc ≤ 256))) ⌝ }
-    ensures { λ r. ⌜ (r ≡ wa * (a / 2 ^ v2 % 2) + wb * (b / 2 ^ v2 % 2) + wc * (c / 2 ^ v2 % 2)) × (r ≤ wa + wb + wc) ⌝ }
-{
-    wa * bit_at(a, v2) + wb * bit_at(b, v2) + wc * bit_at(c, v2)
+    weighed(threshold, fine, lines.a, lines.step, v2, wa)
+        + weighed(threshold, fine, lines.b, lines.step, v2, wb)
+        + weighed(threshold, fine, lines.c, lines.step, v2, wc)
 }
 
 // What each of the nine fine points adds if it is inside: the Rust's TRANSITION_HIGH_RES_FACE_CASE_CONTRIBUTIONS.
-pub fn transition_case(n: usize, columns: &[u64; 198], side: usize, u: usize, v: usize) -> usize
-    requires { ⌜ (n ≤ 16) × ((side < 6) × ((u < n) × (v < n))) ⌝ }
-    ensures { λ r. ⌜ ((s : Star) → FineColumns n s (now (columns .entry)) → named (s .mask) side ≡ true → r ≡ transitionCase s side u v) ⌝ }
-    ensures { λ r. ⌜ r < 512 ⌝ }
+fn nine(threshold: f32, fine: &[f32], lines: Lines, v: usize) -> u16
+    requires { ⌜ (v < mostSubdivisions) × (Lined (length (now fine)) lines (2 * v) × (Lined (length (now fine)) lines (2 * v + 1) × Lined (length (now fine)) lines (2 * v + 2))) ⌝ }
+    ensures { λ r. ⌜ r ≡ nineInside threshold (now (fine .entry)) lines v ⌝ }
 {
-    let at = 33 * side + 2 * u;
-    let a = columns[at];
-    let b = columns[at + 1];
-    let c = columns[at + 2];
     let v2 = 2 * v;
-    let low = three_bits(a, b, c, v2, 0x01, 0x02, 0x04);
-    let middle = three_bits(a, b, c, v2 + 1, 0x80, 0x100, 0x08);
-    let high = three_bits(a, b, c, v2 + 2, 0x40, 0x20, 0x10);
+    let low = three(threshold, fine, lines, v2, 0x01, 0x02, 0x04);
+    let middle = three(threshold, fine, lines, v2 + 1, 0x80, 0x100, 0x08);
+    let high = three(threshold, fine, lines, v2 + 2, 0x40, 0x20, 0x10);
     low + middle + high
+}
+
+// The cells on three lines, their numbers from start on.
+fn row_on(n: usize, threshold: f32, fine: &[f32], lines: Lines, cases: &mut [u16], start: usize)
+    requires { ⌜ (n ≤ mostSubdivisions) × (start + n ≤ length (now cases)) ⌝ }
+    requires { ⌜ ((v2 : ℕ) → v2 ≤ 2 * n → Lined (length (now fine)) lines v2) ⌝ }
+    ensures { λ _. ⌜ RowPut (nineInside threshold (now (fine .entry)) lines) start n (now (cases .entry)) (now (cases .exit)) ⌝ }
+{
+    let mut v = 0;
+    while v < n {
+        cases[start + v] = nine(threshold, fine, lines, v);
+        v += 1;
+    }
+}
+
+fn lines_at(walk: FaceWalk, u: usize) -> Lines
+    requires { ⌜ (u < mostSubdivisions) × (Leads (walk .first) (walk .u) (2 * u) × (Leads (walk .first) (walk .u) (2 * u + 1) × Leads (walk .first) (walk .u) (2 * u + 2))) ⌝ }
+    ensures { λ r. ⌜ r ≡ record { a = alongBy (walk .first) (walk .u) (2 * u); b = alongBy (walk .first) (walk .u) (2 * u + 1); c = alongBy (walk .first) (walk .u) (2 * u + 2); step = walk .v } ⌝ }
+{
+    let u2 = 2 * u;
+    let step = walk.v;
+    Lines {
+        a: along(walk.first, walk.u, u2),
+        b: along(walk.first, walk.u, u2 + 1),
+        c: along(walk.first, walk.u, u2 + 2),
+        step,
+    }
+}
+
+fn row(header: Header, fine: &[f32], walk: FaceWalk, side: usize, u: usize, cases: &mut [u16])
+    requires { ⌜ (header .block .subdivisions ≤ mostSubdivisions) × (length (now fine) ≡ neighbourLength (header .block .subdivisions)) ⌝ }
+    requires { ⌜ (side < sideCount) × (walk ≡ walkOf (2 * header .block .subdivisions) side (2 * header .block .subdivisions)) ⌝ }
+    requires { ⌜ (u < header .block .subdivisions) × (length (now cases) ≡ sheetPlaces) ⌝ }
+    ensures { λ _. ⌜ ((centre ns : List Float) → now (fine .entry) ≡ neighbourOf (header .block .subdivisions) (header .mask) ns side → RowPut (transitionCase (star header centre ns) side u) (rowWidth * u) (header .block .subdivisions) (now (cases .entry)) (now (cases .exit))) ⌝ }
+{
+    let lines = lines_at(walk, u);
+    row_on(
+        header.block.subdivisions,
+        header.threshold,
+        fine,
+        lines,
+        cases,
+        ROW * u,
+    );
+}
+
+// The case numbers of the cells of a named side.
+pub fn face_cases(header: Header, neighbours: &[f32], side: usize, cases: &mut [u16])
+    requires { ⌜ NeighbourThere (header .block .subdivisions) (header .mask) (now neighbours) side ⌝ }
+    requires { ⌜ (1 ≤ header .block .subdivisions) × (length (now cases) ≡ sheetPlaces) ⌝ }
+    ensures { λ _. ⌜ ((centre : List Float) → Sheet (transitionCase (star header centre (now (neighbours .entry))) side) (header .block .subdivisions) (header .block .subdivisions) (now (cases .exit))) ⌝ }
+{
+    let n = header.block.subdivisions;
+    let fine = neighbour(n, header.mask, neighbours, side);
+    let walk = face_walk(2 * n, side, 2 * n);
+    let mut u = 0;
+    while u < n {
+        row(header, fine, walk, side, u, cases);
+        u += 1;
+    }
 }

@@ -5,3 +5,4 @@ pub mod Counts
 pub mod RotationLaws
 pub mod StorePlaces
 pub mod Reads
+pub mod Walks

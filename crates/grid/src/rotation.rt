@@ -83,7 +83,7 @@ fn point_from(r: Rotation, m: usize, u: usize, v: usize, w: usize) -> Xyz
     moved(moved(moved(origin, u, r.u), v, r.v), w, r.w)
 }
 
-fn side_point(side: usize, m: usize, u: usize, v: usize, w: usize) -> Xyz
+pub fn side_point(side: usize, m: usize, u: usize, v: usize, w: usize) -> Xyz
     requires { ⌜ OnSide side m u v w ⌝ }
     ensures { λ p. ⌜ (p ≡ pointFrom (rotationOf side) m u v w) × Within m p ⌝ }
 {

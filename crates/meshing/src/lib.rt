@@ -7,6 +7,7 @@ ghost use Rattle.model.specs.Sides.{sampleCount};
 ghost use Rattle.model.specs.Record.{readRecord};
 ghost use Rattle.meshing.specs.Answer.{answerNumbers, blockOf};
 ghost use Rattle.meshing.specs.Whole.{Held, starOf, meshRecord};
+use grid::transition_sides::sample_count;
 use grid::voxel_blocks::sample_length;
 use model::Block;
 use model::Extraction;
@@ -14,7 +15,6 @@ use model::Header;
 use model::Numbers;
 use model::RecordRead;
 use model::Vector;
-use grid::transition_sides::sample_count;
 use record::reader::read_record;
 
 // The mesh of a block whose samples stand in the first places of a list, centre first.

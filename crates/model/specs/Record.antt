@@ -19,11 +19,35 @@ use Rattle.model.specs.Sides.{sampleCount}
 use Rattle.model.specs.Formulas.{vector}
 use Rattle.model.specs.Refusals.{unless, orElse}
 use Rattle.model.specs.Judging.{judgeSubdivisions, judgeMask, judgeMeasures, judgeSamples, judgeBuffer, judgeStar}
-use Rattle.model.specs.Star.{starFrom}
+use Rattle.model.specs.Star.{star}
+
+-- ---- where the fields stand: the length first, a byte each for version, subdivisions and mask, then floats
+
+abbrev pub versionAt : ℕ
+versionAt = 4
+
+abbrev pub subdivisionsAt : ℕ
+subdivisionsAt = 5
+
+abbrev pub maskAt : ℕ
+maskAt = 6
+
+abbrev pub thresholdAt : ℕ
+thresholdAt = 7
+
+-- of x; y and z follow
+abbrev pub baseAt : ℕ
+baseAt = 11
+
+abbrev pub sizeAt : ℕ
+sizeAt = 23
 
 -- the bytes before the samples
 abbrev pub headerLength : ℕ
 headerLength = 27
+
+abbrev pub sampleFrom : ℕ → ℕ
+sampleFrom k = headerLength + 4 * k
 
 -- ---- big-endian words
 
@@ -42,25 +66,24 @@ floatBytes x = wordBytes (Ieee.toBits binary32 x)
 
 -- ---- reading
 
--- length 0, version 4, n 5, mask 6, threshold 7, base 11 15 19, size 23, samples from 27
 unfoldable pub headerOf : List ℕ → Header
 headerOf bytes =
     record {
       block = record {
-        base = vector (floatAt bytes 11) (floatAt bytes 15) (floatAt bytes 19);
-        size = floatAt bytes 23;
-        subdivisions = getD bytes 5 0;
+        base = vector (floatAt bytes baseAt) (floatAt bytes (baseAt + 4)) (floatAt bytes (baseAt + 8));
+        size = floatAt bytes sizeAt;
+        subdivisions = getD bytes subdivisionsAt 0;
       };
-      mask = getD bytes 6 0;
-      threshold = floatAt bytes 7;
+      mask = getD bytes maskAt 0;
+      threshold = floatAt bytes thresholdAt;
     }
 
 abbrev pub countOf : List ℕ → ℕ
-countOf bytes = sampleCount (getD bytes 5 0) (getD bytes 6 0)
+countOf bytes = sampleCount (headerOf bytes .block .subdivisions) (headerOf bytes .mask)
 
 -- centre first
 unfoldable pub samplesOf : List ℕ → List Float
-samplesOf bytes = listed (λ k. floatAt bytes (headerLength + 4 * k)) (countOf bytes)
+samplesOf bytes = listed (λ k. floatAt bytes (sampleFrom k)) (countOf bytes)
 
 -- 11
 abbrev pub judgeLength : List ℕ → Verdict
@@ -68,7 +91,7 @@ judgeLength bytes = unless (leb headerLength (length bytes) && eqb (wordAt bytes
 
 -- 12
 abbrev pub judgeVersion : List ℕ → Verdict
-judgeVersion bytes = unless (eqb (getD bytes 4 0) 1) (Version (getD bytes 4 0))
+judgeVersion bytes = unless (eqb (getD bytes versionAt 0) 1) (Version (getD bytes versionAt 0))
 
 -- 13
 abbrev pub judgeCount : List ℕ → Verdict
@@ -117,7 +140,7 @@ pub record WriteOutcome : Type 0 where
 abbrev pub writeAnswer : Header → List Float → List ℕ → Verdict → WriteOutcome
 writeAnswer h samples bytes Verdict.Passed =
     record {
-      answer = RecordWritten.Bytes (headerLength + 4 * length samples);
+      answer = RecordWritten.Bytes (sampleFrom (length samples));
       bytes = laid (recordOf h samples) bytes;
     }
 writeAnswer h samples bytes (Verdict.Refused r) = record { answer = RecordWritten.Refused r; bytes = bytes }
@@ -126,5 +149,4 @@ writeAnswer h samples bytes (Verdict.Refused r) = record { answer = RecordWritte
 unfoldable pub writeRecord : Header → List Float → List Float → List ℕ → WriteOutcome
 writeRecord h centre neighbours bytes =
     writeAnswer h (centre ++ neighbours) bytes
-    (orElse (judgeStar (starFrom (h .block) (h .mask) (h .threshold) centre neighbours))
-    (judgeBuffer (headerLength + 4 * length (centre ++ neighbours)) (length bytes)))
+    (orElse (judgeStar (star h centre neighbours)) (judgeBuffer (sampleFrom (length (centre ++ neighbours))) (length bytes)))

@@ -18,10 +18,6 @@ abbrev pub star : Header → List Float → List Float → Star
 star h centre neighbours =
     record { block = h .block; mask = h .mask; threshold = h .threshold; centre = centre; neighbours = neighbours }
 
-abbrev pub starFrom : Block → ℕ → Float → List Float → List Float → Star
-starFrom block mask threshold centre neighbours =
-    record { block = block; mask = mask; threshold = threshold; centre = centre; neighbours = neighbours }
-
 abbrev pub subdivisions : Star → ℕ
 subdivisions s = s .block .subdivisions
 

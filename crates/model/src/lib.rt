@@ -1,5 +1,5 @@
 // What a reader must believe: the plain types here, and in specs/ the definition of everything that the other crates
-// are proved against, in document 01's words.
+// are proved against, in document 01's words. Those marked repr(C) pass between this code and its callers in C and Rust.
 
 // Three whole numbers, one for each axis: a grid point, a cell, an origin.
 pub struct Xyz {
@@ -9,12 +9,14 @@ pub struct Xyz {
 }
 
 // A position or a gradient.
+#[repr(C)]
 pub struct Vector {
     pub x: f32,
     pub y: f32,
     pub z: f32,
 }
 
+#[repr(C)]
 pub struct Block {
     pub base: Vector,
     pub size: f32,
@@ -70,6 +72,7 @@ pub struct FacePoint {
     pub v: usize,
 }
 
+#[repr(C)]
 pub struct Counts {
     pub vertices: usize,
     pub triangles: usize,
@@ -95,6 +98,7 @@ pub enum Refusal {
 }
 
 // A refusal as document 01 gives it out.
+#[repr(C)]
 pub struct Numbers {
     pub number: usize,
     pub first: usize,
@@ -118,6 +122,7 @@ pub enum Extraction {
 }
 
 // What a block record tells beside its samples.
+#[repr(C)]
 pub struct Header {
     pub block: Block,
     pub mask: u8,

@@ -3,10 +3,6 @@ use mathlib.Core.Path.{_≡_, refl}
 use lib.Ieee.{binary32, ofBits, ofInt, div, round}
 use Rattle.model.specs.Formulas.{_⊘_, whole, shrinkFactor}
 
-pub one : ofBits binary32 0x3f80_0000 ≡ whole 1
-unfolding ofBits ofInt
-one = refl
-
 pub half : ofBits binary32 0x3f00_0000 ≡ whole 1 ⊘ whole 2
 unfolding ofBits ofInt div
 half = refl

@@ -1,3 +1,4 @@
+pub mod Fractions
 pub mod Positions
 pub mod Steps
-pub mod TransitionPoints
+pub mod CellPoints

@@ -3,32 +3,49 @@ ghost use mathlib.Core.Path.{_≡_};
 ghost use Prim.Native.Nat.{_+_, _*_, _<_, _≤_};
 ghost use mathlib.Core.Bool.{_&&_, not};
 ghost use lib.Dec.{eqb};
+ghost use lib.Ieee.{nan};
+ghost use lib.ListN.{getD};
+ghost use Rattle.model.specs.Limits.{mostSubdivisions, mostFine, sideCount};
 ghost use Rattle.model.specs.Sides.{named};
 ghost use Rattle.model.specs.Formulas as Formulas;
 ghost use Rattle.grid.specs.Places.{Within};
-ghost use Rattle.points.specs.Positions.{originalPosition};
+ghost use Rattle.points.specs.Fractions.{Fractions};
+ghost use Rattle.points.specs.Positions.{coordinateAt, fineCoordinateAt, originalPosition};
+use crate::fractions::FRACTIONS;
 use grid::transition_sides::is_named;
 use model::Block;
+use model::Header;
 use model::Vector;
 use model::Xyz;
 
-fn regular_coordinate(base: f32, size: f32, n: usize, index: usize) -> f32
-    requires { ⌜ (n ≤ 16) × (index ≤ 16) ⌝ }
-    ensures { λ r. ⌜ r ≡ Formulas.regularCoordinate base size n index ⌝ }
+fn regular_coordinate(base: f32, size: f32, fractions: &[f32; FRACTIONS], index: usize) -> f32
+    requires { ⌜ index ≤ mostSubdivisions ⌝ }
+    ensures { λ r. ⌜ r ≡ coordinateAt base size (getD (now (fractions .entry)) index nan) ⌝ }
 {
-    base + size * (index as u16 as f32 / n as u16 as f32)
+    base + size * fractions[index]
 }
 
-fn shrink_amount(size: f32, n: usize) -> f32
-    requires { ⌜ n ≤ 16 ⌝ }
-    ensures { λ r. ⌜ r ≡ Formulas.shrinkAmount size n ⌝ }
+fn original_position(block: Block, fractions: &[f32; FRACTIONS], p: Xyz) -> Vector
+    requires { ⌜ Fractions (block .subdivisions) (now fractions) × Within (block .subdivisions) p ⌝ }
+    ensures { λ r. ⌜ r ≡ originalPosition block p ⌝ }
 {
-    0.15 * (size * (1.0 / n as u16 as f32))
+    Vector {
+        x: regular_coordinate(block.base.x, block.size, fractions, p.x),
+        y: regular_coordinate(block.base.y, block.size, fractions, p.y),
+        z: regular_coordinate(block.base.z, block.size, fractions, p.z),
+    }
+}
+
+fn shrink_amount(block: Block, fractions: &[f32; FRACTIONS]) -> f32
+    requires { ⌜ Fractions (block .subdivisions) (now fractions) ⌝ }
+    ensures { λ r. ⌜ r ≡ Formulas.shrinkAmount (block .size) (block .subdivisions) ⌝ }
+{
+    0.15 * (block.size * fractions[1])
 }
 
 // Whether the coordinate touches this block face, and the side there is not named.
 fn touches(mask: u8, side: usize, index: usize, face: usize) -> bool
-    requires { ⌜ side < 6 ⌝ }
+    requires { ⌜ side < sideCount ⌝ }
     ensures { λ r. ⌜ r ≡ (eqb index face && not (named mask side)) ⌝ }
 {
     if index == face {
@@ -39,7 +56,7 @@ fn touches(mask: u8, side: usize, index: usize, face: usize) -> bool
 
 // low is the axis's Low side, and low + 1 its High side.
 fn held_by(n: usize, mask: u8, low: usize, index: usize) -> bool
-    requires { ⌜ low < 5 ⌝ }
+    requires { ⌜ low + 1 < sideCount ⌝ }
     ensures { λ r. ⌜ r ≡ Formulas.heldBy n mask low index ⌝ }
 {
     if touches(mask, low, index, 0) {
@@ -60,74 +77,55 @@ fn held(n: usize, mask: u8, p: Xyz) -> bool
     held_by(n, mask, 4, p.z)
 }
 
-// The amount is worked out only where the coordinate touches a face.
-fn moved(n: usize, size: f32, index: usize, at: f32) -> f32
-    requires { ⌜ n ≤ 16 ⌝ }
-    ensures { λ r. ⌜ r ≡ Formulas.moved n (Formulas.shrinkAmount size n) index at ⌝ }
+fn moved(n: usize, amount: f32, index: usize, at: f32) -> f32
+    ensures { λ r. ⌜ r ≡ Formulas.moved n amount index at ⌝ }
 {
     if index == 0 {
-        return at + shrink_amount(size, n);
+        return at + amount;
     }
     if index == n {
-        return at - shrink_amount(size, n);
+        return at - amount;
     }
     at
 }
 
-fn original_position(block: Block, p: Xyz) -> Vector
-    requires { ⌜ block .subdivisions ≤ 16 ⌝ }
-    requires { ⌜ Within (block .subdivisions) p ⌝ }
-    ensures { λ r. ⌜ r ≡ originalPosition block p ⌝ }
+pub fn regular_position(header: Header, fractions: &[f32; FRACTIONS], p: Xyz) -> Vector
+    requires { ⌜ Fractions (header .block .subdivisions) (now fractions) × Within (header .block .subdivisions) p ⌝ }
+    ensures { λ r. ⌜ r ≡ Formulas.regularPosition (header .block) (header .mask) p ⌝ }
 {
-    let n = block.subdivisions;
-    let size = block.size;
-    Vector {
-        x: regular_coordinate(block.base.x, size, n, p.x),
-        y: regular_coordinate(block.base.y, size, n, p.y),
-        z: regular_coordinate(block.base.z, size, n, p.z),
-    }
-}
-
-pub fn regular_position(block: Block, mask: u8, p: Xyz) -> Vector
-    requires { ⌜ block .subdivisions ≤ 16 ⌝ }
-    requires { ⌜ Within (block .subdivisions) p ⌝ }
-    ensures { λ r. ⌜ r ≡ Formulas.regularPosition block mask p ⌝ }
-{
-    let at = original_position(block, p);
+    let at = original_position(header.block, fractions, p);
     // With no named side, a point that touches a face is held, and shrinking moves no other one.
-    if mask == 0 {
+    if header.mask == 0 {
         return at;
     }
-    let n = block.subdivisions;
-    let size = block.size;
-    if held(n, mask, p) {
+    let n = header.block.subdivisions;
+    if held(n, header.mask, p) {
         return at;
     }
+    let amount = shrink_amount(header.block, fractions);
     Vector {
-        x: moved(n, size, p.x, at.x),
-        y: moved(n, size, p.y, at.y),
-        z: moved(n, size, p.z, at.z),
+        x: moved(n, amount, p.x, at.x),
+        y: moved(n, amount, p.y, at.y),
+        z: moved(n, amount, p.z, at.z),
     }
 }
 
-fn fine_coordinate(base: f32, size: f32, n: usize, k: usize) -> f32
-    requires { ⌜ (n ≤ 16) × (k ≤ 32) ⌝ }
-    ensures { λ r. ⌜ r ≡ Formulas.fineCoordinate base size n k ⌝ }
+fn fine_coordinate(base: f32, size: f32, nth: f32, k: usize) -> f32
+    requires { ⌜ k ≤ mostFine ⌝ }
+    ensures { λ r. ⌜ r ≡ fineCoordinateAt base size nth k ⌝ }
 {
-    base + size * ((0.5 * k as u16 as f32) * (1.0 / n as u16 as f32))
+    base + size * ((0.5 * k as u16 as f32) * nth)
 }
 
 // k counts half steps of the block's grid.
-pub fn fine_position(block: Block, k: Xyz) -> Vector
-    requires { ⌜ block .subdivisions ≤ 16 ⌝ }
-    requires { ⌜ Within (2 * block .subdivisions) k ⌝ }
+pub fn fine_position(block: Block, fractions: &[f32; FRACTIONS], k: Xyz) -> Vector
+    requires { ⌜ Fractions (block .subdivisions) (now fractions) × Within (2 * block .subdivisions) k ⌝ }
     ensures { λ r. ⌜ r ≡ Formulas.finePosition block k ⌝ }
 {
-    let n = block.subdivisions;
-    let size = block.size;
+    let nth = fractions[1];
     Vector {
-        x: fine_coordinate(block.base.x, size, n, k.x),
-        y: fine_coordinate(block.base.y, size, n, k.y),
-        z: fine_coordinate(block.base.z, size, n, k.z),
+        x: fine_coordinate(block.base.x, block.size, nth, k.x),
+        y: fine_coordinate(block.base.y, block.size, nth, k.y),
+        z: fine_coordinate(block.base.z, block.size, nth, k.z),
     }
 }

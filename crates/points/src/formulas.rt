@@ -1,24 +1,18 @@
-// Document 01, 'What is bought': inside or not, and the vertex between two grid points. Each operation is rounded once, in the order written.
+// Document 01, 'What is bought': the vertex between two grid points. Each operation is rounded once, in the order written.
 ghost use mathlib.Core.Path.{_≡_};
 ghost use Rattle.model.specs.Formulas as Formulas;
 use model::GridPoint;
 use model::Vector;
 use model::Vertex;
 
-pub fn inside(threshold: f32, sample: f32) -> bool
-    ensures { λ r. ⌜ r ≡ Formulas.inside threshold sample ⌝ }
-{
-    sample >= threshold
-}
-
 // The weight toward b.
-pub fn weight(a: f32, b: f32, threshold: f32) -> f32
+fn weight(a: f32, b: f32, threshold: f32) -> f32
     ensures { λ r. ⌜ r ≡ Formulas.weight a b threshold ⌝ }
 {
     (threshold - a) / (b - a)
 }
 
-pub fn between(w: f32, a: f32, b: f32) -> f32
+fn between(w: f32, a: f32, b: f32) -> f32
     ensures { λ r. ⌜ r ≡ Formulas.between w a b ⌝ }
 {
     a + w * (b - a)

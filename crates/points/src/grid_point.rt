@@ -1,35 +1,43 @@
 // Document 01, 'Regular cells' and 'Transition cells': a grid point with its position, gradient and sample. Where a neighbour is read, 2n
-// stands for n, so that n is at most 32.
+// stands for n, so that n is at most twice a block's there; fine is the neighbour's part of the samples at the point's side.
 ghost use mathlib.Core.Path.{_≡_};
 ghost use Prim.Native.Nat.{_+_, _*_, _≤_, _<_};
 ghost use mathlib.Core.List.{List};
 ghost use lib.Ieee.{Float, nan};
 ghost use lib.ListN.{length, getD};
+ghost use Rattle.model.specs.Limits.{mostFine};
 ghost use Rattle.model.specs.Samples.{sampleLength};
 ghost use Rattle.model.specs.Formulas.{gradientAt};
 ghost use Rattle.model.specs.Sides.{neighbourOf};
-ghost use Rattle.model.specs.Star.{starFrom};
-ghost use Rattle.model.specs.Points.{regularPoint, fineSample, fineGridPoint, transitionPoint};
+ghost use Rattle.model.specs.Star.{star};
+ghost use Rattle.model.specs.Points.{regularPoint, fineGridPoint, transitionPoint};
 ghost use Rattle.grid.specs.Places.{Within};
-ghost use Rattle.grid.specs.SideLaws.{NeighbourThere};
 ghost use Rattle.grid.specs.RotationLaws.{OnFineFace};
-ghost use Rattle.points.specs.TransitionPoints.{Bordered, InCell, fineGradient};
+ghost use Rattle.points.specs.CellPoints.{Centred, Bordered, InCell, fineGradient};
 ghost use Rattle.points.specs.Steps.{Reach, upFrom, downFrom, differenceAt};
 use crate::block::fine_position;
 use crate::block::regular_position;
+use crate::fractions::FRACTIONS;
 use grid::rotation::face_point;
 use grid::rotation::fine_point;
 use grid::rotation::neighbour_point;
-use grid::transition_sides::neighbour;
 use grid::voxel_blocks::sample;
-use model::Block;
+use model::FacePoint;
 use model::GridPoint;
+use model::Header;
 use model::Vector;
 use model::Xyz;
 use tables::aux_tables::CellPoint;
 
 // The sample one step up on an axis: in the block one stride away, else at high, on the extension face.
-fn one_up(samples: &[f32], n: usize, index: usize, at: usize, stride: usize, high: usize) -> f32
+fn sample_above(
+    samples: &[f32],
+    n: usize,
+    index: usize,
+    at: usize,
+    stride: usize,
+    high: usize,
+) -> f32
     requires { ⌜ upFrom n index at stride high < length (now samples) ⌝ }
     ensures { λ r. ⌜ r ≡ getD (now (samples .entry)) (upFrom n index at stride high) nan ⌝ }
 {
@@ -40,7 +48,7 @@ fn one_up(samples: &[f32], n: usize, index: usize, at: usize, stride: usize, hig
 }
 
 // The same one step down, with low on the other extension face.
-fn one_down(samples: &[f32], index: usize, at: usize, stride: usize, low: usize) -> f32
+fn sample_below(samples: &[f32], index: usize, at: usize, stride: usize, low: usize) -> f32
     requires { ⌜ (0 < index → stride ≤ at) × (downFrom index at stride low < length (now samples)) ⌝ }
     ensures { λ r. ⌜ r ≡ getD (now (samples .entry)) (downFrom index at stride low) nan ⌝ }
 {
@@ -63,11 +71,12 @@ fn difference(
     requires { ⌜ Reach (length (now samples)) n index at stride low high ⌝ }
     ensures { λ r. ⌜ r ≡ differenceAt (now (samples .entry)) n index at stride low high ⌝ }
 {
-    one_up(samples, n, index, at, stride, high) - one_down(samples, index, at, stride, low)
+    sample_above(samples, n, index, at, stride, high)
+        - sample_below(samples, index, at, stride, low)
 }
 
-pub fn gradient(n: usize, samples: &[f32], p: Xyz) -> Vector
-    requires { ⌜ (n ≤ 32) × (length (now samples) ≡ sampleLength n) ⌝ }
+fn gradient(n: usize, samples: &[f32], p: Xyz) -> Vector
+    requires { ⌜ (n ≤ mostFine) × (length (now samples) ≡ sampleLength n) ⌝ }
     requires { ⌜ Within n p ⌝ }
     ensures { λ r. ⌜ r ≡ gradientAt n (now (samples .entry)) p ⌝ }
 {
@@ -89,13 +98,17 @@ pub fn gradient(n: usize, samples: &[f32], p: Xyz) -> Vector
     }
 }
 
-pub fn regular_point(block: Block, mask: u8, centre: &[f32], p: Xyz) -> GridPoint
-    requires { ⌜ (block .subdivisions ≤ 16) × (length (now centre) ≡ sampleLength (block .subdivisions)) ⌝ }
-    requires { ⌜ Within (block .subdivisions) p ⌝ }
-    ensures { λ r. ⌜ ((t : Float) (ns : List Float) → r ≡ regularPoint (starFrom block mask t (now (centre .entry)) ns) p) ⌝ }
+pub fn regular_point(
+    header: Header,
+    fractions: &[f32; FRACTIONS],
+    centre: &[f32],
+    p: Xyz,
+) -> GridPoint
+    requires { ⌜ Centred (header .block .subdivisions) (now fractions) (now centre) × Within (header .block .subdivisions) p ⌝ }
+    ensures { λ r. ⌜ ((ns : List Float) → r ≡ regularPoint (star header (now (centre .entry)) ns) p) ⌝ }
 {
-    let n = block.subdivisions;
-    let position = regular_position(block, mask, p);
+    let n = header.block.subdivisions;
+    let position = regular_position(header, fractions, p);
     let slope = gradient(n, centre, p);
     let value = sample(n, centre, p);
     GridPoint {
@@ -105,54 +118,36 @@ pub fn regular_point(block: Block, mask: u8, centre: &[f32], p: Xyz) -> GridPoin
     }
 }
 
-// The fine point (u2, v2) of a named side has the neighbour's sample.
-fn fine_sample(block: Block, mask: u8, neighbours: &[f32], side: usize, u2: usize, v2: usize) -> f32
-    requires { ⌜ NeighbourThere (block .subdivisions) mask (now neighbours) side ⌝ }
-    requires { ⌜ OnFineFace (block .subdivisions) side u2 v2 ⌝ }
-    ensures { λ r. ⌜ ((t : Float) (centre : List Float) → r ≡ fineSample (starFrom block mask t centre (now (neighbours .entry))) side u2 v2) ⌝ }
+// Of the fine point (u, v) of a side, counted in half steps.
+fn fine_gradient(n: usize, centre: &[f32], fine: &[f32], at: FacePoint) -> Vector
+    requires { ⌜ length (now centre) ≡ sampleLength n ⌝ }
+    requires { ⌜ length (now fine) ≡ sampleLength (2 * n) ⌝ }
+    requires { ⌜ OnFineFace n (at .side) (at .u) (at .v) ⌝ }
+    ensures { λ r. ⌜ r ≡ fineGradient n (now (centre .entry)) (now (fine .entry)) (at .side) (at .u) (at .v) ⌝ }
 {
-    let n = block.subdivisions;
-    let p = neighbour_point(n, side, u2, v2);
-    sample(2 * n, neighbour(n, mask, neighbours, side), p)
-}
-
-fn fine_gradient(
-    n: usize,
-    mask: u8,
-    centre: &[f32],
-    neighbours: &[f32],
-    side: usize,
-    u2: usize,
-    v2: usize,
-) -> Vector
-    requires { ⌜ Bordered n mask (now centre) (now neighbours) side ⌝ }
-    requires { ⌜ OnFineFace n side u2 v2 ⌝ }
-    ensures { λ r. ⌜ r ≡ fineGradient n (now (centre .entry)) (neighbourOf n mask (now (neighbours .entry)) side) side u2 v2 ⌝ }
-{
-    if (u2 % 2 == 0) & (v2 % 2 == 0) {
-        return gradient(n, centre, face_point(n, side, u2 / 2, v2 / 2));
+    if (at.u % 2 == 0) & (at.v % 2 == 0) {
+        return gradient(n, centre, face_point(n, at.side, at.u / 2, at.v / 2));
     }
-    let p = neighbour_point(n, side, u2, v2);
-    gradient(2 * n, neighbour(n, mask, neighbours, side), p)
+    gradient(2 * n, fine, neighbour_point(n, at.side, at.u, at.v))
 }
 
-pub fn fine_grid_point(
-    block: Block,
-    mask: u8,
+fn fine_grid_point(
+    header: Header,
+    fractions: &[f32; FRACTIONS],
     centre: &[f32],
-    neighbours: &[f32],
-    side: usize,
-    u2: usize,
-    v2: usize,
+    fine: &[f32],
+    at: FacePoint,
 ) -> GridPoint
-    requires { ⌜ Bordered (block .subdivisions) mask (now centre) (now neighbours) side ⌝ }
-    requires { ⌜ OnFineFace (block .subdivisions) side u2 v2 ⌝ }
-    ensures { λ r. ⌜ ((t : Float) → r ≡ fineGridPoint (starFrom block mask t (now (centre .entry)) (now (neighbours .entry))) side u2 v2) ⌝ }
+    requires { ⌜ Centred (header .block .subdivisions) (now fractions) (now centre) ⌝ }
+    requires { ⌜ length (now fine) ≡ sampleLength (2 * header .block .subdivisions) ⌝ }
+    requires { ⌜ OnFineFace (header .block .subdivisions) (at .side) (at .u) (at .v) ⌝ }
+    ensures { λ r. ⌜ ((ns : List Float) → now (fine .entry) ≡ neighbourOf (header .block .subdivisions) (header .mask) ns (at .side) → r ≡ fineGridPoint (star header (now (centre .entry)) ns) (at .side) (at .u) (at .v)) ⌝ }
 {
-    let n = block.subdivisions;
-    let position = fine_position(block, fine_point(n, side, u2, v2));
-    let slope = fine_gradient(n, mask, centre, neighbours, side, u2, v2);
-    let value = fine_sample(block, mask, neighbours, side, u2, v2);
+    let n = header.block.subdivisions;
+    let k = fine_point(n, at.side, at.u, at.v);
+    let position = fine_position(header.block, fractions, k);
+    let slope = fine_gradient(n, centre, fine, at);
+    let value = sample(2 * n, fine, neighbour_point(n, at.side, at.u, at.v));
     GridPoint {
         position,
         gradient: slope,
@@ -160,31 +155,35 @@ pub fn fine_grid_point(
     }
 }
 
-// A point of the transition cell (u, v) of a named side.
+// A point of a transition cell.
 pub fn transition_point(
-    block: Block,
-    mask: u8,
+    header: Header,
+    fractions: &[f32; FRACTIONS],
     centre: &[f32],
-    neighbours: &[f32],
-    side: usize,
-    u: usize,
-    v: usize,
+    fine: &[f32],
+    cell: FacePoint,
     p: CellPoint,
 ) -> GridPoint
-    requires { ⌜ Bordered (block .subdivisions) mask (now centre) (now neighbours) side ⌝ }
-    requires { ⌜ (u < block .subdivisions) × (v < block .subdivisions) ⌝ }
+    requires { ⌜ Centred (header .block .subdivisions) (now fractions) (now centre) ⌝ }
+    requires { ⌜ Bordered (header .block .subdivisions) (now fine) cell ⌝ }
     requires { ⌜ InCell p ⌝ }
-    ensures { λ r. ⌜ ((t : Float) → r ≡ transitionPoint (starFrom block mask t (now (centre .entry)) (now (neighbours .entry))) side u v p) ⌝ }
+    ensures { λ r. ⌜ ((ns : List Float) → now (fine .entry) ≡ neighbourOf (header .block .subdivisions) (header .mask) ns (cell .side) → r ≡ transitionPoint (star header (now (centre .entry)) ns) (cell .side) (cell .u) (cell .v) p) ⌝ }
 {
+    let side = cell.side;
     match p {
         CellPoint::Fine(offset) => {
-            let u2 = 2 * u + offset.u;
-            let v2 = 2 * v + offset.v;
-            fine_grid_point(block, mask, centre, neighbours, side, u2, v2)
+            let u = 2 * cell.u + offset.u;
+            let v = 2 * cell.v + offset.v;
+            fine_grid_point(header, fractions, centre, fine, FacePoint { side, u, v })
         }
         CellPoint::Coarse(corner) => {
-            let at = face_point(block.subdivisions, side, u + corner.u, v + corner.v);
-            regular_point(block, mask, centre, at)
+            let at = face_point(
+                header.block.subdivisions,
+                side,
+                cell.u + corner.u,
+                cell.v + corner.v,
+            );
+            regular_point(header, fractions, centre, at)
         }
     }
 }

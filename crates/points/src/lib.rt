@@ -2,4 +2,5 @@
 // cell. Each function is equal to its definition in the model.
 pub mod block;
 pub mod formulas;
+pub mod fractions;
 pub mod grid_point;

@@ -1,5 +1,5 @@
--- `block::fine_coordinate` meets its contract: the literals are the model's numbers.
-use Rattle.points.proofs.Literals.{one, half}
+-- `block::fine_coordinate` meets its contract: the literal is the model's half.
+use Rattle.points.proofs.Literals.{half}
 use borrow.Author.Needs.{needs}
 use Rattle.points.proofs.block.fine_coordinate.Statement.{statement}
 use Rattle.points.proofs.block.fine_coordinate.Tie as tie
@@ -10,16 +10,8 @@ cast-result c = search needs
 int-to-float-result : tie.Need-int-to-float-result
 int-to-float-result c = search needs
 
-cast-result-2 : tie.Need-cast-result-2
-cast-result-2 c = search needs
-
-int-to-float-result-2 : tie.Need-int-to-float-result-2
-int-to-float-result-2 c = search needs
-
 returns : tie.Need-returns
-returns c = rw (← half, ← one)
+returns c = rw (← half)
 
 pub fine-coordinate-spec : {M : Type 1} → statement M
-fine-coordinate-spec =
-    tie.close
-    (tie.spec cast-result int-to-float-result cast-result-2 int-to-float-result-2 returns)
+fine-coordinate-spec = tie.close (tie.spec cast-result int-to-float-result returns)

@@ -1,4 +1,4 @@
--- `block::original_position` meets its contract, coordinate by coordinate.
+-- `block::original_position` meets its contract, coordinate by coordinate: each is taken with its index's fraction.
 use borrow.Author.Needs.{needs}
 use Rattle.points.proofs.block.original_position.Statement.{statement}
 use Rattle.points.proofs.block.original_position.Tie as tie
@@ -13,7 +13,17 @@ regular-coordinate-requires-3 : tie.Need-regular-coordinate-requires-3
 regular-coordinate-requires-3 c κs = search needs
 
 returns : tie.Need-returns
-returns c = cc
+returns c =
+    let x = c .before .before in
+    let p = x .before .args .p in
+    let parts = x .before .pre .0 in
+    let h = x .before .pre .1 in
+    cc (
+      x .regular-coordinate .ensures,
+      parts .each (p .x) (h .x-in),
+      parts .each (p .y) (h .y-in),
+      parts .each (p .z) (h .z-in),
+    )
 
 pub original-position-spec : {M : Type 1} → statement M
 original-position-spec =

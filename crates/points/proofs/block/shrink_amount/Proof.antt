@@ -1,17 +1,16 @@
--- `block::shrink_amount` meets its contract: the literals are the model's numbers.
-use Rattle.points.proofs.Literals.{one, factor}
+-- `block::shrink_amount` meets its contract: the literal is the model's factor, and the fraction at 1 is an nth.
 use borrow.Author.Needs.{needs}
+use Rattle.points.proofs.Literals.{factor}
 use Rattle.points.proofs.block.shrink_amount.Statement.{statement}
 use Rattle.points.proofs.block.shrink_amount.Tie as tie
 
-cast-result : tie.Need-cast-result
-cast-result c = search needs
-
-int-to-float-result : tie.Need-int-to-float-result
-int-to-float-result c = search needs
+element-copy-out-result : tie.Need-element-copy-out-result
+element-copy-out-result c = search needs
 
 returns : tie.Need-returns
-returns c = rw (← one, ← factor)
+returns c =
+    let parts = c .before .before .pre in
+    rw (← factor, parts .each 1 (parts .some))
 
 pub shrink-amount-spec : {M : Type 1} → statement M
-shrink-amount-spec = tie.close (tie.spec cast-result int-to-float-result returns)
+shrink-amount-spec = tie.close (tie.spec element-copy-out-result returns)

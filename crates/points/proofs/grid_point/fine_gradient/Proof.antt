@@ -10,24 +10,21 @@ gradient-requires : tie.Need-gradient-requires
 gradient-requires c κs = search needs
 
 returns : tie.Need-returns
-returns c = rw (c .before .before .if1 .taken, c .gradient .ensures, c .before .face-point .ensures .0)
-
-neighbour-point-requires : tie.Need-neighbour-point-requires
-neighbour-point-requires c κs = search needs
+returns c =
+    let at = c .before in
+    rw (at .before .before .before .if1 .taken, c .gradient .ensures, at .face-point .ensures .0)
 
 mul-gradient : tie.Need-mul-gradient
 mul-gradient c = search needs
 
-neighbour-requires : tie.Need-neighbour-requires
-neighbour-requires c κs = search needs
+neighbour-point-requires : tie.Need-neighbour-point-requires
+neighbour-point-requires c κs = search needs
 
 gradient-requires-2 : tie.Need-gradient-requires-2
 gradient-requires-2 c κs = search needs
 
 returns-2 : tie.Need-returns-2
-returns-2 c =
-    let at = c .before .before in
-    rw (at .before .if1 .left, c .gradient2 .ensures, at .neighbour-point .ensures .0, c .before .neighbour .ensures .0)
+returns-2 c = rw (c .before .before .if1 .left, c .gradient2 .ensures, c .before .neighbour-point .ensures .0)
 
 pub fine-gradient-spec : {M : Type 1} → statement M
 fine-gradient-spec =
@@ -36,8 +33,7 @@ fine-gradient-spec =
     face-point-requires
     gradient-requires
     returns
-    neighbour-point-requires
     mul-gradient
-    neighbour-requires
+    neighbour-point-requires
     gradient-requires-2
     returns-2)

@@ -1,6 +1,6 @@
 -- `grid_point::regular_point` meets its contract: position, gradient and sample are what its three calls ensure.
-use Rattle.model.specs.Points.{regularPoint}
 use borrow.Author.Needs.{needs}
+use Rattle.model.specs.Points.{regularPoint}
 use Rattle.points.proofs.grid_point.regular_point.Statement.{statement}
 use Rattle.points.proofs.grid_point.regular_point.Tie as tie
 
@@ -15,7 +15,7 @@ sample-requires c κs = search needs
 
 returns : tie.Need-returns
 unfolding regularPoint
-returns c = λ t ns. rw (c .before .before .regular-position .ensures, c .before .gradient .ensures, c .sample .ensures)
+returns c = λ ns. rw (c .before .before .regular-position .ensures, c .before .gradient .ensures, c .sample .ensures)
 
 pub regular-point-spec : {M : Type 1} → statement M
 regular-point-spec =

@@ -1,10 +1,10 @@
 -- `grid_point::transition_point` meets its contract: each kind of point stays on its face, since it lies in its cell.
-use native.Mathlib.Omega.{arith}
 use mathlib.Core.Path.{subst}
+use borrow.Author.Needs.{needs}
+use native.Mathlib.Omega.{arith}
 use Rattle.tables.specs.declared.aux_tables.CellPoint.the-variants.{Fine, Coarse}
 use Rattle.model.specs.Points.{transitionPoint}
-use Rattle.points.specs.TransitionPoints.{InCell}
-use borrow.Author.Needs.{needs}
+use Rattle.points.specs.CellPoints.{InCell}
 use Rattle.points.proofs.grid_point.transition_point.Statement.{statement}
 use Rattle.points.proofs.grid_point.transition_point.Tie as tie
 
@@ -17,59 +17,67 @@ corner-in c = subst InCell (c .p2 .given .1) (c .before .before .before .before 
 enum-known-p : tie.Need-enum-known-p
 enum-known-p c = search needs
 
-mul-u2 : tie.Need-mul-u2
-mul-u2 c = search needs
+mul-u : tie.Need-mul-u
+mul-u c = search needs
 
-add-u2 : tie.Need-add-u2
-add-u2 c = let h = offset-in (c .before .before) in omega arith
+add-u : tie.Need-add-u
+add-u c = let h = offset-in (c .before .before .before) in omega arith
 
-mul-v2 : tie.Need-mul-v2
-mul-v2 c = search needs
+mul-v : tie.Need-mul-v
+mul-v c = search needs
 
-add-v2 : tie.Need-add-v2
-add-v2 c = let h = offset-in (c .before .before .before) in omega arith
+add-v : tie.Need-add-v
+add-v c = let h = offset-in (c .before .before .before .before .before) in omega arith
 
 fine-grid-point-requires : tie.Need-fine-grid-point-requires
 fine-grid-point-requires c κs =
-    let start = c .before .before .before .before .before .before .before in
-    let h = offset-in (c .before .before .before) in
-    (start .pre .0, record { few = start .pre .0 .there .few; side-is = start .pre .0 .there .side-is; u-in = omega arith; v-in = omega arith })
+    let told = c .before .before .before .before .before in
+    let start = told .before .before .before .before in
+    let h = offset-in told in
+    let few = start .pre .0 .parts .few in
+    (start .pre .0, (start .pre .1 .0 .fine-is, record { few = few; side-is = start .pre .1 .0 .side-is; u-in = omega arith; v-in = omega arith }))
 
 enum-known-p-2 : tie.Need-enum-known-p-2
 enum-known-p-2 c = search needs
 
 add-face-point : tie.Need-add-face-point
-add-face-point c = let h = corner-in (c .before .before) in omega arith
+add-face-point c = let h = corner-in (c .before .before .before) in omega arith
 
 add-face-point-2 : tie.Need-add-face-point-2
-add-face-point-2 c = let h = corner-in (c .before .before .before) in omega arith
+add-face-point-2 c = let h = corner-in (c .before .before .before .before .before) in omega arith
 
 face-point-requires : tie.Need-face-point-requires
 face-point-requires c κs =
-    let start = c .before .before .before .before .before .before .before in
-    let h = corner-in (c .before .before .before) in
-    record { few = start .pre .0 .there .few; side-is = start .pre .0 .there .side-is; u-in = omega arith; v-in = omega arith }
+    let told = c .before .before .before .before .before in
+    let start = told .before .before .before .before in
+    let h = corner-in told in
+    record { few = start .pre .0 .parts .few; side-is = start .pre .1 .0 .side-is; u-in = omega arith; v-in = omega arith }
 
 regular-point-requires : tie.Need-regular-point-requires
 regular-point-requires c κs = search needs
 
 returns : tie.Need-returns
 unfolding transitionPoint
-returns c = λ t. rw (c .before .before .before .before .p .given .1) (c .fine-grid-point .ensures t)
+returns c =
+    let told = c .before .before .before .before .before .before in
+    λ ns is. rw (told .p .given .1) (c .fine-grid-point .ensures ns is)
 
 returns-2 : tie.Need-returns-2
 unfolding transitionPoint
-returns-2 c = λ t. rw (c .before .before .before .before .before .p2 .given .1, ← (c .before .face-point .ensures .0)) (c .regular-point .ensures t _)
+returns-2 c =
+    let at = c .before in
+    let told = at .before .before .before .before .before .before in
+    λ ns is. rw (told .p2 .given .1, ← (at .face-point .ensures .0)) (c .regular-point .ensures ns)
 
 pub transition-point-spec : {M : Type 1} → statement M
 transition-point-spec =
     tie.close
     (tie.spec
     enum-known-p
-    mul-u2
-    add-u2
-    mul-v2
-    add-v2
+    mul-u
+    add-u
+    mul-v
+    add-v
     fine-grid-point-requires
     enum-known-p-2
     add-face-point

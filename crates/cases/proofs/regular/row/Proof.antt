@@ -1,0 +1,66 @@
+-- `regular::row` meets its contract: its four lines are those at the corners of the cells.
+use Rattle.model.specs.Star.{star}
+use Rattle.cases.proofs.Rows.{row-as}
+use Rattle.cases.proofs.Lines.{case-is}
+use borrow.Author.Needs.{needs}
+use Rattle.cases.proofs.regular.row.Statement.{statement}
+use Rattle.cases.proofs.regular.row.Tie as tie
+
+line-requires : tie.Need-line-requires
+line-requires c κs = search needs
+
+add-line : tie.Need-add-line
+add-line c = search needs
+
+line-requires-2 : tie.Need-line-requires-2
+line-requires-2 c κs = search needs
+
+add-line-2 : tie.Need-add-line-2
+add-line-2 c = search needs
+
+line-requires-3 : tie.Need-line-requires-3
+line-requires-3 c κs = search needs
+
+add-line-3 : tie.Need-add-line-3
+add-line-3 c = search needs
+
+add-line-4 : tie.Need-add-line-4
+add-line-4 c = search needs
+
+line-requires-4 : tie.Need-line-requires-4
+line-requires-4 c κs = search needs
+
+mul-row-between : tie.Need-mul-row-between
+mul-row-between c = search needs
+
+row-between-requires : tie.Need-row-between-requires
+row-between-requires c κs = search needs
+
+same-length : tie.Need-same-length
+same-length c = search needs
+
+returns : tie.Need-returns
+returns c =
+    let lines = c .before .before .before .before in
+    let a = lines .before .before .before .before .before .before .args in
+    λ ns.
+    row-as
+    (case-is (star (a .header) (a .centre .now) ns) (a .x) (a .y) _ _ _ _ (lines .before .before .before .line .ensures) (lines .before .before .line2 .ensures)
+    (lines .before .line3 .ensures) (lines .line4 .ensures)) (c .before .before .row-between .ensures)
+
+pub row-spec : {M : Type 1} → statement M
+row-spec =
+    tie.close
+    (tie.spec
+    line-requires
+    add-line
+    line-requires-2
+    add-line-2
+    line-requires-3
+    add-line-3
+    add-line-4
+    line-requires-4
+    mul-row-between
+    row-between-requires
+    same-length
+    returns)

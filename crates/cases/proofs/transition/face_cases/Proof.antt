@@ -1,0 +1,88 @@
+-- `transition::face_cases` meets its contract. The loop's invariant: the rows passed are written.
+use native.Mathlib.Omega.{arith}
+use borrow.Author.Needs.{needs}
+use Prim.Native.Nat.{_-_, _≤_}
+use mathlib.Core.Path.{_≡_, _∙_}
+use mathlib.Core.List.{List}
+use lib.Ieee.{Float}
+use lib.ListN.{length}
+use Rattle.model.specs.Star.{star}
+use Rattle.model.specs.Points.{transitionCase}
+use Rattle.cases.specs.Sheets.{sheetPlaces, Sheet}
+use Rattle.cases.proofs.Rows.{no-row, one-more-row}
+use Rattle.cases.proofs.transition.face_cases.Statement.{statement}
+use Rattle.cases.proofs.transition.face_cases.Tie as tie
+
+abbrev Inv-loop : tie.InvT-loop
+Inv-loop header neighbours side cases₀ n fine walk u₀ cases u = (u ≤ n) × ((length cases ≡ sheetPlaces) × ((centre : List Float) → Sheet (transitionCase (star header centre neighbours) side) n u cases))
+
+abbrev μ-loop : tie.MeasureT-loop
+μ-loop header neighbours side cases₀ n fine walk u₀ cases u = n - u
+
+neighbour-requires : tie.Need-neighbour-requires Inv-loop μ-loop
+neighbour-requires c κs = search needs
+
+mul-face-walk : tie.Need-mul-face-walk Inv-loop μ-loop
+mul-face-walk c = search needs
+
+mul-face-walk-2 : tie.Need-mul-face-walk-2 Inv-loop μ-loop
+mul-face-walk-2 c = search needs
+
+face-walk-requires : tie.Need-face-walk-requires Inv-loop μ-loop
+face-walk-requires c κs = (omega arith, omega arith)
+
+loop-holds : tie.Need-loop-holds Inv-loop μ-loop
+loop-holds c = (omega arith, (omega arith, λ ns. no-row _ _ _))
+
+row-requires : tie.Need-row-requires Inv-loop μ-loop
+row-requires c κs =
+    let start = c .before .before .before .before .before .before .before in
+    let there = start .pre .0 in
+    let side = c .before .before .before .before .neighbour .ensures in
+    let l = c .before .before .loop in
+    ((there .few, side .1), ((there .side-is, c .before .before .before .face-walk .ensures), (omega arith, l .inv .1 .0)))
+
+add-u : tie.Need-add-u Inv-loop μ-loop
+add-u c = search needs
+
+loop-less : tie.Need-loop-less Inv-loop μ-loop
+loop-less c = search needs
+
+loop-again : tie.Need-loop-again Inv-loop μ-loop
+loop-again c =
+    let l = c .before .before .before .before .before .loop in
+    let written = c .before .before .row in
+    let side = c .before .before .before .before .before .before .before .neighbour .ensures in (
+      omega arith,
+      (
+        written .kept .1 .1 .1 .1 .1 .0 ∙ l .inv .1 .0,
+        λ centre. one-more-row _ _ (l .u) (l .cases) _ (omega arith) (written .ensures centre _ (side .0)) (l .inv .1 .1 centre),
+      ),
+    )
+
+same-length : tie.Need-same-length Inv-loop μ-loop
+same-length c = omega arith
+
+returns : tie.Need-returns Inv-loop μ-loop
+returns c =
+    let l = c .before .loop in
+    let e : l .u ≡ c .before .before .before .before .before .before .args .header .block .subdivisions = omega arith in
+    λ centre. rw e at (l .inv .1 .1 centre)
+
+pub face-cases-spec : {M : Type 1} → statement M
+face-cases-spec =
+    tie.close
+    (tie.spec
+    Inv-loop
+    μ-loop
+    neighbour-requires
+    mul-face-walk
+    mul-face-walk-2
+    face-walk-requires
+    loop-holds
+    row-requires
+    add-u
+    loop-less
+    loop-again
+    same-length
+    returns)

@@ -1,0 +1,74 @@
+-- `transition::row_on` meets its contract. The loop's invariant: the places passed hold their cells' numbers.
+use native.Mathlib.Omega.{arith}
+use borrow.Author.Needs.{needs}
+use Prim.Native.Nat.{_+_, _*_, _-_, _≤_}
+use mathlib.Core.Path.{_≡_, refl}
+use lib.ListN.{length, length-set}
+use Rattle.cases.specs.Sheets.{RowPut}
+use Rattle.cases.specs.Faces.{nineInside}
+use Rattle.cases.proofs.Rows.{none-put, one-more}
+use Rattle.cases.proofs.transition.row_on.Statement.{statement}
+use Rattle.cases.proofs.transition.row_on.Tie as tie
+
+abbrev Inv-loop : tie.InvT-loop
+Inv-loop n threshold fine lines cases₀ start v₀ cases v = (v ≤ n) × ((length cases ≡ length cases₀) × RowPut (nineInside threshold fine lines) start v cases₀ cases)
+
+abbrev μ-loop : tie.MeasureT-loop
+μ-loop n threshold fine lines cases₀ start v₀ cases v = n - v
+
+loop-holds : tie.Need-loop-holds Inv-loop μ-loop
+loop-holds c = (omega arith, (refl, none-put _ _ _))
+
+nine-requires : tie.Need-nine-requires Inv-loop μ-loop
+nine-requires c κs =
+    let p = c .before .before .before .before .pre in
+    let v = c .before .loop .v in
+    (omega arith, (p .1 (2 * v) (omega arith), (p .1 (2 * v + 1) (omega arith), p .1 (2 * v + 2) (omega arith))))
+
+add-cases : tie.Need-add-cases Inv-loop μ-loop
+add-cases c = search needs
+
+mul-cases : tie.Need-mul-cases Inv-loop μ-loop
+mul-cases c = search needs
+
+slice-write-cases : tie.Need-slice-write-cases Inv-loop μ-loop
+slice-write-cases c = search needs
+
+add-v : tie.Need-add-v Inv-loop μ-loop
+add-v c = search needs
+
+loop-less : tie.Need-loop-less Inv-loop μ-loop
+loop-less c = search needs
+
+loop-again : tie.Need-loop-again Inv-loop μ-loop
+loop-again c =
+    let l = c .before .before .loop in
+    let a = c .before .before .before .before .before .args in
+    let more = one-more (nineInside (a .threshold) (a .fine .now) (a .lines)) (a .start) (l .v) _ (a .cases .now) (l .cases) (l .inv .1 .1) (omega arith) (c .nine .ensures) in
+    (omega arith, (rw length-set (l .inv .1 .0), more))
+
+same-length : tie.Need-same-length Inv-loop μ-loop
+same-length c = omega arith
+
+returns : tie.Need-returns Inv-loop μ-loop
+returns c =
+    let l = c .before .loop in
+    let e : l .v ≡ c .before .before .before .before .args .n = omega arith in
+    rw e at (l .inv .1 .1)
+
+pub row-on-spec : {M : Type 1} → statement M
+row-on-spec =
+    tie.close
+    (tie.spec
+    Inv-loop
+    μ-loop
+    loop-holds
+    nine-requires
+    add-cases
+    mul-cases
+    slice-write-cases
+    add-v
+    loop-less
+    loop-again
+    same-length
+    returns)

@@ -1,0 +1,41 @@
+-- Sheets of case numbers, row by row, and the lines of samples that a row of regular cells lies between. Definitions only.
+use Prim.Native.Nat.{ℕ, _+_, _*_, _≤_, _<_}
+use mathlib.Core.Path.{_≡_}
+use mathlib.Core.List.{List}
+use lib.Ieee.{Float, nan}
+use lib.ListN.{getD, length}
+use Rattle.model.specs.Samples.{sampleOf}
+use Rattle.model.specs.Rotations.{xyz}
+use Rattle.model.specs.Formulas.{insideBit}
+
+-- the places of a row, and those of a sheet, which has as many rows
+abbrev pub rowWidth : ℕ
+rowWidth = 64
+
+abbrev pub sheetPlaces : ℕ
+sheetPlaces = rowWidth * rowWidth
+
+-- the rows below so many hold the numbers of their cells
+pub record Sheet (case : ℕ → ℕ → ℕ) (n rows : ℕ) (cases : List ℕ) : Type 0 where
+  pub case-at : (j k : ℕ) → j < rows → k < n → getD cases (rowWidth * j + k) 0 ≡ case j k
+
+-- the numbers of a row's cells stand from its start on, and every place before it is as it was
+pub record RowPut (case : ℕ → ℕ) (start n : ℕ) (before after : List ℕ) : Type 0 where
+  pub filled : (k : ℕ) → k < n → getD after (start + k) 0 ≡ case k
+  pub kept : (i : ℕ) → i < start → getD after i 0 ≡ getD before i 0
+
+-- ---- regular cells
+
+-- the samples of the points (x, y, 0), (x, y, 1), .., (x, y, n)
+pub record Line (n : ℕ) (centre : List Float) (x y : ℕ) (line : List Float) : Type 0 where
+  pub long : length line ≡ n + 1
+  pub sample-at : (z : ℕ) → z ≤ n → getD line z nan ≡ sampleOf n centre (xyz x y z)
+
+-- the inside bits of four lines at z, as the Rust numbers the corners
+abbrev pub fourInside : Float → List Float → List Float → List Float → List Float → ℕ → ℕ
+fourInside t a b c d z =
+    insideBit t (getD a z nan) + 2 * insideBit t (getD b z nan) + 4 * insideBit t (getD c z nan) + 8 * insideBit t (getD d z nan)
+
+-- the case number of the cell at z between four lines
+abbrev pub lineCase : Float → List Float → List Float → List Float → List Float → ℕ → ℕ
+lineCase t a b c d z = fourInside t a b c d z + 16 * fourInside t a b c d (z + 1)
