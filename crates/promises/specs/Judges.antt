@@ -25,7 +25,7 @@ use Rattle.model.specs.Star.{Star, star, subdivisions}
 use Rattle.model.specs.Mesh.{storeLength}
 use Rattle.model.specs.Judging.{judgeStar, judgeSubdivisions, judgeMask, measureUsable, judgeMeasures, judgeCentre, sideThere, judgeMissing, judgeBuffer, usable, sampleUsable, judgeSamples, facesAgree, faceSpot, faceRow, judgeFaces}
 use Rattle.model.specs.Extraction.{judgeExtraction}
-use Rattle.model.specs.Record.{headerLength, wordAt, headerOf, countOf, samplesOf, judgeRecord}
+use Rattle.model.specs.Record.{versionAt, headerLength, wordAt, headerOf, countOf, samplesOf, judgeRecord}
 use Rattle.judge.specs.First.{or-else-assoc, or-else-passed}
 use Rattle.promises.specs.Left.{Lent, counts}
 use Rattle.promises.specs.Orders.{Judge, inOrder, Numbered, Judged, blockJudges, extractionJudges, writingJudges, recordJudges, readingJudges, pointJudge, pointJudges, sampleJudges}
@@ -188,7 +188,7 @@ writing-numbered h centre neighbours bytes =
 pub record-numbered : (bytes : List ℕ) → Numbered (recordJudges bytes)
 record-numbered bytes =
     let h = headerOf bytes in
-    let version = getD bytes 4 0 in
+    let version = getD bytes versionAt 0 in
     by-unless (leb headerLength (length bytes) && eqb (wordAt bytes 0) (length bytes - 4)) RecordLength & by-unless (eqb version 1) (Version version) &
     subdivisions-number (h .block .subdivisions) & mask-number (h .mask) & measures-number (h .block) (h .threshold) &
     by-unless (eqb (length bytes - headerLength) (4 * countOf bytes)) (SampleCount (countOf bytes)) & samples-number (samplesOf bytes) & tt
