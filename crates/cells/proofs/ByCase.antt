@@ -1,7 +1,7 @@
 -- A cell by its case: the rows of the tables describe it, and they can be followed.
-use Prim.Native.Nat.{ℕ, _+_, _*_, _≤_, _<_}
+use Prim.Native.Nat.{ℕ, _+_, _*_, _/_, _%_, _≤_, _<_}
 use mathlib.Core.Path.{_≡_}
-use mathlib.Core.Bool.{Bool, false}
+use mathlib.Core.Bool.{Bool, true, false, cond}
 use mathlib.Core.List.{List}
 use native.Mathlib.Omega.{arith}
 use lib.Ieee.{Float}
@@ -14,11 +14,13 @@ use Rattle.tables.specs.Cases.{transitionCodes, transitionCode, transitionVerti
 use Rattle.tables.specs.RulesCorners.{CellRight, regular-cell-right, regular-class-small, transition-cell-right, transition-class-small}
 use Rattle.tables.specs.RulesSlots.{regular-code-right}
 use Rattle.tables.specs.RulesBorder.{transition-code-right}
-use Rattle.model.specs.Rotations.{xyz}
+use Rattle.model.specs.declared.Xyz.{Xyz}
 use Rattle.model.specs.declared.FacePoint.{FacePoint}
 use Rattle.model.specs.Star.{Star}
-use Rattle.model.specs.Points.{regularCase, transitionCase}
+use Rattle.model.specs.Formulas.{inside, insideBit}
+use Rattle.model.specs.Points.{regularCase, fineSample, transitionCase}
 use Rattle.model.specs.Mesh.{Cell, fillTo, regularCell, transitionCell}
+use Rattle.cases.specs.Scans.{allTransition}
 use Rattle.cells.specs.declared.CellIndex.{CellIndex}
 use Rattle.cells.specs.declared.CellIndex.the-variants.{Regular, Transition}
 use Rattle.cells.specs.Puts.{Room, CellPut, Adds}
@@ -73,20 +75,33 @@ module _ (case : ℕ) (small : case < 256) (codes row : List ℕ) (codes-are : c
       let long = regular-cell-long case (regular-class-small case small) in
       rw row-is (followed 5 (regularRow case) (omega arith) (omega arith) regular-right)
 
-  pub regular-coded : (x y z : ℕ) → Coded (Regular (xyz x y z)) codes (verticesOf row)
+  pub regular-coded : (at : Xyz) → Coded (Regular at) codes (verticesOf row)
   unfolding regularCode regularVertices
-  regular-coded x y z =
+  regular-coded at =
       rw (codes-are, row-is)
-      (coded (Regular (xyz x y z)) (regularCodes case) (verticesOf (regularRow case)) (regular-codes-long case small) (regular-right .vertices-most)
+      (coded (Regular at) (regularCodes case) (verticesOf (regularRow case)) (regular-codes-long case small) (regular-right .vertices-most)
       (λ i h.
       let r = regular-code-right case i small h in
       record { a-in = r .a-small; b-in = r .b-small; index-in = r .index-small }))
 
-  pub regular-is : (s : Star) (x y z : ℕ) → case ≡ regularCase s x y z → cellOf s (Regular (xyz x y z)) codes row false ≡ regularCell s x y z
+  pub regular-is : (s : Star) (at : Xyz) → case ≡ regularCase s (at .x) (at .y) (at .z)
+      → cellOf s (Regular at) codes row false ≡ regularCell s (at .x) (at .y) (at .z)
   unfolding regularCell regularCode regularVertices regularTriangles regularCorner
-  regular-is s x y z e = rw (codes-are, row-is, e)
+  regular-is s at e = rw (codes-are, row-is, e)
 
 -- ---- transition cells
+
+inside-small : (b : Bool) → cond b 1 0 ≤ 1
+inside-small true = omega arith
+inside-small false = omega arith
+
+-- the nine contributions add up to 511
+pub transition-case-small : (s : Star) (side u v : ℕ) → transitionCase s side u v ≤ allTransition
+unfolding transitionCase
+transition-case-small s side u v =
+    let bit : (k : ℕ) → insideBit (s .threshold) (fineSample s side (2 * u + k % 3) (2 * v + k / 3)) ≤ 1 =
+    λ k. inside-small (inside (s .threshold) (fineSample s side (2 * u + k % 3) (2 * v + k / 3))) in
+    omega (arith, bit 0, bit 1, bit 2, bit 3, bit 4, bit 5, bit 6, bit 7, bit 8)
 
 module _ (case : ℕ) (small : case < 512) (codes row : List ℕ) (codes-are : codes ≡ transitionCodes case) (row-is : row ≡ transitionRow case) where
   transition-right : Right 12 (transitionRow case)
@@ -108,7 +123,7 @@ module _ (case : ℕ) (small : case < 512) (codes row : List ℕ) (codes-are : c
       let r = transition-code-right case i small h in
       record { a-in = r .a-small; b-in = r .b-small; index-in = r .index-small }))
 
-  pub transition-is : (s : Star) (side u v : ℕ) (turned : Bool) → case ≡ transitionCase s side u v → turned ≡ transitionTurned case
-      → cellOf s (Transition (record { side = side; u = u; v = v })) codes row turned ≡ transitionCell s side u v
+  pub transition-is : (s : Star) (at : FacePoint) (turned : Bool) → case ≡ transitionCase s (at .side) (at .u) (at .v) → turned ≡ transitionTurned case
+      → cellOf s (Transition at) codes row turned ≡ transitionCell s (at .side) (at .u) (at .v)
   unfolding transitionCell transitionCode transitionVertices transitionTriangles transitionCorner
-  transition-is s side u v turned e t = rw (codes-are, row-is, t, e)
+  transition-is s at turned e t = rw (codes-are, row-is, t, e)

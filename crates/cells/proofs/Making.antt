@@ -13,7 +13,7 @@ use Rattle.model.specs.Star.{Star}
 use Rattle.model.specs.Points.{cornerPoint, regularPoint, transitionPoint}
 use Rattle.model.specs.Mesh.{regularVertex, transitionVertex}
 use Rattle.grid.specs.Places.{Within}
-use Rattle.points.specs.TransitionPoints.{InCell, cell-point-in}
+use Rattle.points.specs.CellPoints.{InCell, cell-point-in}
 use Rattle.cells.specs.Kinds.{InBlock}
 
 -- a corner of a cell of the block is a point of the block

@@ -1,19 +1,20 @@
 -- Both kinds of cell by one name each: what a code comes to, whether it makes a vertex, the cell that it steps back to, and the
 -- places of the index store. Definitions only.
 use Prim.Native.Nat.{ℕ, _-_, _≤_, _<_}
-use mathlib.Core.Path.{_≡_}
 use mathlib.Core.Bool.{Bool, _||_}
 use mathlib.Core.List.{List}
 use lib.Dec.{eqb}
+use lib.Ieee.{Float}
 use lib.ListN.{length, getD}
 use Rattle.tables.specs.Codes.{pointA, pointB, stepX, stepY, stepZ, isNew, reuseIndex}
 use Rattle.tables.specs.Cases.{verticesOf, trianglesOf, cornerOf}
 use Rattle.model.specs.declared.Xyz.{Xyz}
 use Rattle.model.specs.declared.FacePoint.{FacePoint}
-use Rattle.model.specs.Samples.{sampleLength}
+use Rattle.model.specs.Limits.{sideCount}
 use Rattle.model.specs.Star.{Star, subdivisions}
 use Rattle.model.specs.Mesh.{CodeUse, Cell, regularPlace, transitionPlace, regularLeaves, transitionLeaves, regularUse, transitionUse, sent}
 use Rattle.grid.specs.SideLaws.{NeighbourThere}
+use Rattle.points.specs.CellPoints.{Centred}
 use Rattle.cells.specs.declared.CellIndex.{CellIndex}
 use Rattle.cells.specs.declared.CellIndex.the-variants.{Regular, Transition}
 
@@ -48,7 +49,7 @@ pub record InBlock (n x y z : ℕ) : Type 0 where
   pub z-in : z < n
 
 pub record OnSide (n side u v : ℕ) : Type 0 where
-  pub side-in : side < 6
+  pub side-in : side < sideCount
   pub u-in : u < n
   pub v-in : v < n
 
@@ -61,9 +62,8 @@ abbrev pub Beside : Star → CellIndex → Type 0
 Beside s (Regular at) = Unit
 Beside s (Transition at) = NeighbourThere (subdivisions s) (s .mask) (s .neighbours) (at .side)
 
-pub record Ready (s : Star) (at : CellIndex) : Type 0 where
-  pub few : subdivisions s ≤ 16
-  pub centre-is : length (s .centre) ≡ sampleLength (subdivisions s)
+pub record Ready (s : Star) (fractions : List Float) (at : CellIndex) : Type 0 where
+  pub centred : Centred (subdivisions s) fractions (s .centre)
   pub placed : Placed (subdivisions s) at
   pub beside : Beside s at
 

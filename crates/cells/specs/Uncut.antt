@@ -13,7 +13,7 @@ use Rattle.tables.specs.Cases.{regularCell as regularRow, transitionCell as tra
 use Rattle.model.specs.Star.{Star}
 use Rattle.model.specs.Points.{regularCase, transitionCase}
 use Rattle.model.specs.Mesh.{Cell, Mesh, fillTo, cellStep, regularCell, transitionCell}
-use Rattle.cases.specs.Columns.{uncut}
+use Rattle.cases.specs.Scans.{allRegular, allTransition, uncut}
 use Rattle.cells.specs.Puts.{Nothing}
 
 pub nothing-step : (c : Cell) → Nothing c → (m : Mesh) → cellStep c m ≡ m
@@ -40,14 +40,14 @@ regular-outside : RegularNothing 0
 unfolding regular.classes regular.cellRows regularClass regularRow regularVertices regularTriangles
 regular-outside = (refl, refl)
 
-regular-inside : RegularNothing 255
+regular-inside : RegularNothing allRegular
 unfolding regular.classes regular.cellRows regularClass regularRow regularVertices regularTriangles
 regular-inside = (refl, refl)
 
-pub regular-nothing : (s : Star) (x y z : ℕ) → uncut (regularCase s x y z) 255 ≡ true → Nothing (regularCell s x y z)
+pub regular-nothing : (s : Star) (x y z : ℕ) → uncut (regularCase s x y z) allRegular ≡ true → Nothing (regularCell s x y z)
 unfolding regularCell
 regular-nothing s x y z t =
-    let none = uncut-either RegularNothing (regularCase s x y z) 255 regular-outside regular-inside t in
+    let none = uncut-either RegularNothing (regularCase s x y z) allRegular regular-outside regular-inside t in
     record { no-vertices = none .0; no-triangles = none .1 }
 
 -- ---- transition cells
@@ -59,12 +59,12 @@ transition-outside : TransitionNothing 0
 unfolding transition.classes transition.cellRows transitionClass transitionRow transitionVertices transitionTriangles
 transition-outside = (refl, refl)
 
-transition-inside : TransitionNothing 511
+transition-inside : TransitionNothing allTransition
 unfolding transition.classes transition.cellRows transitionClass transitionRow transitionVertices transitionTriangles
 transition-inside = (refl, refl)
 
-pub transition-nothing : (s : Star) (side u v : ℕ) → uncut (transitionCase s side u v) 511 ≡ true → Nothing (transitionCell s side u v)
+pub transition-nothing : (s : Star) (side u v : ℕ) → uncut (transitionCase s side u v) allTransition ≡ true → Nothing (transitionCell s side u v)
 unfolding transitionCell
 transition-nothing s side u v t =
-    let none = uncut-either TransitionNothing (transitionCase s side u v) 511 transition-outside transition-inside t in
+    let none = uncut-either TransitionNothing (transitionCase s side u v) allTransition transition-outside transition-inside t in
     record { no-vertices = none .0; no-triangles = none .1 }

@@ -1,12 +1,12 @@
 // The cells of both kinds: a vertex code, a cell's vertices, a cell's triangles. One set of functions serves both kinds: to them a
 // cell is where it lies, its case's row of codes, its class's row of cell data and its winding.
 mod buffers;
+mod cell;
 mod codes;
 pub mod regular_cells;
 pub mod transition_cells;
 mod triangles;
 mod vertices;
-mod whole_cells;
 
 use model::FacePoint;
 use model::Xyz;

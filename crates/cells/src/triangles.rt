@@ -10,8 +10,8 @@ ghost use Rattle.cells.specs.Rows.{Followed, rowTriangle};
 use crate::buffers::put_triangle;
 use model::Triangle;
 
-fn wide(byte: u8) -> usize
-    ensures { λ r. ⌜ r ≡ byte ⌝ }
+pub fn wide(byte: u8) -> usize
+    ensures { λ r. ⌜ (r ≡ byte) × (r < 256) ⌝ }
 {
     byte as usize
 }

@@ -6,10 +6,11 @@ ghost use Prim.Native.Nat.{_+_, _≤_, _<_};
 ghost use lib.Ieee.{Float};
 ghost use lib.ListN.{length};
 ghost use Rattle.tables.specs.Cases.{verticesOf};
-ghost use Rattle.model.specs.Samples.{sampleLength};
-ghost use Rattle.model.specs.Star.{starFrom};
+ghost use Rattle.model.specs.Limits.{mostSubdivisions};
+ghost use Rattle.model.specs.Star.{star};
 ghost use Rattle.model.specs.Points.{cornerPoint};
 ghost use Rattle.model.specs.Mesh.{storeLength, madeBy, fillTo, regularVertex, transitionVertex};
+ghost use Rattle.points.specs.CellPoints.{Centred};
 ghost use Rattle.cells.specs.Kinds.{useAt, placeAt, InBlock, Placed, slots, Ready, Usable, cellOf, Coded};
 ghost use Rattle.cells.specs.Puts.{Room, CodePut, FillPut};
 use crate::CellIndex;
@@ -19,12 +20,14 @@ use crate::codes::makes;
 use crate::triangles::vertex_count;
 use grid::shared_vertex_indices::regular_place;
 use grid::shared_vertex_indices::transition_place;
-use model::Block;
+use grid::transition_sides::neighbour;
 use model::CellVertices;
 use model::FacePoint;
+use model::Header;
 use model::Vertex;
 use model::Xyz;
 use points::formulas::vertex_between;
+use points::fractions::FRACTIONS;
 use points::grid_point::regular_point;
 use points::grid_point::transition_point;
 use tables::aux_tables::cell_point;
@@ -46,7 +49,7 @@ pub struct Filled {
 
 // The place of the index store for a reuse index.
 fn place(n: usize, at: CellIndex, r: usize) -> usize
-    requires { ⌜ (n ≤ 16) × (Placed n at × (r < slots at)) ⌝ }
+    requires { ⌜ (n ≤ mostSubdivisions) × (Placed n at × (r < slots at)) ⌝ }
     ensures { λ p. ⌜ (p ≡ placeAt n at r) × (p < storeLength n) ⌝ }
 {
     match at {
@@ -56,7 +59,7 @@ fn place(n: usize, at: CellIndex, r: usize) -> usize
 }
 
 fn corner_point(at: Xyz, k: usize) -> Xyz
-    requires { ⌜ InBlock 16 (at .x) (at .y) (at .z) ⌝ }
+    requires { ⌜ InBlock mostSubdivisions (at .x) (at .y) (at .z) ⌝ }
     ensures { λ r. ⌜ r ≡ cornerPoint (at .x) (at .y) (at .z) k ⌝ }
 {
     Xyz {
@@ -67,68 +70,63 @@ fn corner_point(at: Xyz, k: usize) -> Xyz
 }
 
 fn regular_vertex(
-    block: Block,
-    mask: u8,
-    threshold: f32,
+    header: Header,
+    fractions: &[f32; FRACTIONS],
     centre: &[f32],
     at: Xyz,
     code: u16,
 ) -> Vertex
-    requires { ⌜ (block .subdivisions ≤ 16) × (length (now centre) ≡ sampleLength (block .subdivisions)) ⌝ }
-    requires { ⌜ InBlock (block .subdivisions) (at .x) (at .y) (at .z) ⌝ }
-    ensures { λ r. ⌜ ((ns : List Float) → r ≡ regularVertex (starFrom block mask threshold (now (centre .entry)) ns) (at .x) (at .y) (at .z) code) ⌝ }
+    requires { ⌜ Centred (header .block .subdivisions) (now fractions) (now centre) ⌝ }
+    requires { ⌜ InBlock (header .block .subdivisions) (at .x) (at .y) (at .z) ⌝ }
+    ensures { λ r. ⌜ ((ns : List Float) → r ≡ regularVertex (star header (now (centre .entry)) ns) (at .x) (at .y) (at .z) code) ⌝ }
 {
     let a = corner_point(at, voxel_a_index(code));
     let b = corner_point(at, voxel_b_index(code));
     vertex_between(
-        threshold,
-        regular_point(block, mask, centre, a),
-        regular_point(block, mask, centre, b),
+        header.threshold,
+        regular_point(header, fractions, centre, a),
+        regular_point(header, fractions, centre, b),
     )
 }
 
 fn transition_vertex(
-    block: Block,
-    mask: u8,
-    threshold: f32,
+    header: Header,
+    fractions: &[f32; FRACTIONS],
     centre: &[f32],
     neighbours: &[f32],
     at: FacePoint,
     code: u16,
 ) -> Vertex
-    requires { ⌜ Ready (starFrom block mask threshold (now centre) (now neighbours)) (CellIndex.Transition at) ⌝ }
+    requires { ⌜ Ready (star header (now centre) (now neighbours)) (now fractions) (CellIndex.Transition at) ⌝ }
     requires { ⌜ Usable (CellIndex.Transition at) code ⌝ }
-    ensures { λ r. ⌜ r ≡ transitionVertex (starFrom block mask threshold (now (centre .entry)) (now (neighbours .entry))) (at .side) (at .u) (at .v) code ⌝ }
+    ensures { λ r. ⌜ r ≡ transitionVertex (star header (now (centre .entry)) (now (neighbours .entry))) (at .side) (at .u) (at .v) code ⌝ }
 {
-    let side = at.side;
-    let u = at.u;
-    let v = at.v;
+    let fine = neighbour(header.block.subdivisions, header.mask, neighbours, at.side);
     let a = cell_point(voxel_a_index(code));
     let b = cell_point(voxel_b_index(code));
     vertex_between(
-        threshold,
-        transition_point(block, mask, centre, neighbours, side, u, v, a),
-        transition_point(block, mask, centre, neighbours, side, u, v, b),
+        header.threshold,
+        transition_point(header, fractions, centre, fine, at, a),
+        transition_point(header, fractions, centre, fine, at, b),
     )
 }
 
 fn vertex(
-    block: Block,
-    mask: u8,
-    threshold: f32,
+    header: Header,
+    fractions: &[f32; FRACTIONS],
     centre: &[f32],
     neighbours: &[f32],
     at: CellIndex,
     code: u16,
 ) -> Vertex
-    requires { ⌜ Ready (starFrom block mask threshold (now centre) (now neighbours)) at ⌝ }
+    requires { ⌜ Ready (star header (now centre) (now neighbours)) (now fractions) at ⌝ }
     requires { ⌜ Usable at code ⌝ }
-    ensures { λ r. ⌜ r ≡ useAt (starFrom block mask threshold (now (centre .entry)) (now (neighbours .entry))) at code .made .vertex ⌝ }
+    ensures { λ r. ⌜ r ≡ useAt (star header (now (centre .entry)) (now (neighbours .entry))) at code .made .vertex ⌝ }
 {
     match at {
-        CellIndex::Regular(cell) => regular_vertex(block, mask, threshold, centre, cell, code),
+        CellIndex::Regular(cell) => regular_vertex(header, fractions, centre, cell, code),
         CellIndex::Transition(cell) => {
-            transition_vertex(block, mask, threshold, centre, neighbours, cell, code)
+            transition_vertex(header, fractions, centre, neighbours, cell, code)
         }
     }
 }
@@ -136,9 +134,8 @@ fn vertex(
 // New: make and store. Otherwise, if the steps asked for stay inside, take the stored index of that cell; if one does not, make a new
 // vertex that is not stored.
 fn put_code(
-    block: Block,
-    mask: u8,
-    threshold: f32,
+    header: Header,
+    fractions: &[f32; FRACTIONS],
     centre: &[f32],
     neighbours: &[f32],
     at: CellIndex,
@@ -147,13 +144,13 @@ fn put_code(
     vertices: &mut [f32],
     next: usize,
 ) -> Indexed
-    requires { ⌜ Ready (starFrom block mask threshold (now centre) (now neighbours)) at ⌝ }
+    requires { ⌜ Ready (star header (now centre) (now neighbours)) (now fractions) at ⌝ }
     requires { ⌜ Usable at code ⌝ }
-    requires { ⌜ length (now store) ≡ storeLength (block .subdivisions) ⌝ }
-    requires { ⌜ Room 6 (next + length (madeBy (useAt (starFrom block mask threshold (now centre) (now neighbours)) at code))) (now vertices) ⌝ }
-    ensures { λ r. ⌜ CodePut (useAt (starFrom block mask threshold (now (centre .entry)) (now (neighbours .entry))) at code) next (now (vertices .entry)) (now (store .entry)) (r .index) (r .next) (now (vertices .exit)) (now (store .exit)) ⌝ }
+    requires { ⌜ length (now store) ≡ storeLength (header .block .subdivisions) ⌝ }
+    requires { ⌜ Room 6 (next + length (madeBy (useAt (star header (now centre) (now neighbours)) at code))) (now vertices) ⌝ }
+    ensures { λ r. ⌜ CodePut (useAt (star header (now (centre .entry)) (now (neighbours .entry))) at code) next (now (vertices .entry)) (now (store .entry)) (r .index) (r .next) (now (vertices .exit)) (now (store .exit)) ⌝ }
 {
-    let n = block.subdivisions;
+    let n = header.block.subdivisions;
     let r = reuse_index(code);
     let new = new_vertex(code);
     let made = makes(at, code);
@@ -161,34 +158,26 @@ fn put_code(
         put_vertex(
             vertices,
             next,
-            vertex(block, mask, threshold, centre, neighbours, at, code),
+            vertex(header, fractions, centre, neighbours, at, code),
         );
         let index = next as u32;
+        let after = next + 1;
         if new {
             let own = place(n, at, r);
             store[own] = index;
-            return Indexed {
-                index: index,
-                next: next + 1,
-            };
+            return Indexed { index, next: after };
         }
-        return Indexed {
-            index: index,
-            next: next + 1,
-        };
+        return Indexed { index, next: after };
     }
     let shared = place(n, back(at, code), r);
-    Indexed {
-        index: store[shared],
-        next: next,
-    }
+    let taken = store[shared];
+    Indexed { index: taken, next }
 }
 
 // The vertices of a cell, after base others.
 pub fn fill_cell(
-    block: Block,
-    mask: u8,
-    threshold: f32,
+    header: Header,
+    fractions: &[f32; FRACTIONS],
     centre: &[f32],
     neighbours: &[f32],
     at: CellIndex,
@@ -198,11 +187,11 @@ pub fn fill_cell(
     vertices: &mut [f32],
     base: usize,
 ) -> Filled
-    requires { ⌜ Ready (starFrom block mask threshold (now centre) (now neighbours)) at ⌝ }
+    requires { ⌜ Ready (star header (now centre) (now neighbours)) (now fractions) at ⌝ }
     requires { ⌜ (0 < length (now row)) × ((verticesOf (now row) ≤ 12) × Coded at (now codes) (verticesOf (now row))) ⌝ }
-    requires { ⌜ length (now store) ≡ storeLength (block .subdivisions) ⌝ }
-    requires { ⌜ Room 6 (base + length (fillTo (cellOf (starFrom block mask threshold (now centre) (now neighbours)) at (now codes) (now row) false) base (now store) (verticesOf (now row)) .made)) (now vertices) ⌝ }
-    ensures { λ r. ⌜ FillPut (fillTo (cellOf (starFrom block mask threshold (now (centre .entry)) (now (neighbours .entry))) at (now (codes .entry)) (now (row .entry)) false) base (now (store .entry)) (verticesOf (now (row .entry)))) base (now (vertices .entry)) (r .cell .index) (r .cell .count) (r .next) (now (vertices .exit)) (now (store .exit)) ⌝ }
+    requires { ⌜ length (now store) ≡ storeLength (header .block .subdivisions) ⌝ }
+    requires { ⌜ Room 6 (base + length (fillTo (cellOf (star header (now centre) (now neighbours)) at (now codes) (now row) false) base (now store) (verticesOf (now row)) .made)) (now vertices) ⌝ }
+    ensures { λ r. ⌜ FillPut (fillTo (cellOf (star header (now (centre .entry)) (now (neighbours .entry))) at (now (codes .entry)) (now (row .entry)) false) base (now (store .entry)) (verticesOf (now (row .entry)))) base (now (vertices .entry)) (r .cell .index) (r .cell .count) (r .next) (now (vertices .exit)) (now (store .exit)) ⌝ }
 {
     let count = vertex_count(row);
     let mut cell = CellVertices {
@@ -213,9 +202,8 @@ pub fn fill_cell(
     let mut k = 0;
     while k < count {
         let put = put_code(
-            block,
-            mask,
-            threshold,
+            header,
+            fractions,
             centre,
             neighbours,
             at,

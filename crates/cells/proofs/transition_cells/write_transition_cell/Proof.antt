@@ -1,77 +1,69 @@
--- `transition_cells::write_transition_cell` meets its contract: the rows of its case describe the cell. Assumes nothing.
+-- `transition_cells::write_transition_cell` meets its contract: the rows of its case describe the cell.
+use Prim.Native.Nat.{_<_}
 use mathlib.Core.Path.{_≡_}
+use native.Mathlib.Omega.{arith}
 use borrow.Author.Needs.{needs}
 use Rattle.model.specs.Mesh.{transitionCell}
-use Rattle.model.specs.Star.{Star, starFrom}
-use Rattle.points.specs.TransitionPoints.{bordered}
-use Rattle.cells.specs.Fills.{nothing-put}
+use Rattle.model.specs.Star.{Star, star}
 use Rattle.cells.specs.Kinds.{cellOf}
 use Rattle.cells.specs.declared.CellIndex.the-variants.{Transition}
-use Rattle.cells.specs.Uncut.{transition-nothing}
-use Rattle.cells.proofs.ByCase.{vertex-room, triangle-room, put-as, transition-coded, transition-followed, transition-is}
+use Rattle.cells.proofs.ByCase.{vertex-room, triangle-room, put-as, transition-case-small, transition-coded, transition-followed, transition-is}
 use Rattle.cells.proofs.transition_cells.write_transition_cell.Statement.{statement}
 use Rattle.cells.proofs.transition_cells.write_transition_cell.Tie as tie
 
 abbrev starOf : tie.Start → Star
-starOf b = starFrom (b .args .block) (b .args .mask) (b .args .threshold) (b .args .centre .now) (b .args .neighbours .now)
+starOf b = star (b .args .header) (b .args .centre .now) (b .args .neighbours .now)
+
+-- the case number is one of the table's
+small : (b : tie.Start) → b .args .case < 512
+small b =
+    let at = b .args .at in
+    omega (arith, b .pre .1 .1 .0, transition-case-small (starOf b) (at .side) (at .u) (at .v))
 
 -- the entry, from the place where the rows are lent
 abbrev start : tie.After-transition-turned → tie.Start
-start r = r .before .before .before .before .before .before .before .before .before .before .before
+start r = r .before .before .before .before .before .before .before .before
 
 -- the rows that are lent describe the cell
-same : (r : tie.After-transition-turned) →
-    cellOf (starOf (start r)) (Transition (record { side = start r .args .side; u = start r .args .u; v = start r .args .v })) (r .before .before .transition-case-codes .result .now) (r .before .transition-case-cell .result .now) (r .transition-turned .result)
-    ≡ transitionCell (starOf (start r)) (start r .args .side) (start r .args .u) (start r .args .v)
+same : (r : tie.After-transition-turned) → let b = start r in let at = b .args .at in
+    cellOf (starOf b) (Transition at) (r .before .before .transition-case-codes .result .now) (r .before .transition-case-cell .result .now) (r .transition-turned .result)
+    ≡ transitionCell (starOf b) (at .side) (at .u) (at .v)
 same r =
-    let a = start r .args in
-    let case = r .before .before .before .before .before .transition-case in
-    transition-is (case .result) (case .ensures .1) _ _ (r .before .before .transition-case-codes .ensures) (r .before .transition-case-cell .ensures) (starOf (start r)) (a .side) (a .u) (a .v) _
-    (case .ensures .0 (starOf (start r)) ((start r) .pre .1 .0) ((start r) .pre .1 .1 .1 .0 .1 .0)) (r .transition-turned .ensures)
-
-transition-case-requires : tie.Need-transition-case-requires
-transition-case-requires c κs = search needs
-
-is-uncut-requires : tie.Need-is-uncut-requires
-is-uncut-requires c κs = search needs
-
-returns : tie.Need-returns
-returns c =
-    let b = c .before .before .before .before .before .before .before .before in
-    let a = b .args in
-    let case = c .before .before .transition-case in
-    nothing-put (transitionCell (starOf b) (a .side) (a .u) (a .v)) (a .counts .vertices) (a .counts .triangles) (a .vertices .now) (a .triangles .now) (a .store .now)
-    (transition-nothing (starOf b) (a .side) (a .u) (a .v) (rw (← case .ensures .0 (starOf b) (b .pre .1 .0) (b .pre .1 .1 .1 .0 .1 .0), ← c .before .is-uncut .ensures) (c .if1 .taken)))
+    let b = start r in
+    transition-is (b .args .case) (small b) _ _ (r .before .before .transition-case-codes .ensures) (r .before .transition-case-cell .ensures) (starOf b) (b .args .at) _
+    (b .pre .1 .1 .0) (r .transition-turned .ensures)
 
 transition-case-codes-requires : tie.Need-transition-case-codes-requires
-transition-case-codes-requires c κs = search needs
+transition-case-codes-requires c κs =
+    let b = c .before .before .before .before .before in
+    (b .pre .0 .codes-are, small b)
 
 transition-case-cell-requires : tie.Need-transition-case-cell-requires
-transition-case-cell-requires c κs = search needs
+transition-case-cell-requires c κs =
+    let b = c .before .before .before .before .before .before in
+    (b .pre .0 .classes-are, b .pre .0 .cells-are, small b)
 
 transition-turned-requires : tie.Need-transition-turned-requires
-transition-turned-requires c κs = search needs
+transition-turned-requires c κs =
+    let b = c .before .before .before .before .before .before .before in
+    (b .pre .0 .classes-are, small b)
 
 write-cell-requires : tie.Need-write-cell-requires
 write-cell-requires c κs =
     let r = c .before .before .before in
-    let a = start r .args in
-    let p = start r .pre .1 .1 in
-    let s = starOf (start r) in
-    let case = r .before .before .before .before .before .transition-case in
+    let b = start r in
+    let a = b .args in
+    let room = b .pre .1 .1 .1 .1 in
     let codes-are = r .before .before .transition-case-codes .ensures in
     let row-is = r .before .transition-case-cell .ensures in (
-      record { few = p .0 .few; centre-is = p .0 .centre-is; placed = record { side-in = p .1 .0 .0; u-in = p .1 .0 .1 .1 .0; v-in = p .1 .0 .1 .1 .1 }; beside = bordered s (a .side) (p .0) (p .1 .0 .0) (p .1 .0 .1 .0) .there },
+      b .pre .1 .0,
       (
+        (transition-coded (a .case) (small b) _ _ codes-are row-is (a .at), transition-followed (a .case) (small b) _ _ codes-are row-is),
         (
-          transition-coded (case .result) (case .ensures .1) _ _ codes-are row-is (record { side = a .side; u = a .u; v = a .v }),
-          transition-followed (case .result) (case .ensures .1) _ _ codes-are row-is,
-        ),
-        (
-          p .1 .1 .0,
+          b .pre .1 .1 .1 .0,
           (
-            vertex-room (same r) (a .counts .vertices) (a .vertices .now) (a .store .now) (p .1 .1 .1 .0),
-            triangle-room (same r) (a .counts .triangles) (a .triangles .now) (p .1 .1 .1 .1),
+            vertex-room (same r) (a .counts .vertices) (a .vertices .now) (a .store .now) (room .0),
+            triangle-room (same r) (a .counts .triangles) (a .triangles .now) (room .1),
           ),
         ),
       ),
@@ -86,20 +78,17 @@ same-length-2 c = search needs
 same-length-3 : tie.Need-same-length-3
 same-length-3 c = search needs
 
-returns-2 : tie.Need-returns-2
-returns-2 c =
-    let r = c .before .before .before .before .before .before .before .before .before .before in
+returns : tie.Need-returns
+returns c =
+    let put = c .before .before .before .before .before .before in
+    let r = put .before .before .before .before in
     let a = start r .args in
-    put-as (same r) (a .counts .vertices) (a .counts .triangles) (a .vertices .now) (a .triangles .now) (a .store .now) _ _ _ _ _
-    (c .before .before .before .before .before .before .write-cell .ensures)
+    put-as (same r) (a .counts .vertices) (a .counts .triangles) (a .vertices .now) (a .triangles .now) (a .store .now) _ _ _ _ _ (put .write-cell .ensures)
 
 pub write-transition-cell-spec : {M : Type 1} → statement M
 write-transition-cell-spec =
     tie.close
     (tie.spec
-    transition-case-requires
-    is-uncut-requires
-    returns
     transition-case-codes-requires
     transition-case-cell-requires
     transition-turned-requires
@@ -107,4 +96,4 @@ write-transition-cell-spec =
     same-length
     same-length-2
     same-length-3
-    returns-2)
+    returns)

@@ -27,7 +27,7 @@ element-copy-out-result c =
     omega (arith, b .pre .0 .corner-in (b .args .j) (b .pre .1))
 
 returns : tie.Need-returns
-returns c = ap (λ (k : ℕ). getD (c .before .before .before .before .args .index .now) k 0) (c .before .wide .ensures)
+returns c = ap (λ (k : ℕ). getD (c .before .before .before .before .args .index .now) k 0) (c .before .wide .ensures .0)
 
 pub corner-index-spec : {M : Type 1} → statement M
 corner-index-spec =

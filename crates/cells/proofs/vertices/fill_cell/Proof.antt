@@ -9,7 +9,7 @@ use lib.ListN.{length}
 use Rattle.tables.specs.Cases.{verticesOf}
 use Rattle.model.specs.Extraction.{vertexFloats}
 use Rattle.model.specs.Mesh.{fillTo}
-use Rattle.model.specs.Star.{starFrom}
+use Rattle.model.specs.Star.{star}
 use Rattle.cells.specs.Fills.{fill-none, fill-ready, fill-more, length-fill-store}
 use Rattle.cells.specs.Kinds.{cellOf}
 use Rattle.laws.specs.Laying.{length-lay}
@@ -18,12 +18,12 @@ use Rattle.cells.proofs.vertices.fill_cell.Statement.{statement}
 use Rattle.cells.proofs.vertices.fill_cell.Tie as tie
 
 abbrev Inv-loop : tie.InvT-loop
-Inv-loop block mask threshold centre neighbours at codes row store₀ vertices₀ base count cell₀ next₀ k₀ store vertices cell next k =
-    (k ≤ count) × FillPut (fillTo (cellOf (starFrom block mask threshold centre neighbours) at codes row false) base store₀ k) base vertices₀
+Inv-loop header fractions centre neighbours at codes row store₀ vertices₀ base count cell₀ next₀ k₀ store vertices cell next k =
+    (k ≤ count) × FillPut (fillTo (cellOf (star header centre neighbours) at codes row false) base store₀ k) base vertices₀
     (cell .index) (cell .count) next vertices store
 
 abbrev μ-loop : tie.MeasureT-loop
-μ-loop block mask threshold centre neighbours at codes row store₀ vertices₀ base count cell₀ next₀ k₀ store vertices cell next k = count - k
+μ-loop header fractions centre neighbours at codes row store₀ vertices₀ base count cell₀ next₀ k₀ store vertices cell next k = count - k
 
 vertex-count-requires : tie.Need-vertex-count-requires Inv-loop μ-loop
 vertex-count-requires c κs = search needs
@@ -31,7 +31,7 @@ vertex-count-requires c κs = search needs
 loop-holds : tie.Need-loop-holds Inv-loop μ-loop
 loop-holds c =
     let a = c .before .before .before .before .before .before .before .args in
-    (search needs, fill-none (cellOf (starFrom (a .block) (a .mask) (a .threshold) (a .centre .now) (a .neighbours .now)) (a .at) (a .codes .now) (a .row .now) false) (a .base) (a .store .now) (a .vertices .now))
+    (search needs, fill-none (cellOf (star (a .header) (a .centre .now) (a .neighbours .now)) (a .at) (a .codes .now) (a .row .now) false) (a .base) (a .store .now) (a .vertices .now))
 
 mul-put-code : tie.Need-mul-put-code Inv-loop μ-loop
 mul-put-code c =
@@ -48,7 +48,7 @@ put-code-requires c κs =
     let b = c .before .before .before .before .before .before .before .before .before .before .before .before in
     let a = b .args in
     let l = c .before .before .before .before .loop in
-    let cell = cellOf (starFrom (a .block) (a .mask) (a .threshold) (a .centre .now) (a .neighbours .now)) (a .at) (a .codes .now) (a .row .now) false in (
+    let cell = cellOf (star (a .header) (a .centre .now) (a .neighbours .now)) (a .at) (a .codes .now) (a .row .now) false in (
       b .pre .0,
       (
         b .pre .1 .0 .1 .1 .usable (l .k) (omega arith),
@@ -83,7 +83,7 @@ loop-again c =
     let b = c .before .before .before .before .before .before .before .before .before .before .before .before .before .before .before .before .before in
     let a = b .args in
     let l = c .before .before .before .before .before .before .before .before .before .loop in
-    let cell = cellOf (starFrom (a .block) (a .mask) (a .threshold) (a .centre .now) (a .neighbours .now)) (a .at) (a .codes .now) (a .row .now) false in (
+    let cell = cellOf (star (a .header) (a .centre .now) (a .neighbours .now)) (a .at) (a .codes .now) (a .row .now) false in (
       omega (arith, c .before .before .before .before .before .before .before .before .loop-test .taken),
       fill-more cell (a .base) (a .store .now) (l .k) (cell .uses (l .k)) refl (a .vertices .now) _ _ _ _ _ (l .inv .1)
           _ _ _ _ (omega (arith, b .pre .1 .0, c .before .before .before .before .before .before .before .before .before .before .vertex-count .ensures, c .before .before .before .before .before .before .before .before .loop-test .taken)) (c .before .before .before .before .put-code .ensures),
@@ -92,7 +92,7 @@ loop-again c =
 same-length : tie.Need-same-length Inv-loop μ-loop
 same-length c =
     let a = c .before .before .before .before .before .before .before .before .before .args in
-    ap length (c .before .loop .inv .1 .store-is) ∙ length-fill-store (cellOf (starFrom (a .block) (a .mask) (a .threshold) (a .centre .now) (a .neighbours .now)) (a .at) (a .codes .now) (a .row .now) false) (a .base) (a .store .now) (c .before .loop .k)
+    ap length (c .before .loop .inv .1 .store-is) ∙ length-fill-store (cellOf (star (a .header) (a .centre .now) (a .neighbours .now)) (a .at) (a .codes .now) (a .row .now) false) (a .base) (a .store .now) (c .before .loop .k)
 
 same-length-2 : tie.Need-same-length-2 Inv-loop μ-loop
 same-length-2 c = ap length (c .before .loop .inv .1 .vertices-are) ∙ length-lay 6 vertexFloats _ _ _

@@ -2,20 +2,18 @@
 use mathlib.Core.Path.{sym, _∙_}
 use native.Mathlib.Omega.{arith}
 use borrow.Author.Needs.{needs}
-use Rattle.model.specs.Star.{Star, starFrom}
+use Rattle.model.specs.Star.{Star, star}
 use Rattle.grid.specs.StorePlaces.{small-store}
 use Rattle.cells.proofs.Uses.{index-within, one-made, code-stored, code-loose, code-taken, back-placed, back-within}
 use Rattle.cells.proofs.vertices.put_code.Statement.{statement}
 use Rattle.cells.proofs.vertices.put_code.Tie as tie
-
--- `vertices::put_code` meets its contract: a vertex is made and stored, made and not stored, or taken. Assumes nothing.
 
 -- the entry, from the place where it is known what the code says
 abbrev start : tie.After-makes → tie.Start
 start m = m .before .before .before .before .before .before .before
 
 abbrev starOf : tie.Start → Star
-starOf b = starFrom (b .args .block) (b .args .mask) (b .args .threshold) (b .args .centre .now) (b .args .neighbours .now)
+starOf b = star (b .args .header) (b .args .centre .now) (b .args .neighbours .now)
 
 reuse-index-requires : tie.Need-reuse-index-requires
 reuse-index-requires c κs = search needs
@@ -39,23 +37,23 @@ put-vertex-requires c κs =
 cast-index : tie.Need-cast-index
 cast-index c = search needs
 
+add-after : tie.Need-add-after
+add-after c = search needs
+
 place-requires : tie.Need-place-requires
 place-requires c κs =
     let m = c .before .before .before .before .before .before .before in
     let b = start m in
     let a = b .args in
-    (b .pre .0 .few, (b .pre .0 .placed, index-within (a .at) (a .code) _ (b .pre .1 .0) (m .before .before .reuse-index .ensures .0)))
+    (b .pre .0 .centred .parts .few, (b .pre .0 .placed, index-within (a .at) (a .code) _ (b .pre .1 .0) (m .before .before .reuse-index .ensures .0)))
 
 mul-store : tie.Need-mul-store
 mul-store c =
     let b = start (c .before .before .before .before .before .before .before .before) in
-    omega (arith, c .place .ensures .1, small-store (b .args .block .subdivisions) (b .pre .0 .few))
+    omega (arith, c .place .ensures .1, small-store (b .args .header .block .subdivisions) (b .pre .0 .centred .parts .few))
 
 slice-write-store : tie.Need-slice-write-store
 slice-write-store c = omega (arith, c .place .ensures .1, start (c .before .before .before .before .before .before .before .before) .pre .1 .1 .0)
-
-add-t24 : tie.Need-add-t24
-add-t24 c = omega (arith, start (c .before .before .before .before .before .before .before .before) .pre .1 .1 .1 .short)
 
 same-length : tie.Need-same-length
 same-length c = search needs
@@ -71,9 +69,6 @@ returns c =
     code-stored (starOf b) (a .at) (a .code) (a .next) _ (a .vertices .now) (a .store .now) _ (m .makes .ensures)
     (m .before .before .reuse-index .ensures .0) _ _ _ (c .before .before .before .before .before .vertex .ensures) (c .before .before .before .before .put-vertex .ensures)
     (m .before .new-vertex .ensures) (c .before .before .before .before .before .before .before .if1 .taken) _ (c .place .ensures .0) (c .before .if2 .taken)
-
-add-t26 : tie.Need-add-t26
-add-t26 c = search needs
 
 same-length-3 : tie.Need-same-length-3
 same-length-3 c = search needs
@@ -96,18 +91,18 @@ place-requires-2 c κs =
     let b = start m in
     let a = b .args in
     let own = index-within (a .at) (a .code) _ (b .pre .1 .0) (m .before .before .reuse-index .ensures .0) in (
-      b .pre .0 .few,
+      b .pre .0 .centred .parts .few,
       (
-        back-placed (a .code) (a .block .subdivisions) (a .at) _ (c .back .ensures) (b .pre .0 .placed),
+        back-placed (a .code) (a .header .block .subdivisions) (a .at) _ (c .back .ensures) (b .pre .0 .placed),
         back-within (a .code) _ (a .at) _ (c .back .ensures) own,
       ),
     )
 
-mul-t28 : tie.Need-mul-t28
-mul-t28 c = search needs
+mul-taken : tie.Need-mul-taken
+mul-taken c = search needs
 
-slice-read-t30 : tie.Need-slice-read-t30
-slice-read-t30 c = search needs
+slice-read-taken : tie.Need-slice-read-taken
+slice-read-taken c = search needs
 
 returns-3 : tie.Need-returns-3
 returns-3 c =
@@ -128,18 +123,17 @@ put-code-spec =
     vertex-requires
     put-vertex-requires
     cast-index
+    add-after
     place-requires
     mul-store
     slice-write-store
-    add-t24
     same-length
     same-length-2
     returns
-    add-t26
     same-length-3
     returns-2
     back-requires
     place-requires-2
-    mul-t28
-    slice-read-t30
+    mul-taken
+    slice-read-taken
     returns-3)

@@ -1,9 +1,20 @@
--- `vertices::transition_vertex` meets its contract: its two points are points of the cell. Assumes nothing.
+-- `vertices::transition_vertex` meets its contract: its two points are points of the cell, read from the side's own neighbour.
 use borrow.Author.Needs.{needs}
-use Rattle.model.specs.Star.{starFrom}
+use Rattle.model.specs.Star.{star}
+use Rattle.points.specs.CellPoints.{Bordered}
 use Rattle.cells.proofs.Making.{point-in-cell, transition-made}
 use Rattle.cells.proofs.vertices.transition_vertex.Statement.{statement}
 use Rattle.cells.proofs.vertices.transition_vertex.Tie as tie
+
+neighbour-requires : tie.Need-neighbour-requires
+neighbour-requires c κs = search needs
+
+-- the side's neighbour is wholly lent
+bordered : (c : tie.After-neighbour) → let start = c .before .before .before in
+    Bordered (start .args .header .block .subdivisions) (c .neighbour .result .now) (start .args .at)
+bordered c =
+    let h = c .before .before .before .pre .0 in
+    record { side-is = h .placed .side-in; u-in = h .placed .u-in; v-in = h .placed .v-in; fine-is = c .neighbour .ensures .1 }
 
 voxel-a-index-requires : tie.Need-voxel-a-index-requires
 voxel-a-index-requires c κs = search needs
@@ -19,31 +30,34 @@ cell-point-requires-2 c κs = search needs
 
 transition-point-requires : tie.Need-transition-point-requires
 transition-point-requires c κs =
-    let b = c .before .before .before .before .before .before in
-    let h = b .pre .0 in
-    (record { centre-is = h .centre-is; there = h .beside }, ((h .placed .u-in, h .placed .v-in), point-in-cell (c .before .before .before .voxel-a-index .result) _ (c .before .before .cell-point .ensures)))
+    let lent = c .before .before .before .before in
+    let in-cell = point-in-cell (c .before .before .before .voxel-a-index .result) _ (c .before .before .cell-point .ensures) in
+    (lent .before .before .before .pre .0 .centred, (bordered lent, in-cell))
 
 transition-point-requires-2 : tie.Need-transition-point-requires-2
 transition-point-requires-2 c κs =
-    let b = c .before .before .before .before .before .before .before in
-    let h = b .pre .0 in
-    (record { centre-is = h .centre-is; there = h .beside }, ((h .placed .u-in, h .placed .v-in), point-in-cell (c .before .before .voxel-b-index .result) _ (c .before .cell-point2 .ensures)))
+    let lent = c .before .before .before .before .before in
+    let in-cell = point-in-cell (c .before .before .voxel-b-index .result) _ (c .before .cell-point2 .ensures) in
+    (lent .before .before .before .pre .0 .centred, (bordered lent, in-cell))
 
 vertex-between-requires : tie.Need-vertex-between-requires
 vertex-between-requires c κs = search needs
 
 returns : tie.Need-returns
 returns c =
-    let a = c .before .before .before .before .before .before .before .before .before .args in
-    transition-made (starFrom (a .block) (a .mask) (a .threshold) (a .centre .now) (a .neighbours .now)) (a .at .side) (a .at .u) (a .at .v) (a .code) _ _ _ _ _ _ _
+    let lent = c .before .before .before .before .before .before .before in
+    let a = lent .before .before .before .args in
+    let fine-is = lent .neighbour .ensures .0 in
+    transition-made (star (a .header) (a .centre .now) (a .neighbours .now)) (a .at .side) (a .at .u) (a .at .v) (a .code) _ _ _ _ _ _ _
     (c .before .before .before .before .before .before .voxel-a-index .ensures .0) (c .before .before .before .before .voxel-b-index .ensures .0)
     (c .before .before .before .before .before .cell-point .ensures) (c .before .before .before .cell-point2 .ensures)
-    (c .before .before .transition-point .ensures (a .threshold)) (c .before .transition-point2 .ensures (a .threshold)) (c .vertex-between .ensures)
+    (c .before .before .transition-point .ensures (a .neighbours .now) fine-is) (c .before .transition-point2 .ensures (a .neighbours .now) fine-is) (c .vertex-between .ensures)
 
 pub transition-vertex-spec : {M : Type 1} → statement M
 transition-vertex-spec =
     tie.close
     (tie.spec
+    neighbour-requires
     voxel-a-index-requires
     cell-point-requires
     voxel-b-index-requires

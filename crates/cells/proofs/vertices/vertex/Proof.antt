@@ -11,7 +11,7 @@ enum-known-at c = search needs
 regular-vertex-requires : tie.Need-regular-vertex-requires
 regular-vertex-requires c κs =
     let b = c .before .before .before .before .before in
-    ((b .pre .0 .few, b .pre .0 .centre-is), regular-in (c .before .at .given .1) (b .pre .0 .placed))
+    (b .pre .0 .centred, regular-in (c .before .at .given .1) (b .pre .0 .placed))
 
 enum-known-at-2 : tie.Need-enum-known-at-2
 enum-known-at-2 c = search needs

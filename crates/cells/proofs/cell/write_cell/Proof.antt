@@ -1,14 +1,14 @@
--- `whole_cells::write_cell` meets its contract: the vertices and then the triangles make the cell. The winding plays no part in the
+-- `cell::write_cell` meets its contract: the vertices and then the triangles make the cell. The winding plays no part in the
 -- vertices. Assumes nothing.
 use native.Mathlib.Omega.{arith}
 use borrow.Author.Needs.{needs}
 use Rattle.model.specs.Mesh.{fillTo, triangleOf}
-use Rattle.model.specs.Star.{starFrom}
+use Rattle.model.specs.Star.{star}
 use Rattle.cells.specs.Fills.{cell-put}
 use Rattle.cells.specs.Kinds.{cellOf}
 use Rattle.cells.specs.Rows.{rowTriangle}
-use Rattle.cells.proofs.whole_cells.write_cell.Statement.{statement}
-use Rattle.cells.proofs.whole_cells.write_cell.Tie as tie
+use Rattle.cells.proofs.cell.write_cell.Statement.{statement}
+use Rattle.cells.proofs.cell.write_cell.Tie as tie
 
 fill-cell-requires : tie.Need-fill-cell-requires
 unfolding fillTo
@@ -34,7 +34,7 @@ returns : tie.Need-returns
 unfolding fillTo triangleOf rowTriangle
 returns c =
     let a = c .before .before .before .before .before .before .before .before .before .before .before .before .before .before .before .before .before .before .before .before .before .args in
-    cell-put (cellOf (starFrom (a .block) (a .mask) (a .threshold) (a .centre .now) (a .neighbours .now)) (a .at) (a .codes .now) (a .row .now) (a .turned)) (a .counts .vertices) (a .counts .triangles)
+    cell-put (cellOf (star (a .header) (a .centre .now) (a .neighbours .now)) (a .at) (a .codes .now) (a .row .now) (a .turned)) (a .counts .vertices) (a .counts .triangles)
     (a .vertices .now) (a .triangles .now) (a .store .now) _ _ _ _ _ _ _
     (c .before .before .before .before .before .before .before .before .before .before .before .fill-cell .ensures) (c .before .before .put-triangles .ensures .0) (c .before .before .put-triangles .ensures .1)
 

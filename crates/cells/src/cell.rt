@@ -1,10 +1,10 @@
-// A whole cell of either kind, written or counted, from where it lies and its rows.
+// A cell of either kind, written or counted, from where it lies and its rows.
 ghost use mathlib.Core.Path.{_≡_};
 ghost use mathlib.Core.Bool.{Bool};
 ghost use Prim.Native.Nat.{_+_};
 ghost use lib.ListN.{length};
 ghost use Rattle.tables.specs.Cases.{verticesOf, trianglesOf};
-ghost use Rattle.model.specs.Star.{Star, starFrom};
+ghost use Rattle.model.specs.Star.{Star, star};
 ghost use Rattle.model.specs.Mesh.{storeLength, fillTo};
 ghost use Rattle.cells.specs.Puts.{Room, CellPut, Adds};
 ghost use Rattle.cells.specs.Rows.{Followed};
@@ -15,13 +15,13 @@ use crate::triangles::put_triangles;
 use crate::triangles::triangle_count;
 use crate::triangles::vertex_count;
 use crate::vertices::fill_cell;
-use model::Block;
 use model::Counts;
+use model::Header;
+use points::fractions::FRACTIONS;
 
 pub fn write_cell(
-    block: Block,
-    mask: u8,
-    threshold: f32,
+    header: Header,
+    fractions: &[f32; FRACTIONS],
     centre: &[f32],
     neighbours: &[f32],
     at: CellIndex,
@@ -33,18 +33,17 @@ pub fn write_cell(
     vertices: &mut [f32],
     triangles: &mut [u32],
 ) -> Counts
-    requires { ⌜ Ready (starFrom block mask threshold (now centre) (now neighbours)) at ⌝ }
+    requires { ⌜ Ready (star header (now centre) (now neighbours)) (now fractions) at ⌝ }
     requires { ⌜ Coded at (now codes) (verticesOf (now row)) × Followed (now row) ⌝ }
-    requires { ⌜ length (now store) ≡ storeLength (block .subdivisions) ⌝ }
-    requires { ⌜ Room 6 (counts .vertices + length (fillTo (cellOf (starFrom block mask threshold (now centre) (now neighbours)) at (now codes) (now row) turned) (counts .vertices) (now store) (verticesOf (now row)) .made)) (now vertices) ⌝ }
+    requires { ⌜ length (now store) ≡ storeLength (header .block .subdivisions) ⌝ }
+    requires { ⌜ Room 6 (counts .vertices + length (fillTo (cellOf (star header (now centre) (now neighbours)) at (now codes) (now row) turned) (counts .vertices) (now store) (verticesOf (now row)) .made)) (now vertices) ⌝ }
     requires { ⌜ Room 3 (counts .triangles + trianglesOf (now row)) (now triangles) ⌝ }
-    ensures { λ r. ⌜ CellPut (cellOf (starFrom block mask threshold (now (centre .entry)) (now (neighbours .entry))) at (now (codes .entry)) (now (row .entry)) turned) (counts .vertices) (counts .triangles) (now (vertices .entry)) (now (triangles .entry)) (now (store .entry)) (r .vertices) (r .triangles) (now (vertices .exit)) (now (triangles .exit)) (now (store .exit)) ⌝ }
+    ensures { λ r. ⌜ CellPut (cellOf (star header (now (centre .entry)) (now (neighbours .entry))) at (now (codes .entry)) (now (row .entry)) turned) (counts .vertices) (counts .triangles) (now (vertices .entry)) (now (triangles .entry)) (now (store .entry)) (r .vertices) (r .triangles) (now (vertices .exit)) (now (triangles .exit)) (now (store .exit)) ⌝ }
 {
     let base = counts.vertices;
     let filled = fill_cell(
-        block,
-        mask,
-        threshold,
+        header,
+        fractions,
         centre,
         neighbours,
         at,

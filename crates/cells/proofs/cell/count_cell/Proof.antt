@@ -1,4 +1,4 @@
--- `whole_cells::count_cell` meets its contract: what is made depends on the codes and on where the cell lies. Assumes nothing.
+-- `cell::count_cell` meets its contract: what is made depends on the codes and on where the cell lies. Assumes nothing.
 use mathlib.Core.Bool.{cond}
 use mathlib.Core.Path.{_≡_, sym, _∙_}
 use native.Mathlib.Omega.{arith}
@@ -8,8 +8,8 @@ use Rattle.tables.specs.Cases.{verticesOf}
 use Rattle.cells.specs.Fills.{made-total}
 use Rattle.cells.specs.Kinds.{makesAt, cellOf}
 use Rattle.cells.proofs.Uses.{use-count}
-use Rattle.cells.proofs.whole_cells.count_cell.Statement.{statement}
-use Rattle.cells.proofs.whole_cells.count_cell.Tie as tie
+use Rattle.cells.proofs.cell.count_cell.Statement.{statement}
+use Rattle.cells.proofs.cell.count_cell.Tie as tie
 
 vertex-count-requires : tie.Need-vertex-count-requires
 vertex-count-requires c κs = search needs
