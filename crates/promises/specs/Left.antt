@@ -59,7 +59,7 @@ abbrev pub triangleIn : Lent → ℕ → Triangle
 triangleIn b t = record { a = cornerIn b t 0; b = cornerIn b t 1; c = cornerIn b t 2 }
 
 -- what the regular cells have left in the buffers: they come first. A buffer does not tell a vertex's grid edge; it is that of the definition's vertex
--- with this index
+-- with this index. The store plays no part in what is said of it
 abbrev pub regularPart : Star → Lent → Mesh
 regularPart s b =
     record {

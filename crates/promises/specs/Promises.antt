@@ -1,6 +1,7 @@
 -- What the buyer was promised, in five parts, for every input; `Kept.kept` is the theorem that all of it holds. It speaks of what the public calls
 -- answer and leave in the buffers lent to them: the model's `extract`, `readRecord`, `writeRecord`, `readPoint` and the viewer's three answers, to each of
--- which the code is proved equal. Its words are set down in Orders (judging), Left (buffers) and closed's Clauses (no hole). Definitions only.
+-- which the `ensures` of the call says that the code is equal. The words are set down in Orders (judging), Left (buffers) and closed's Clauses (no hole).
+-- Definitions only.
 use Prim.Native.Nat.{ℕ, _+_, _*_, _^_, _≤_, _<_}
 use mathlib.Core.Path.{_≡_}
 use mathlib.Core.List.{List, [], _∷_, _++_, map}
