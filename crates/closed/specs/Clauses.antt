@@ -1,4 +1,5 @@
--- A surface with no hole: the three clauses of demand 3, each a property of a mesh of a block. Definitions only.
+-- A surface with no hole: the three clauses of demand 3, and that each vertex lies on its grid edge, each a property of a mesh of a block.
+-- Definitions only.
 use Prim.Native.Nat.{ℕ, suc, _+_, _*_, _≤_, _<_}
 use mathlib.Core.Path.{_≡_}
 use mathlib.Core.Logic.{_≢_, _↔_, _⊎_}
@@ -14,8 +15,9 @@ use Rattle.model.specs.declared.Triangle.{Triangle}
 use Rattle.laws.specs.Steps.{total}
 use Rattle.model.specs.Samples.{inBlock, sampleOf}
 use Rattle.model.specs.Rotations.{xyz}
-use Rattle.model.specs.Formulas.{vector, insideBit}
+use Rattle.model.specs.Formulas.{vector, insideBit, vertexBetween}
 use Rattle.model.specs.Star.{Star, subdivisions}
+use Rattle.model.specs.Points.{regularPoint}
 use Rattle.model.specs.Mesh.{Made, Mesh, noEdge, regularTo}
 
 -- ---- grid edges
@@ -88,13 +90,14 @@ triangleAt m t = getD (m .triangles) t noTriangle
 unfoldable pub run : ℕ → ℕ → ℕ → ℕ → ℕ
 run g h p q = one (eqb p g && eqb q h)
 
--- how many of a triangle's sides, from corner 1 to 2, 2 to 3 and 3 to 1, run from the grid edge g to h
+-- how many of the three sides of a triangle with corners on the grid edges a, b, c run from g to h
+abbrev pub around : ℕ → ℕ → ℕ → ℕ → ℕ → ℕ
+around g h a b c = run g h a b + run g h b c + run g h c a
+
+-- how many sides of triangle t do
 unfoldable pub sides : Mesh → ℕ → ℕ → ℕ → ℕ
 sides m g h t =
-    let a = edgeAt (m .made) (triangleAt m t .a) in
-    let b = edgeAt (m .made) (triangleAt m t .b) in
-    let c = edgeAt (m .made) (triangleAt m t .c) in
-    run g h a b + run g h b c + run g h c a
+    around g h (edgeAt (m .made) (triangleAt m t .a)) (edgeAt (m .made) (triangleAt m t .b)) (edgeAt (m .made) (triangleAt m t .c))
 
 -- how many sides of all triangles do
 unfoldable pub runs : Mesh → ℕ → ℕ → ℕ
@@ -155,14 +158,32 @@ Balanced s m =
     (e f : Edge) → OfBlock s e → OfBlock s f → InnerPair s e f
     → runs m (number s e) (number s f) ≡ runs m (number s f) (number s e)
 
--- ---- the three together
+-- ---- beside the three: a vertex lies on its grid edge
+
+-- the vertex between the two ends of a grid edge
+abbrev pub vertexOn : Star → Edge → Vertex
+vertexOn s e = vertexBetween (s .threshold) (regularPoint s (e .low)) (regularPoint s (high e))
+
+-- the grid edge of vertex i is a crossed one of the block, and its six numbers are those between the edge's two ends
+pub record OnItsEdge (s : Star) (made : List Made) (i : ℕ) : Type 0 where
+  pub on : Edge
+  pub of-block : OfBlock s on
+  pub crossed : Crossed s on
+  pub named : Names made i (number s on)
+  pub vertex-is : vertexAt made i ≡ vertexOn s on
+
+abbrev pub Lying : Star → List Made → Type 0
+Lying s made = (i : ℕ) → i < length made → OnItsEdge s made i
+
+-- ---- all together
 
 pub record NoHole (s : Star) (m : Mesh) : Type 0 where
   pub carried : Carried s m
   pub corners : Corners s m
   pub balanced : Balanced s m
+  pub lying : Lying s (m .made)
 
--- beside them, so that a side between two grid edges is a side between two points: two vertices on one grid edge are the same, bit for bit
+-- which gives, so that a side between two grid edges is a side between two points: two vertices on one grid edge are the same, bit for bit
 abbrev pub OneVertex : Mesh → Type 0
 OneVertex m =
     (i j : ℕ) → i < length (m .made) → j < length (m .made) → edgeAt (m .made) i ≡ edgeAt (m .made) j → vertexAt (m .made) i ≡ vertexAt (m .made) j

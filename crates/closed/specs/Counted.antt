@@ -10,11 +10,11 @@ use Rattle.tables.specs.Cases.{regularTriangles, regularCorner}
 use Rattle.laws.specs.Counting.{weighed}
 use Rattle.tables.specs.Sides.{side, sidesOf, regular-sides}
 use Rattle.laws.specs.Steps.{total}
+use Rattle.laws.specs.Sums.{total-same, total-more, weighed-gather, square, cube}
 use Rattle.model.specs.Star.{Star, subdivisions}
 use Rattle.model.specs.Points.{regularCase}
-use Rattle.model.specs.Mesh.{Made, Mesh, triangleOf, emptyMesh, regularMesh, regularTo}
-use Rattle.closed.specs.Clauses.{Edge, number, noVertex, edgeAt, run, sides, runs, IsCell, OwnVertex}
-use Rattle.laws.specs.Sums.{total-same, total-more, weighed-gather, square, cube}
+use Rattle.model.specs.Mesh.{Made, Mesh, triangleOf, emptyMesh, regularTo, regularMesh}
+use Rattle.closed.specs.Clauses.{Edge, number, noVertex, edgeAt, run, around, sides, runs, IsCell, OwnVertex}
 use Rattle.closed.specs.Places.{rank}
 use Rattle.closed.specs.Cells.{codeEdge, codeAt, byte-edge}
 use Rattle.closed.specs.Whole.{Whole, fill, made-after, triangles-many, triangle-kept, triangle-sent, corner-named, column-end, layer-end, block-end, whole-at}
@@ -36,7 +36,7 @@ edge-kept : (made more : List Made) (i : ℕ) → i < length made → edgeAt (ma
 edge-kept made more i h = ap (λ (m : Made). m .edge) (List·getD-append made more noVertex i h)
 
 three : (g h a b c a′ b′ c′ : ℕ) → a ≡ a′ → b ≡ b′ → c ≡ c′
-    → run g h a b + run g h b c + run g h c a ≡ run g h a′ b′ + run g h b′ c′ + run g h c′ a′
+    → around g h a b c ≡ around g h a′ b′ c′
 three g h a b c a′ b′ c′ p q r = rw (p, q, r)
 
 module _ (s : Star) (g h x y z : ℕ) (c : IsCell s x y z) (p : Whole s (rank s x y z) (regularTo s x y z)) where

@@ -5,21 +5,17 @@ use Prim.Native.Nat.{ℕ, zero, suc, _+_, _-_, _≤_, _<_}
 use native.Mathlib.Omega.{arith}
 use lib.Dec.{eqb}
 use Rattle.laws.specs.Counting.{one, one-small}
-use Rattle.model.specs.Star.{Star, subdivisions}
-use Rattle.model.specs.Mesh.{Mesh, regularMesh}
-use Rattle.closed.specs.Clauses.{Edge, number, OfBlock, OfCell, Crossed, runs, IsCell, Carried, Corners, Balanced, NoHole, OneVertex}
 use Rattle.laws.specs.Sums.{border}
+use Rattle.model.specs.Star.{Star, subdivisions}
+use Rattle.model.specs.Mesh.{regularMesh}
+use Rattle.closed.specs.Clauses.{Edge, number, OfBlock, OfCell, Crossed, runs, IsCell, Carried, Corners, Balanced, vertexOn, NoHole, OneVertex}
 use Rattle.closed.specs.Places.{number-one, rank-in}
 use Rattle.closed.specs.Cells.{codeEdge, byte-edge, own-byte, crossed-code}
-use Rattle.closed.specs.Stored.{names-as, vertexOn}
+use Rattle.closed.specs.Stored.{names-as}
 use Rattle.closed.specs.Whole.{whole}
 use Rattle.closed.specs.Flux.{faceRuns, block-balanced}
 use Rattle.closed.specs.Counted.{block-counted}
 use Rattle.closed.specs.Outer.{border-none}
-
--- the mesh of the regular cells
-unfoldable pub subject : Star → Mesh
-subject s = regularMesh s
 
 -- ---- 1
 
@@ -64,11 +60,10 @@ owner s e h =
       },
     )
 
-pub carried : (s : Star) → Carried s (subject s)
-unfolding subject
+pub carried : (s : Star) → Carried s (regularMesh s)
 carried s e h = (
   λ c.
-      let o = whole s .crossed (c .0) (c .1 .there) in
+      let o = whole s .lying (c .0) (c .1 .there) in
       subst (Crossed s) (number-one s (o .on) e (o .of-block) h (sym (o .named .held) ∙ c .1 .held)) (o .crossed),
   λ crossed.
       let o = owner s e h in
@@ -82,20 +77,18 @@ carried s e h = (
 -- ---- the law of the block, for any two grid edges: what its outer faces show stands on both sides
 
 pub balanced-with-border : (s : Star) (g h : ℕ)
-    → runs (subject s) g h + border (faceRuns s g h) (faceRuns s h g) (subdivisions s)
-    ≡ runs (subject s) h g + border (faceRuns s h g) (faceRuns s g h) (subdivisions s)
-unfolding subject
+    → runs (regularMesh s) g h + border (faceRuns s g h) (faceRuns s h g) (subdivisions s)
+    ≡ runs (regularMesh s) h g + border (faceRuns s h g) (faceRuns s g h) (subdivisions s)
 balanced-with-border s g h = omega (arith, block-counted s g h, block-counted s h g, block-balanced s g h)
 
 -- ---- 2
 
-pub corners : (s : Star) → Corners s (subject s)
-unfolding subject
+pub corners : (s : Star) → Corners s (regularMesh s)
 corners s = whole s .corners
 
 -- ---- 3
 
-pub balanced : (s : Star) → Balanced s (subject s)
+pub balanced : (s : Star) → Balanced s (regularMesh s)
 balanced s e f he hf inner =
     omega (
       arith,
@@ -106,13 +99,12 @@ balanced s e f he hf inner =
 
 -- ---- all
 
-pub one-vertex : (s : Star) → OneVertex (subject s)
-unfolding subject
+pub one-vertex : (s : Star) → OneVertex (regularMesh s)
 one-vertex s i j hi hj e =
-    let o = whole s .crossed i hi in
-    let q = whole s .crossed j hj in
+    let o = whole s .lying i hi in
+    let q = whole s .lying j hj in
     let same = number-one s (o .on) (q .on) (o .of-block) (q .of-block) (sym (o .named .held) ∙ e ∙ q .named .held) in
     o .vertex-is ∙ ap (vertexOn s) same ∙ sym (q .vertex-is)
 
-pub no-hole : (s : Star) → NoHole s (subject s)
-no-hole s = record { carried = carried s; corners = corners s; balanced = balanced s }
+pub no-hole : (s : Star) → NoHole s (regularMesh s)
+no-hole s = record { carried = carried s; corners = corners s; balanced = balanced s; lying = whole s .lying }

@@ -17,7 +17,7 @@ use Rattle.tables.specs.Cases as tables
 use Rattle.laws.specs.Steps.{listed}
 use Rattle.model.specs.Samples.{sampleLength, placeOf, valueAt}
 use Rattle.model.specs.Formulas.{vector}
-use Rattle.model.specs.Star.{Star, starFrom, subdivisions}
+use Rattle.model.specs.Star.{Star, star, subdivisions}
 use Rattle.model.specs.Points.{regularCase}
 use Rattle.model.specs.Mesh.{Made, Mesh, fillStep, fillTo, triangleOf, emptyMesh, cellStep, regularPlace, regularEdge, regularLeaves, regularUse, regularCell, regularColumn, regularLayer, regularMesh, regularTo}
 use Rattle.closed.specs.Clauses.{Edge, edge, high, number, OfBlock, OfCell, Crossed, edgeAt, Names, triangleAt, run, sides, runs, Carried, Corners, InnerPair, Balanced}
@@ -32,7 +32,8 @@ whole k = fin false k (pos 0)
 unfoldable pub blockOf : ℕ → List ℕ → Star
 unfolding regularTo runs sides run regularMesh regularLayer regularColumn cellStep emptyMesh regularCell regularUse regularLeaves regularEdge regularPlace triangleOf fillTo fillStep regularCase valueAt placeOf Ieee.le Ieee.lt Ieee.eq rows.classes rows.cellRows rows.vertexRows tables.regularClass tables.regularCodes tables.regularCell tables.regularCode tables.regularVertices tables.regularTriangles tables.regularCorner both
 blockOf n places =
-    starFrom (record { base = vector (whole 0) (whole 0) (whole 0); size = whole 1; subdivisions = n }) 0 (whole 1)
+    star
+    (record { block = record { base = vector (whole 0) (whole 0) (whole 0); size = whole 1; subdivisions = n }; mask = 0; threshold = whole 1 })
     (listed (λ k. cond (has k places) (whole 1) (whole 0)) (sampleLength n)) []
 
 -- one cell with no corner inside; with (0, 0, 0) inside; and with (0, 0, 0) and (1, 0, 0), so that two triangles have a side between them

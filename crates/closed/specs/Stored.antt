@@ -15,12 +15,11 @@ use lib.Seq.{getD-append-seam, getD-set-same, getD-set-other}
 use Rattle.tables.specs.Codes.{stepX, stepY, stepZ, isNew, reuseIndex}
 use Rattle.tables.specs.RulesSlots.{RegularCode}
 use Rattle.model.specs.declared.Xyz.{Xyz}
-use Rattle.model.specs.declared.Vertex.{Vertex}
 use Rattle.model.specs.Formulas.{vertexBetween}
 use Rattle.model.specs.Star.{Star, subdivisions}
 use Rattle.model.specs.Points.{regularPoint}
 use Rattle.model.specs.Mesh.{Made, CodeUse, Fill, madeBy, fillStep, fillTo, storeLength, regularEdge, regularVertex, regularLeaves, regularUse, regularCell}
-use Rattle.closed.specs.Clauses.{Edge, high, number, OfBlock, Crossed, noVertex, vertexAt, Names, IsCell}
+use Rattle.closed.specs.Clauses.{number, Crossed, noVertex, Names, IsCell, OnItsEdge, Lying}
 use Rattle.closed.specs.Places.{rank, rank-less, place, place-one, place-in}
 use Rattle.closed.specs.Cells.{codeEdge, codes, codeAt, slotEdge, high-is, code-own, code-slot, new-slot, own-of-block, code-right, code-crossed}
 
@@ -70,23 +69,8 @@ module _ (s : Star) where
   Stored here made store =
       (x y z r : ℕ) → IsCell s x y z → 1 ≤ r → r < 4 → rank s x y z < here → Crossed s (slotEdge x y z r) → Holds made store x y z r
 
-  -- the vertex of a grid edge
-  abbrev pub vertexOn : Edge → Vertex
-  vertexOn e = vertexBetween (s .threshold) (regularPoint s (e .low)) (regularPoint s (high e))
-
-  -- vertex i is that of a crossed edge of the block
-  pub record OnCrossed (made : List Made) (i : ℕ) : Type 0 where
-    pub on : Edge
-    pub of-block : OfBlock s on
-    pub crossed : Crossed s on
-    pub named : Names made i (number s on)
-    pub vertex-is : vertexAt made i ≡ vertexOn on
-
-  abbrev pub AllCrossed : List Made → Type 0
-  AllCrossed made = (i : ℕ) → i < length made → OnCrossed made i
-
-crossed-more : (s : Star) (made more : List Made) {i : ℕ} → OnCrossed s made i → OnCrossed s (made ++ more) i
-crossed-more s made more {i} o =
+lying-more : (s : Star) (made more : List Made) {i : ℕ} → OnItsEdge s made i → OnItsEdge s (made ++ more) i
+lying-more s made more {i} o =
     record {
       on = o .on;
       of-block = o .of-block;
@@ -129,7 +113,7 @@ module _ (s : Star) (x y z : ℕ) where
     old : Stored s (rank s x y z) after store′
     fresh : isNew code ≡ 1 → Holds s after store′ x y z (reuseIndex code)
     kept : (r : ℕ) → Holds s made store x y z r → Holds s after store′ x y z r
-    crossed : AllCrossed s after
+    lying : Lying s after
     long : length store′ ≡ storeLength (subdivisions s)
 
   -- regularUse, by whether the code is new and whether it leaves the block
@@ -148,14 +132,14 @@ module _ (s : Star) (x y z : ℕ) where
       Put made store code (made ++ madeBy t) (cond (t .makes) (length made) (getD store (t .place) 0))
       (cond (t .stores) (set store (t .place) (length made)) store)
 
-  module _ (c : IsCell s x y z) (made : List Made) (store : List ℕ) (old : Stored s (rank s x y z) made store) (crossed : AllCrossed s made)
+  module _ (c : IsCell s x y z) (made : List Made) (store : List ℕ) (old : Stored s (rank s x y z) made store) (lying : Lying s made)
       (long : length store ≡ storeLength (subdivisions s)) (code : ℕ) (r : RegularCode code) (here : Crossed s (codeEdge x y z code)) where
     -- one more vertex, that of the code's edge
-    made-one : (m : Made) → m .edge ≡ number s (codeEdge x y z code) → m .vertex ≡ regularVertex s x y z code → AllCrossed s (made ++ (m ∷ []))
+    made-one : (m : Made) → m .edge ≡ number s (codeEdge x y z code) → m .vertex ≡ regularVertex s x y z code → Lying s (made ++ (m ∷ []))
     unfolding regularVertex
     made-one m e v i h =
-        up-to (λ (i : ℕ). OnCrossed s (made ++ (m ∷ [])) i) (length made)
-        (λ j l. crossed-more s made (m ∷ []) (crossed j l))
+        up-to (λ (i : ℕ). OnItsEdge s (made ++ (m ∷ [])) i) (length made)
+        (λ j l. lying-more s made (m ∷ []) (lying j l))
         (record {
           on = codeEdge x y z code;
           of-block = own-of-block s x y z _ c (code-own x y z code r);
@@ -189,7 +173,7 @@ module _ (s : Star) (x y z : ℕ) where
               after-set (λ (k : ℕ). Names after k (number s (slotEdge x y z q))) store p (place s x y z q) (length made) «in»
               (λ same. rw (place-one s x y z i x y z q c c same .1) last)
               (names-more made (m ∷ []) h);
-          crossed = made-one m refl refl;
+          lying = made-one m refl refl;
           long = length-set store p (length made) ∙ long;
         }
     put-by false true en el =
@@ -199,7 +183,7 @@ module _ (s : Star) (x y z : ℕ) where
           old = λ u v w q cell some small before cr. names-more made (m ∷ []) (old u v w q cell some small before cr);
           fresh = λ h. absurd (eqb-false _ _ en h);
           kept = λ q h. names-more made (m ∷ []) h;
-          crossed = made-one m refl refl;
+          lying = made-one m refl refl;
           long = long;
         }
     put-by false false en el =
@@ -219,7 +203,7 @@ module _ (s : Star) (x y z : ℕ) where
           old = old;
           fresh = λ h. absurd (eqb-false _ _ en h);
           kept = λ q h. h;
-          crossed = crossed;
+          lying = lying;
           long = long;
         })
 
@@ -235,7 +219,7 @@ module _ (s : Star) (x y z : ℕ) where
     pub named : (j : ℕ) → j < k → Names made (getD (f .index) j 0) (number s (codeEdge x y z (codeAt s x y z j)))
     pub old : Stored s (rank s x y z) made (f .store)
     pub fresh : (j : ℕ) → j < k → isNew (codeAt s x y z j) ≡ 1 → Holds s made (f .store) x y z (reuseIndex (codeAt s x y z j))
-    pub crossed : AllCrossed s made
+    pub lying : Lying s made
     pub long : length (f .store) ≡ storeLength (subdivisions s)
 
   at-end : {made : List Made} {g : ℕ} (index : List ℕ) (i k : ℕ) → length index ≡ k → Names made i g
@@ -248,7 +232,7 @@ module _ (s : Star) (x y z : ℕ) where
     unfolding fillStep
     fill-step made k next f e h p =
         let t = regularUse s x y z (codeAt s x y z k) in
-        let q = put c made (f .store) (p .old) (p .crossed) (p .long) (codeAt s x y z k) (code-right s x y z k h) (code-crossed s x y z k h) in
+        let q = put c made (f .store) (p .old) (p .lying) (p .long) (codeAt s x y z k) (code-right s x y z k h) (code-crossed s x y z k h) in
         rw e
         (record {
           many = rw (length-append, add-one) (ap suc (p .many));
@@ -264,7 +248,7 @@ module _ (s : Star) (x y z : ℕ) where
               → Holds s (made ++ madeBy t) (fillStep t (length made) f .store) x y z (reuseIndex (codeAt s x y z j))) k
               (λ j l new. q .kept _ (p .fresh j l new))
               (q .fresh);
-          crossed = q .crossed;
+          lying = q .lying;
           long = q .long;
         })
 
@@ -273,16 +257,16 @@ module _ (s : Star) (x y z : ℕ) where
       abbrev pub FilledTo : ℕ → Type 0
       FilledTo k = let f = fillTo (regularCell s x y z) (length made) store k in Filled (made ++ f .made) k f
 
-      fill-none : Stored s (rank s x y z) made store → AllCrossed s made → length store ≡ storeLength (subdivisions s) → FilledTo 0
+      fill-none : Stored s (rank s x y z) made store → Lying s made → length store ≡ storeLength (subdivisions s) → FilledTo 0
       unfolding fillTo
-      fill-none old crossed long =
+      fill-none old lying long =
           rw append-nil
           (record {
             many = refl;
             named = λ j l. absurd (not-suc-le-zero l);
             old = old;
             fresh = λ j l. absurd (not-suc-le-zero l);
-            crossed = crossed;
+            lying = lying;
             long = long;
           })
 
@@ -293,7 +277,7 @@ module _ (s : Star) (x y z : ℕ) where
           rw (← append-assoc)
           (fill-step (made ++ f .made) k (length made + length (f .made)) f (sym (length-append made (f .made))) h p)
 
-      pub cell-filled : Stored s (rank s x y z) made store → AllCrossed s made → length store ≡ storeLength (subdivisions s)
+      pub cell-filled : Stored s (rank s x y z) made store → Lying s made → length store ≡ storeLength (subdivisions s)
           → (k : ℕ) → k < suc (codes s x y z) → FilledTo k
-      cell-filled old crossed long zero h = fill-none old crossed long
-      cell-filled old crossed long (suc k) h = fill-more k (le-of-suc-le-suc h) (cell-filled old crossed long k (le-of-lt h))
+      cell-filled old lying long zero h = fill-none old lying long
+      cell-filled old lying long (suc k) h = fill-more k (le-of-suc-le-suc h) (cell-filled old lying long k (le-of-lt h))

@@ -1,13 +1,12 @@
 -- The mesh of the cells before each cell, and so of all: what its store, its vertices and its triangles name. Clause 2 is part of it.
 use mathlib.Core.Path.{_≡_, refl, sym, ap, _∙_}
-use mathlib.Core.List.{List, [], _∷_, _++_}
+use mathlib.Core.List.{List, _++_}
 use Prim.Native.Nat.{ℕ, zero, suc, _+_, _-_, _*_, _≤_, _<_}
 use native.Mathlib.Nat.{add-zero, zero-mul, suc-mul, le-refl, le-of-lt, not-suc-le-zero}
-use native.Mathlib.Numerals.{add-one}
 use native.Mathlib.Decide.{decLt}
 use native.Mathlib.Omega.{arith}
-use lib.ListN.{length, getD, length-append, length-replicate, List·getD-append}
-use lib.Seq.{getD-append-seam, getD-append-add}
+use lib.ListN.{length, length-append, length-replicate, List·getD-append}
+use lib.Seq.{getD-append-add}
 use Rattle.tables.specs.Codes.{isNew, reuseIndex}
 use Rattle.tables.specs.Cases.{regularTriangles, regularCorner}
 use Rattle.tables.specs.RulesCorners.{regular-cell-right}
@@ -17,17 +16,17 @@ use Rattle.laws.specs.Steps.{listed}
 use Rattle.laws.specs.Lists.{length-listed, getD-listed}
 use Rattle.model.specs.Star.{Star, subdivisions}
 use Rattle.model.specs.Points.{regularCase}
-use Rattle.model.specs.Mesh.{Fill, Mesh, filled, cornerIndex, triangleOf, cellStep, emptyMesh, storeLength, regularCell, regularColumn, regularLayer, regularMesh, regularTo}
-use Rattle.closed.specs.Clauses.{number, Crossed, Names, triangleAt, IsCell, OwnVertex, OwnTriangle, Corners}
+use Rattle.model.specs.Mesh.{Fill, Mesh, filled, cornerIndex, triangleOf, cellStep, emptyMesh, storeLength, regularCell, regularColumn, regularLayer, regularTo, regularMesh}
+use Rattle.closed.specs.Clauses.{number, Crossed, Names, triangleAt, IsCell, OwnVertex, OwnTriangle, Corners, Lying}
 use Rattle.closed.specs.Places.{rank, cells-up-to}
 use Rattle.closed.specs.Cells.{codeEdge, codes, codeAt, slotEdge, code-own, case-small, code-right, crossed-slot}
-use Rattle.closed.specs.Stored.{Holds, Stored, AllCrossed, names-more, Filled, cell-filled}
+use Rattle.closed.specs.Stored.{Holds, Stored, names-more, Filled, cell-filled}
 
 -- the mesh of the cells before the rank `here`
 pub record Whole (s : Star) (here : ℕ) (m : Mesh) : Type 0 where
   pub stored : Stored s here (m .made) (m .store)
   pub long : length (m .store) ≡ storeLength (subdivisions s)
-  pub crossed : AllCrossed s (m .made)
+  pub lying : Lying s (m .made)
   pub carried : (x y z : ℕ) → IsCell s x y z → rank s x y z < here → (j : ℕ) → j < codes s x y z
       → (i : ℕ) × Names (m .made) i (number s (codeEdge x y z (codeAt s x y z j)))
   pub corners : Corners s m
@@ -74,7 +73,7 @@ module _ (s : Star) (x y z : ℕ) where
     unfolding regularCell
     done =
         rw made-after
-        (cell-filled s x y z c (regularTo s x y z .made) (regularTo s x y z .store) (p .stored) (p .crossed) (p .long)
+        (cell-filled s x y z c (regularTo s x y z .made) (regularTo s x y z .store) (p .stored) (p .lying) (p .long)
         (codes s x y z) (le-refl _))
 
     -- an index whose edge is crossed has been stored
@@ -150,7 +149,7 @@ module _ (s : Star) (x y z : ℕ) where
               (λ u v w cell before r some small crossed. done .old u v w r cell some small before crossed)
               slot-made u v w cell before r some small crossed);
           long = rw store-after (done .long);
-          crossed = done .crossed;
+          lying = done .lying;
           carried =
               cells-up-to s x y z (λ (u v w : ℕ). (j : ℕ) → j < codes s u v w
               → (i : ℕ) × Names (regularTo s x y (suc z) .made) i (number s (codeEdge u v w (codeAt s u v w j)))) c
@@ -168,7 +167,7 @@ module _ (s : Star) where
       record {
         stored = λ x y z r cell some small before. absurd (none-before before);
         long = length-replicate (storeLength (subdivisions s)) 0;
-        crossed = λ i h. absurd (not-suc-le-zero h);
+        lying = λ i h. absurd (not-suc-le-zero h);
         carried = λ x y z cell before. absurd (none-before before);
         corners = λ t h. absurd (not-suc-le-zero h);
       }

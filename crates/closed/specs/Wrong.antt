@@ -1,5 +1,4 @@
--- Meshes that are not the mesh: each is refuted at a small block in Refuted.antt, and the first four are refused as the subject of the theorem by
--- must-fail edits. Definitions only.
+-- Meshes that are not the mesh: each is refuted at a small block in Refuted.antt. Definitions only.
 use Prim.Native.Nat.{ℕ, _-_}
 use mathlib.Core.Bool.{not, _&&_}
 use mathlib.Core.List.{_++_}

@@ -1,4 +1,5 @@
--- The published tables, what later definitions read of them, and rules T1 to T6 of document 01 with their proofs.
+-- The tables of tools/tables (not yet compared with the published file), what later definitions read of them, and rules T1 to T6 of document 01 with
+-- their proofs.
 
 -- what is read: the fields of a code, the tables by case number and position, a cell's points, corners and edges
 pub mod Codes

@@ -1,5 +1,6 @@
-// The published Transvoxel tables. One function hands out each array, to be called once, high up, and lent down from there; a row of a
-// lent array, by case number, is lent on. Rules T1 to T6 over the tables stand in specs/.
+// The Transvoxel tables of tools/tables: set down from knowledge of the published ones, and not yet compared with that file
+// (docs/DIFFERENCES.md). One function hands out each array, to be called once, high up, and lent down from there; a row of a lent
+// array, by case number, is lent on. Rules T1 to T6 over the tables stand in specs/.
 ghost use mathlib.Core.Path.{_≡_};
 ghost use Prim.Native.Nat.{_+_, _*_, _%_, _<_, _≤_};
 ghost use Rattle.tables.specs.Arrays.{regularCellClass, regularCellData, regularVertexData};

@@ -1,0 +1,35 @@
+-- The theorem: all that was promised holds.
+use Prim.Native.Nat.{_+_, _*_}
+use Rattle.model.specs.Record.{headerOf, samplesOf}
+use Rattle.model.specs.Viewer.{subdivisionsAnswer, blankOf, blankAnswer}
+use Rattle.model.specs.Figures.{figures-agree}
+use Rattle.record.specs.RoundTrip.{read-write, write-read}
+use Rattle.promises.specs.Promises.{Promises}
+use Rattle.promises.specs.Extracted.{extraction, extraction-untouched, wanted, equal-mesh, no-hole-is-left}
+use Rattle.promises.specs.Records.{reading, reading-untouched, samples-laid, writing, writing-untouched, bytes-laid}
+use Rattle.promises.specs.Views.{point, packed-record, subdivisions-apart, blank-apart, viewer-sample}
+
+pub kept : Promises
+unfolding subdivisionsAnswer blankAnswer
+kept =
+    record {
+      every-call = record {
+        extraction = extraction;
+        extraction-untouched = extraction-untouched;
+        reading = reading;
+        reading-untouched = reading-untouched;
+        writing = writing;
+        writing-untouched = writing-untouched;
+        point = point;
+        viewer-subdivisions = λ bytes. packed-record bytes 100 (headerOf bytes .block .subdivisions) (subdivisions-apart bytes);
+        viewer-blank = λ bytes.
+            let m = headerOf bytes .block .subdivisions + 1 in
+            packed-record bytes 100 (blankOf (m * m * m) (headerOf bytes .threshold) (samplesOf bytes))
+            (λ e. blank-apart (m * m * m) (headerOf bytes .threshold) (samplesOf bytes));
+        viewer-sample = viewer-sample;
+      };
+      definition = record { mesh = equal-mesh; wanted = wanted; samples = samples-laid; bytes = bytes-laid };
+      no-hole = no-hole-is-left;
+      round-trips = record { read-write = read-write; write-read = write-read };
+      starred = figures-agree;
+    }

@@ -1,0 +1,69 @@
+-- What calls leave in the buffers lent to them: a buffer whose first places are laid, and the mesh that stands in extraction's buffers.
+-- Definitions only.
+use Prim.Native.Nat.{ℕ, _+_, _*_}
+use mathlib.Core.Path.{_≡_}
+use mathlib.Core.List.{List}
+use lib.Ieee.{Float, nan}
+use lib.ListN.{length, getD, take, drop}
+use Rattle.laws.specs.Steps.{listed}
+use Rattle.model.specs.declared.Vertex.{Vertex}
+use Rattle.model.specs.declared.Triangle.{Triangle}
+use Rattle.model.specs.declared.Counts.{Counts}
+use Rattle.model.specs.declared.Extraction.{Extraction}
+use Rattle.model.specs.Formulas.{vector}
+use Rattle.model.specs.Star.{Star}
+use Rattle.model.specs.Mesh.{Mesh, regularMesh, meshOf}
+use Rattle.model.specs.Extraction.{extract}
+use Rattle.closed.specs.Clauses.{edgeAt}
+
+-- the first k places of a lent buffer hold just what is written, and all beyond is as it was
+pub record Laid {A : Type 0} (k : ℕ) (written before after : List A) : Type 0 where
+  pub long : length written ≡ k
+  pub first : take k after ≡ written
+  pub beyond : drop k after ≡ drop k before
+  pub as-long : length after ≡ length before
+
+-- the three buffers that extraction is lent; what it answers, and what it leaves in them
+pub record Lent : Type 0 where
+  pub store : List ℕ
+  pub vertices : List Float
+  pub triangles : List ℕ
+
+abbrev pub answered : Star → Lent → Extraction
+answered s lent = extract s (lent .store) (lent .vertices) (lent .triangles) .answer
+
+abbrev pub left : Star → Lent → Lent
+left s lent =
+    let o = extract s (lent .store) (lent .vertices) (lent .triangles) in
+    record { store = o .store; vertices = o .vertices; triangles = o .triangles }
+
+-- how many vertices and triangles the definition's mesh has
+abbrev pub counts : Star → Counts
+counts s = record { vertices = length (meshOf s .made); triangles = length (meshOf s .triangles) }
+
+-- number k of the six of vertex i, and corner k of triangle t, as they stand in the buffers
+abbrev pub numberIn : Lent → ℕ → ℕ → Float
+numberIn b i k = getD (b .vertices) (6 * i + k) nan
+
+abbrev pub cornerIn : Lent → ℕ → ℕ → ℕ
+cornerIn b t k = getD (b .triangles) (3 * t + k) 0
+
+abbrev pub vertexIn : Lent → ℕ → Vertex
+vertexIn b i =
+    record {
+      position = vector (numberIn b i 0) (numberIn b i 1) (numberIn b i 2);
+      gradient = vector (numberIn b i 3) (numberIn b i 4) (numberIn b i 5);
+    }
+
+abbrev pub triangleIn : Lent → ℕ → Triangle
+triangleIn b t = record { a = cornerIn b t 0; b = cornerIn b t 1; c = cornerIn b t 2 }
+
+-- what the regular cells have left in the buffers: they come first. A buffer does not tell a vertex's grid edge; it is that of the definition's vertex
+-- with this index. The store plays no part in what is said of it
+abbrev pub regularPart : Star → Lent → Mesh
+regularPart s b =
+    record {
+      made = listed (λ i. record { vertex = vertexIn b i; edge = edgeAt (meshOf s .made) i }) (length (regularMesh s .made));
+      triangles = listed (triangleIn b) (length (regularMesh s .triangles));
+      store = b .store;
+    }

@@ -1,0 +1,13 @@
+-- what is promised, and the words that it is said in
+pub mod Promises
+pub mod Orders
+pub mod Left
+-- that it holds
+pub mod Kept
+-- how it is proved
+pub mod Judges
+pub mod ReadBack
+pub mod Surface
+pub mod Extracted
+pub mod Records
+pub mod Views
