@@ -256,7 +256,11 @@ def main(words):
     if words == ["--self-test"]:
         return self_test()
     if len(words) == 2 and words[0] == "--compare":
-        return compare(words[1])
+        try:
+            return compare(words[1])
+        except (OSError, ValueError) as reason:
+            print("tables.py: %s: %s" % (words[1], reason))
+            return 2
     print(__doc__)
     return 2
 
