@@ -12,7 +12,8 @@
 # A script ends with the status $missing when a tool is missing: 77, which tools/check-all counts as skipped, unless the script sets another.
 missing=${missing:-77}
 toolchain="rattle-kit-5b logic 064da1ca440f63e7"
-script=${0##*/}
+script=$(readlink -f "$0")
+script=${script#"$root"/}
 
 stop() { # STATUS WORDS
     echo "$script: ${*:2}" >&2
