@@ -79,7 +79,7 @@ find_x86() {
 find_x86_cc() {
     find_x86
     if is_x86; then
-        x86_cc=("${CC:-gcc}")
+        read -ra x86_cc <<< "${CC:-gcc}"
         need "${x86_cc[0]}" "a C compiler for x86-64 is needed"
     else
         x86_cc=(x86_64-linux-gnu-gcc -static)
