@@ -3,6 +3,7 @@
 
 mod field;
 mod random;
+pub mod seeds;
 
 use field::{Field, Point, LIMIT};
 use oracle::record::Block;
@@ -14,7 +15,7 @@ pub fn points(n: i64) -> impl Iterator<Item = [i64; 3]> {
         (0..=n).flat_map(move |x| (0..=n).flat_map(move |y| (0..=n).map(move |z| [x, y, z])));
     let faces = (0..6).flat_map(move |side| {
         (0..=n).flat_map(move |i| {
-            (0..=n).map(move |j| face_point(side, if side % 2 == 0 { -1 } else { n + 1 }, i, j))
+            (0..=n).map(move |j| face_point(side, if side & 1 == 0 { -1 } else { n + 1 }, i, j))
         })
     });
     in_block.chain(faces)
@@ -45,10 +46,10 @@ fn neighbour(
     threshold: f32,
 ) -> Vec<f32> {
     let mut origin = [0; 3];
-    origin[side / 2] = if side % 2 == 0 { -2 * n } else { 2 * n };
+    origin[side / 2] = if side & 1 == 0 { -2 * n } else { 2 * n };
     let place = |point: Point| std::array::from_fn(|k| point[k] + origin[k]);
     let mut samples: Vec<f32> = points(2 * n).map(|point| field.at(place(point), salt)).collect();
-    let (near, far) = if side % 2 == 0 { (0, 2 * n) } else { (n, 0) };
+    let (near, far) = if side & 1 == 0 { (0, 2 * n) } else { (n, 0) };
     for i in 0..=n {
         for j in 0..=n {
             let coarse = centre[place_in_block(n, face_point(side, near, i, j))];
@@ -87,9 +88,15 @@ fn size(random: &mut Random) -> f32 {
 
 /// The block of a seed.
 pub fn block(seed: u64) -> Block {
+    block_of(seed, None)
+}
+
+/// The block of a seed, with `n` subdivisions where the seed is not to choose them.
+pub fn block_of(seed: u64, n: Option<usize>) -> Block {
     let mut random = Random::new(seed);
     let mask = (seed % 64) as u8;
-    let n = subdivisions(&mut random);
+    let chosen = subdivisions(&mut random);
+    let n = n.map_or(chosen, |n| n as i64);
     let threshold = threshold(&mut random);
     let base = [base(&mut random), base(&mut random), base(&mut random)];
     let size = size(&mut random);
