@@ -45,3 +45,8 @@ pub use lengths::{
 pub use mesher::{Mesh, Mesher};
 pub use record::{read_record, write_record, Record};
 pub use refusal::Refusal;
+
+/// The examples of docs/API.md are tests too.
+#[cfg(doctest)]
+#[doc = include_str!("../../../docs/API.md")]
+mod api_page {}
