@@ -1,9 +1,9 @@
 #!/usr/bin/env python3
 """Holds tools/reference.py against the Rust mesher, block by block.
 
-    python3 compare/against_reference.py FIRST COUNT
+    python3 compare/against_reference.py COUNT [FIRST]
 
-Takes the blocks of COUNT seeds from FIRST on and compares counts, every vertex
+Takes the blocks of COUNT seeds from FIRST (0) on and compares counts, every vertex
 bit, every triangle and every place of the index store, in order.  It stops at
 the first difference, writes that record to difference.record and says where the
 two part.  At the end it says which cases were met.
@@ -13,15 +13,19 @@ import subprocess
 import sys
 from pathlib import Path
 
-HERE = Path(__file__).resolve().parent
-sys.path.insert(0, str(HERE.parent / "tools"))
-import reference  # noqa: E402
+from calling import HERE, Progress, missing, seeds
+import reference
 
 PROGRAMS = HERE / "target" / "release"
 
 
 def build():
-    subprocess.run(["cargo", "build", "--offline", "--release", "--quiet"], cwd=HERE, check=True)
+    try:
+        built = subprocess.run(["cargo", "build", "--offline", "--release", "--quiet"], cwd=HERE)
+    except FileNotFoundError:
+        missing("cargo is missing: the Rust mesher cannot be built")
+    if built.returncode:
+        sys.exit(built.returncode)
 
 
 def next_record(stream):
@@ -68,15 +72,14 @@ def first_parting(ours, theirs):
 
 
 def main(arguments):
-    if len(arguments) != 2:
-        sys.exit(__doc__)
-    first, count = map(int, arguments)
+    all_seeds = seeds(arguments, __doc__)
     build()
-    maker = subprocess.Popen([PROGRAMS / "blocks", str(first), str(count)],
-                             stdout=subprocess.PIPE)
+    first, count = all_seeds.start, len(all_seeds)
+    maker = subprocess.Popen([PROGRAMS / "blocks", str(count), str(first)], stdout=subprocess.PIPE)
+    progress = Progress(count)
     oracle = Oracle()
     regular, transition, vertices, triangles = set(), set(), 0, 0
-    for seed in range(first, first + count):
+    for seed in all_seeds:
         record = next_record(maker.stdout)
         ours = reference.both_texts(record)
         theirs = oracle.answer(record)
@@ -88,8 +91,7 @@ def main(arguments):
         triangles += int(made_triangles)
         for met, cases in zip((regular, transition), cases_met(reference.parse(record))):
             met |= cases
-        if sys.stderr.isatty() or (seed - first + 1) % 500 == 0:
-            print("%d of %d" % (seed - first + 1, count), end="\r", file=sys.stderr, flush=True)
+        progress.step()
     print("%d blocks from seed %d: no difference; %d vertices, %d triangles; "
           "%d of 256 regular cases met, %d of 512 transition cases"
           % (count, first, vertices, triangles, len(regular), len(transition)))

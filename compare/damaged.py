@@ -9,17 +9,12 @@ and all three lent buffers with tools/reference.py, which follows document 01's 
 """
 
 import random
-import struct
-import subprocess
 import sys
 from collections import Counter
-from pathlib import Path
 
-HERE = Path(__file__).resolve().parent
-sys.path.insert(0, str(HERE.parent / "tools"))
-import reference  # noqa: E402
+from calling import MARK, Ours, Progress, seeds
+import reference
 
-MARK = 0x5EED5EED
 NAN, INFINITY, LIMIT = 0x7FC00000, 0x7F800000, 0x49800000
 BAD = [NAN, 0xFFC00001, INFINITY, INFINITY | 1 << 31, LIMIT + 1, LIMIT + 1 | 1 << 31]
 
@@ -96,13 +91,14 @@ class Call:
             self.vertices = max(0, self.vertices - chance.choice([0, 1, 6]))
             self.triangles = max(0, self.triangles - chance.choice([0, 1, 3]))
 
-    def words(self):
-        numbers = [self.n, self.mask, self.threshold, *self.base, self.size, len(self.centre), len(self.neighbours),
-                   self.store, self.vertices, self.triangles, *self.centre, *self.neighbours]
-        return struct.pack("<%dI" % len(numbers), *numbers)
+    def answer(self, ours):
+        """The answer's four numbers and the three buffers after the call."""
+        head = [self.n, self.mask, self.threshold, *self.base, self.size]
+        numbers, places = ours.call(head, [self.store, self.vertices, self.triangles], self.centre, self.neighbours)
+        return list(numbers + places)
 
     def wanted(self):
-        """The answer's four numbers and the three buffers after the call, by the reference."""
+        """The same by the reference."""
         store, vertices, triangles = ([MARK] * length for length in (self.store, self.vertices, self.triangles))
         answer = reference.extract(self.block(), vertices, triangles, store)
         if isinstance(answer, reference.Refusal):
@@ -113,25 +109,20 @@ class Call:
 
 
 def main(words):
-    count, first = int(words[0]), int(words[1]) if len(words) > 1 else 0
-    ours = subprocess.Popen([HERE / "ours" / "run"], stdin=subprocess.PIPE, stdout=subprocess.PIPE)
-    met = Counter()
-    for seed in range(first, first + count):
+    all_seeds = seeds(words, __doc__)
+    ours, met, progress = Ours(), Counter(), Progress(len(all_seeds))
+    for seed in all_seeds:
         chance = random.Random(seed)
         call = Call(chance)
         for _ in range(chance.choice([0, 1, 1, 1, 2])):
             call.damage(chance)
-        ours.stdin.write(call.words())
-        ours.stdin.flush()
-        wanted = call.wanted()
-        answer = list(struct.unpack("<%dI" % len(wanted), ours.stdout.read(4 * len(wanted))))
+        answer, wanted = call.answer(ours), call.wanted()
         met[wanted[0]] += 1
         if answer != wanted:
             sys.exit("seed %d: ours %s, document 01 %s" % (seed, answer[:4], wanted[:4]))
-    print("%d calls, no difference; answers met: %s" % (count, ", ".join("%d: %d" % pair for pair in sorted(met.items()))))
+        progress.step()
+    print("%d calls, no difference; answers met: %s" % (len(all_seeds), ", ".join("%d: %d" % pair for pair in sorted(met.items()))))
 
 
 if __name__ == "__main__":
-    if not 1 <= len(sys.argv) - 1 <= 2:
-        sys.exit(__doc__)
     main(sys.argv[1:])

@@ -7,16 +7,11 @@ At the exact sizes every place is written; at one less, refusal 9 or 10 gives wh
 """
 
 import random
-import struct
-import subprocess
 import sys
-from pathlib import Path
 
-HERE = Path(__file__).resolve().parent
-sys.path.insert(0, str(HERE.parent / "tools"))
-import reference  # noqa: E402
+from calling import MARK, Ours
+import reference
 
-MARK = 0x5EED5EED
 N, MASK = 16, 63
 STORE = reference.store_length(N)
 
@@ -38,25 +33,28 @@ def block():
 
 def main():
     centre, neighbours = block()
-    ours = subprocess.Popen([HERE / "ours" / "run"], stdin=subprocess.PIPE, stdout=subprocess.PIPE)
+    ours = Ours()
 
-    def call(store, vertices, triangles):
-        words = [N, MASK, 0, 0, 0, 0, reference.bits(1.0), len(centre), len(neighbours), store, vertices, triangles]
-        ours.stdin.write(struct.pack("<%dI" % len(words + centre + neighbours), *words, *centre, *neighbours))
-        ours.stdin.flush()
-        length = 4 + store + vertices + triangles
-        answer = struct.unpack("<%dI" % length, ours.stdout.read(4 * length))
-        return answer[:4], sum(place == MARK for place in answer[4:]), length - 4
+    def call(*sizes):
+        """The answer's four numbers, and how many places of the buffers still hold the mark."""
+        numbers, places = ours.call([N, MASK, 0, 0, 0, 0, reference.bits(1.0)], sizes, centre, neighbours)
+        return numbers, places.count(MARK)
 
-    (number, vertices, triangles, _), *_ = call(STORE, 0, 0)
-    assert number == 10 and vertices > 0 and triangles > 0
-    assert call(STORE, 6 * vertices, 3 * triangles)[:2] == ((0, vertices, triangles, 0), 0)
-    for sizes, wanted in (((STORE - 1, 6 * vertices, 3 * triangles), (9, STORE, 0, 0)),
-                          ((STORE, 6 * vertices - 1, 3 * triangles), (10, vertices, triangles, 0)),
-                          ((STORE, 6 * vertices, 3 * triangles - 1), (10, vertices, triangles, 0))):
-        answer, untouched, places = call(*sizes)
-        assert answer == wanted and untouched == places, (sizes, answer)
+    def expect(sizes, wanted, untouched):
+        got = call(*sizes)
+        if got != (wanted, untouched):
+            sys.exit("buffers of %s: %s with %d places untouched, not %s with %d" % (sizes, *got, wanted, untouched))
+
+    (number, vertices, triangles, _), _ = call(STORE, 0, 0)
+    if number != 10 or not vertices or not triangles:
+        sys.exit("without room: %d %d %d, not 10 and two counts" % (number, vertices, triangles))
+    exact = [STORE, 6 * vertices, 3 * triangles]
+    expect(exact, (0, vertices, triangles, 0), 0)
+    for short, wanted in enumerate([(9, STORE, 0, 0), (10, vertices, triangles, 0), (10, vertices, triangles, 0)]):
+        sizes = [size - (place == short) for place, size in enumerate(exact)]
+        expect(sizes, wanted, sum(sizes))
     print("%d vertices, %d triangles; exact sizes are accepted, one less of each is refused" % (vertices, triangles))
 
 
-main()
+if __name__ == "__main__":
+    main()

@@ -271,7 +271,7 @@ def transition_blocks(noise):
 
 def seeded_blocks(count):
     """The first blocks of compare/run whose records have at most 3,000 bytes."""
-    maker = subprocess.Popen([compare.PROGRAMS / "blocks", "0", str(10 * count)],
+    maker = subprocess.Popen([compare.PROGRAMS / "blocks", str(10 * count)],
                              stdout=subprocess.PIPE)
     made = (compare.next_record(maker.stdout) for _ in range(10 * count))
     short = [ref.parse(record) for record in made if len(record) <= 3000]

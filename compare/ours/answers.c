@@ -65,15 +65,20 @@ int main(void)
         float *centre = floats(samples, centres), *neighbours = floats(samples + centres, fines);
         uint32_t *store = marked(places), *blank = marked(numbers), *triangles = marked(corners);
         float *vertices = floats(blank, numbers);
-        size_t first = 0, second = 0, third = 0;
-        uint32_t answer[4];
-        answer[0] = (uint32_t)sirveshan_extract(
-            measures[1], measures[2], measures[3], measures[4], head[0], (uint8_t)head[1],
-            measures[0], centre, centres, neighbours, fines, store, places, vertices, numbers,
-            triangles, corners, &first, &second, &third);
-        answer[1] = (uint32_t)first;
-        answer[2] = (uint32_t)second;
-        answer[3] = (uint32_t)third;
+        sirveshan_header header = {measures[1], measures[2], measures[3], measures[4],
+                                   head[0], (uint8_t)head[1], measures[0]};
+        sirveshan_extracted got =
+            sirveshan_extract(header, centre, centres, neighbours, fines, store, places,
+                              vertices, numbers, triangles, corners);
+        int mesh = got.refused.number == 0;
+        uint32_t answer[4] = {
+            (uint32_t)got.refused.number,
+            (uint32_t)(mesh ? got.vertices : got.refused.first),
+            (uint32_t)(mesh ? got.triangles : got.refused.second),
+            (uint32_t)got.refused.third,
+        };
+        if (mesh ? got.refused.first || got.refused.second : got.vertices || got.triangles)
+            fail("an answer is both a mesh and a refusal");
         put(answer, 4);
         put(store, places);
         put(vertices, numbers);

@@ -3,6 +3,7 @@
 
 mod field;
 mod random;
+pub mod seeds;
 
 use field::{Field, Point, LIMIT};
 use oracle::record::Block;
@@ -87,9 +88,15 @@ fn size(random: &mut Random) -> f32 {
 
 /// The block of a seed.
 pub fn block(seed: u64) -> Block {
+    block_of(seed, None)
+}
+
+/// The block of a seed, with `n` subdivisions where the seed is not to choose them.
+pub fn block_of(seed: u64, n: Option<usize>) -> Block {
     let mut random = Random::new(seed);
     let mask = (seed % 64) as u8;
-    let n = subdivisions(&mut random);
+    let chosen = subdivisions(&mut random);
+    let n = n.map_or(chosen, |n| n as i64);
     let threshold = threshold(&mut random);
     let base = [base(&mut random), base(&mut random), base(&mut random)];
     let size = size(&mut random);

@@ -1,27 +1,28 @@
-//! `blocks FIRST COUNT` writes the records of COUNT seeds from FIRST on, end to end.
+//! `blocks COUNT [FIRST [N]]` writes the records of COUNT seeds from FIRST (0) on, end to end.
 
+use blocks::seeds::{Seeds, USAGE};
 use std::io::{self, BufWriter, Write};
 use std::process::ExitCode;
 
-fn numbers() -> Option<(u64, u64)> {
-    let mut arguments = std::env::args().skip(1).map(|word| word.parse().ok());
-    let numbers = (arguments.next()??, arguments.next()??);
-    arguments.next().is_none().then_some(numbers)
+fn write(seeds: &Seeds) -> io::Result<()> {
+    let mut output = BufWriter::new(io::stdout().lock());
+    for (_, block) in seeds.blocks() {
+        output.write_all(&block.to_record())?;
+    }
+    output.flush()
 }
 
 fn main() -> ExitCode {
-    let Some((first, count)) = numbers() else {
-        eprintln!("blocks FIRST COUNT");
-        return ExitCode::FAILURE;
+    let words: Vec<String> = std::env::args().skip(1).collect();
+    let Some(seeds) = Seeds::parse(&words) else {
+        eprintln!("blocks {USAGE}");
+        return ExitCode::from(2);
     };
-    let mut output = BufWriter::new(io::stdout().lock());
-    for seed in first..first + count {
-        if output.write_all(&blocks::block(seed).to_record()).is_err() {
-            return ExitCode::FAILURE;
-        }
-    }
-    match output.flush() {
+    match write(&seeds) {
         Ok(()) => ExitCode::SUCCESS,
-        Err(_) => ExitCode::FAILURE,
+        Err(reason) => {
+            eprintln!("blocks: {reason}");
+            ExitCode::FAILURE
+        }
     }
 }

@@ -1,5 +1,6 @@
 //! What a run of seeds brings, and that the oracle takes all of it.
 
+use blocks::seeds::Seeds;
 use oracle::record::{block_length, neighbours_length, Block};
 use oracle::Star;
 use std::collections::BTreeSet;
@@ -31,5 +32,27 @@ fn same_mesh_both_ways() {
         let star = Star::new(&block);
         let (own, added) = (star.extract(), star.answer().mesh);
         assert_eq!((own.vertices, own.triangles), (added.vertices, added.triangles));
+    }
+}
+
+#[test]
+fn subdivisions_that_are_asked_for() {
+    for n in [1, 16, 64] {
+        let block = blocks::block_of(5, Some(n));
+        assert_eq!((block.n, block.mask), (n, 5));
+        assert_eq!(block.centre.len(), block_length(n));
+        assert_eq!(block.neighbours.len(), neighbours_length(n, 5));
+    }
+}
+
+#[test]
+fn words() {
+    let parsed =
+        |words: &str| Seeds::parse(&words.split(' ').map(String::from).collect::<Vec<_>>());
+    assert_eq!(parsed("3"), Some(Seeds { range: 0..3, subdivisions: None }));
+    assert_eq!(parsed("3 7"), Some(Seeds { range: 7..10, subdivisions: None }));
+    assert_eq!(parsed("3 7 16"), Some(Seeds { range: 7..10, subdivisions: Some(16) }));
+    for wrong in ["", "x", "-1", "1 2 0", "1 2 65", "1 2 3 4", "1 18446744073709551615"] {
+        assert_eq!(parsed(wrong), None, "{wrong}");
     }
 }

@@ -3,6 +3,7 @@
 use crate::ours::{Ours, Room, MARK};
 use oracle::record::Block;
 use oracle::{Answer, Star};
+use std::io;
 
 /// How many places more than wanted each buffer has.
 const BEYOND: usize = 3;
@@ -26,8 +27,8 @@ fn compare(what: &str, ours: &[u32], wanted: &[u32]) -> Result<(), String> {
 }
 
 /// The counts if both meshers agree on the block: counts, every vertex bit, every triangle, every
-/// place of the index store, and nothing written beyond.
-pub fn difference(ours: &mut Ours, block: &Block) -> Result<Counts, String> {
+/// place of the index store, and nothing written beyond. Otherwise where they differ.
+pub fn difference(ours: &mut Ours, block: &Block) -> io::Result<Result<Counts, String>> {
     let Answer { mesh, store } = Star::new(block).answer();
     let vertices: Vec<u32> =
         mesh.vertices.as_flattened().iter().map(|number| number.to_bits()).collect();
@@ -37,13 +38,14 @@ pub fn difference(ours: &mut Ours, block: &Block) -> Result<Counts, String> {
         vertices: vertices.len() + BEYOND,
         triangles: triangles.len() + BEYOND,
     };
-    let answer = ours.extract(block, &room).expect("our mesher answers");
+    let answer = ours.extract(block, &room)?;
     let wanted = [0, mesh.vertices.len() as u32, mesh.triangles.len() as u32, 0];
     if answer.numbers != wanted {
-        return Err(format!("answer: ours {:?}, the Rust {wanted:?}", answer.numbers));
+        return Ok(Err(format!("answer: ours {:?}, the Rust {wanted:?}", answer.numbers)));
     }
-    compare("vertex number", &answer.vertices, &vertices)?;
-    compare("triangle corner", &answer.triangles, triangles)?;
-    compare("store place", &answer.store, &store)?;
-    Ok(Counts { vertices: mesh.vertices.len(), triangles: mesh.triangles.len() })
+    let same = compare("vertex number", &answer.vertices, &vertices)
+        .and_then(|()| compare("triangle corner", &answer.triangles, triangles))
+        .and_then(|()| compare("store place", &answer.store, &store));
+    let counts = Counts { vertices: mesh.vertices.len(), triangles: mesh.triangles.len() };
+    Ok(same.map(|()| counts))
 }

@@ -30,10 +30,14 @@ pub struct Room {
 }
 
 impl Ours {
+    /// Builds the program and starts it. What is missing it says itself, on standard error.
     pub fn start() -> io::Result<Ours> {
         let run = Path::new(env!("CARGO_MANIFEST_DIR")).join("../ours/run");
-        let mut program =
-            Command::new(run).stdin(Stdio::piped()).stdout(Stdio::piped()).spawn()?;
+        let built = Command::new(&run).arg("--build").status()?;
+        if let Some(status @ 1..) = built.code() {
+            std::process::exit(status);
+        }
+        let mut program = Command::new(run).stdin(Stdio::piped()).stdout(Stdio::piped()).spawn()?;
         Ok(Ours {
             input: BufWriter::new(program.stdin.take().expect("a piped input")),
             output: BufReader::new(program.stdout.take().expect("a piped output")),
@@ -43,7 +47,9 @@ impl Ours {
 
     fn words(&mut self, count: usize) -> io::Result<Vec<u32>> {
         let mut bytes = vec![0; 4 * count];
-        self.output.read_exact(&mut bytes)?;
+        self.output
+            .read_exact(&mut bytes)
+            .map_err(|_| io::Error::other("our mesher ended before its answer"))?;
         Ok(bytes.chunks_exact(4).map(|word| u32::from_le_bytes(word.try_into().unwrap())).collect())
     }
 

@@ -1,0 +1,21 @@
+//! Links the library of another commit beside ours, where `compare/before` has made one.
+
+use std::path::Path;
+
+fn main() {
+    println!("cargo:rustc-check-cfg=cfg(before, values(\"scalars\", \"header\"))");
+    for name in ["SIRVESHAN_BEFORE_LIB_DIR", "SIRVESHAN_BEFORE_FORM"] {
+        println!("cargo:rerun-if-env-changed={name}");
+    }
+    let Ok(folder) = std::env::var("SIRVESHAN_BEFORE_LIB_DIR") else { return };
+    let form = std::env::var("SIRVESHAN_BEFORE_FORM").unwrap_or_default();
+    let archive = Path::new(&folder).join("libbefore.a");
+    if !archive.is_absolute() || !archive.exists() {
+        eprintln!("{} is not there: compare/before REV makes it", archive.display());
+        std::process::exit(1);
+    }
+    println!("cargo:rerun-if-changed={}", archive.display());
+    println!("cargo:rustc-link-search=native={folder}");
+    println!("cargo:rustc-link-lib=static=before");
+    println!("cargo:rustc-cfg=before=\"{form}\"");
+}

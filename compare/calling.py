@@ -1,0 +1,68 @@
+"""Our mesher as a running program (compare/ours/run), for the comparisons that are written in Python."""
+
+import struct
+import subprocess
+import sys
+from pathlib import Path
+
+HERE = Path(__file__).resolve().parent
+sys.path.insert(0, str(HERE.parent / "tools"))
+
+# What every place of a lent buffer holds before the call.
+MARK = 0x5EED5EED
+
+
+def missing(what):
+    """Ends the comparison for want of a tool, with the status that tools/check-all counts as skipped."""
+    print(what, file=sys.stderr)
+    sys.exit(77)
+
+
+class Ours:
+    """Answers calls; a program that cannot be built or that ends early ends the comparison with a plain line."""
+
+    def __init__(self):
+        built = subprocess.run([HERE / "ours" / "run", "--build"])
+        if built.returncode:
+            sys.exit(built.returncode)
+        self.process = subprocess.Popen([HERE / "ours" / "run"], stdin=subprocess.PIPE, stdout=subprocess.PIPE)
+
+    def call(self, head, lengths, centre, neighbours):
+        """The answer's four numbers, and all places of the three buffers, of the lengths given (store, vertices, triangles)."""
+        words = [*head, len(centre), len(neighbours), *lengths, *centre, *neighbours]
+        places = 4 + sum(lengths)
+        try:
+            self.process.stdin.write(struct.pack("<%dI" % len(words), *words))
+            self.process.stdin.flush()
+            answer = self.process.stdout.read(4 * places)
+        except BrokenPipeError:
+            answer = b""
+        if len(answer) != 4 * places:
+            sys.exit("our mesher ended before its answer (status %s)" % self.process.wait())
+        numbers = struct.unpack("<%dI" % places, answer)
+        return numbers[:4], numbers[4:]
+
+
+def seeds(words, usage):
+    """COUNT [FIRST] as a range of seeds."""
+    if not 1 <= len(words) <= 2 or not all(word.isdecimal() for word in words):
+        sys.exit(usage)
+    count, first = int(words[0]), int(words[1]) if len(words) > 1 else 0
+    return range(first, first + count)
+
+
+class Progress:
+    """How far a run is, on a terminal now and then, elsewhere a line for each tenth."""
+
+    def __init__(self, count):
+        self.count = count
+        self.done = 0
+        self.terminal = sys.stderr.isatty()
+
+    def step(self):
+        self.done += 1
+        if self.terminal and (self.done % 50 == 0 or self.done == self.count):
+            end = "\n" if self.done == self.count else "\r"
+            print("%d of %d" % (self.done, self.count), end=end, file=sys.stderr, flush=True)
+        elif not self.terminal and self.done * 10 // self.count > (self.done - 1) * 10 // self.count:
+            print("%d of %d" % (self.done, self.count), file=sys.stderr, flush=True)
