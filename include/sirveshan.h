@@ -56,26 +56,28 @@
  * REFUSALS
  *
  * What cannot be used is refused by number, with three numbers that say more, 0 where unused; then no lent place is altered.
- * No input makes a call stop the program.
+ * No input makes a call stop the program. On the left when, on the right what the three numbers are:
  *
  * [refusals: written by tools/refusals.py from docs/refusals.tsv]
- *    1  n is not 1 to 16: n
- *    2  the mask is above 63: the mask
- *    3  the base or the threshold is not finite or beyond 1,048,576 in size, or the size is not 1/1024 to 1,048,576: which one is
- *       first, 0 to 2 base x, y, z, 3 size, 4 threshold
- *    4  the centre's length is wrong: the length wanted
- *    5  the neighbours are too few: the first side that is not wholly there
- *    6  the neighbours are too many: the length wanted
- *    7  a sample is not finite or beyond 1,048,576 in size: its place, neighbours counted on after the centre
- *    8  a face disagrees with its neighbour: side, u, v
- *    9  the index store is too short: the places wanted
- *   10  vertices or triangles do not fit: the counts of both
- *   11  a record under 27 bytes, or its length field wrong
- *   12  a record's version is not 1: the byte
- *   13  a record's samples are not the count wanted: the count
- *   14  a lent buffer is too short: the places wanted
- *   15  the grid point was never sampled
+ *    1  subdivisions n not 1 to 16                          n
+ *    2  mask above 63                                       mask
+ *    3  base, size or threshold out of range                0 to 2 base x y z, 3 size, 4 threshold
+ *    4  centre length wrong                                 length wanted
+ *    5  a neighbour is missing                              first side not wholly there
+ *    6  neighbour list too long                             length wanted
+ *    7  a sample not finite or beyond 1,048,576             its place, neighbours counted on after the centre
+ *    8  a face disagrees with its neighbour                 side; u; v
+ *    9  index store too short                               places wanted
+ *   10  vertices or triangles do not fit                    vertices wanted; triangles wanted
+ *   11  record under 27 bytes, or its length field wrong
+ *   12  record version not 1                                the byte
+ *   13  record's samples not the count wanted               samples wanted
+ *   14  a lent buffer too short                             places wanted
+ *   15  grid point never sampled
  * [end of refusals]
+ *
+ * The u and v of 8 run 0 to n over the face's grid points. The point is, by side: 0 (0, v, n-u), 1 (n, v, u), 2 (u, 0, n-v),
+ * 3 (u, n, v), 4 (u, v, 0), 5 (n-u, v, n).
  *
  *
  * THE RECORD
@@ -146,13 +148,13 @@ extern "C" {
 #define SIRVESHAN_MOST_VERTICES(n, mask) (12 * SIRVESHAN_CELLS(n, mask))
 #define SIRVESHAN_MOST_TRIANGLES(n, mask) (12 * SIRVESHAN_CELLS(n, mask))
 
-/* A block: its lowest point x, y, z, the length of a side, its subdivisions; which neighbours are finer; where inside begins. */
+/* A block, which of its neighbours are finer, and where inside begins. */
 typedef struct sirveshan_header {
-    float x, y, z;
-    float size;
-    size_t subdivisions;
-    uint8_t mask;
-    float threshold;
+    float x, y, z;       /* its lowest point, the base: each finite and at most 1,048,576 in size */
+    float size;          /* the length of its side: 1/1024 to 1,048,576 */
+    size_t subdivisions; /* n, 1 to 16 */
+    uint8_t mask;        /* the sides with a finer neighbour, 0 to 63 */
+    float threshold;     /* a sample at or above it is inside: finite and at most 1,048,576 in size */
 } sirveshan_header;
 
 /* A refusal: its number, 0 for none, and its three numbers. */

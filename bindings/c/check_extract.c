@@ -130,6 +130,28 @@ static void lists(void)
     expect_refused("sample of the last face", c, 7, SIRVESHAN_CENTRE_LENGTH(1) - 1, 0, 0);
 }
 
+/* Where the header says that u and v of refusal 8 lie: one point of a face disagrees, the centre's being inside. */
+static void faces(void)
+{
+    enum { N = 3, U = 1, V = 3 };
+    static const int points[6][3] = {{0, V, N - U}, {N, V, U}, {U, 0, N - V}, {U, N, V}, {U, V, 0}, {N - U, V, N}};
+    static float samples[SIRVESHAN_SAMPLES_LENGTH(N, 63)];
+    size_t side;
+    for (side = 0; side < 6; side++) {
+        struct call c = case_a();
+        size_t place = SIRVESHAN_PLACE(N, points[side][0], points[side][1], points[side][2]);
+        c.header.subdivisions = N;
+        c.header.mask = (uint8_t)(1 << side);
+        c.centre = samples;
+        c.centre_length = SIRVESHAN_CENTRE_LENGTH(N);
+        c.neighbours = samples + SIRVESHAN_CENTRE_LENGTH(N);
+        c.neighbours_length = SIRVESHAN_NEIGHBOURS_LENGTH(N, 1);
+        samples[place] = 1;
+        expect_refused("the point of a face", c, 8, side, U, V);
+        samples[place] = 0;
+    }
+}
+
 static void short_room(void)
 {
     struct call c = case_a();
@@ -252,6 +274,7 @@ int main(void)
     good();
     ranges();
     lists();
+    faces();
     short_room();
     no_buffers();
     directions();
