@@ -1,5 +1,5 @@
 #!/usr/bin/env bash
-# bindings/c/check.sh: the header by itself, and every C program here over the library: built without a warning, run, and its answer seen.
+# bindings/c/check.sh: the header by itself, and every C program here over the library: built without a warning, run, its answer seen.
 # SIRVESHAN_LIB_DIR names a folder with another libsirveshan.a. On another processor than x86-64 tools/x86.sh finds what runs them.
 set -euo pipefail
 cd "$(dirname "$(readlink -f "$0")")"

@@ -61,7 +61,8 @@ static float neighbours_a[SIRVESHAN_NEIGHBOURS_LENGTH(1, 63)];
 /* Document 01's case A, with some places more than it needs. */
 static struct call case_a(void)
 {
-    struct call c = {{0, 0, 0, 1, 1, 0, 0.5f}, samples_a, NULL, SIRVESHAN_CENTRE_LENGTH(1), 0, SIRVESHAN_STORE_LENGTH(1) + 5, 25, 5};
+    struct call c = {{0, 0, 0, 1, 1, 0, 0.5f}, samples_a, NULL, SIRVESHAN_CENTRE_LENGTH(1), 0, SIRVESHAN_STORE_LENGTH(1) + 5,
+                     25, 5};
     memset(samples_a, 0, sizeof samples_a);
     memset(neighbours_a, 0, sizeof neighbours_a);
     samples_a[SIRVESHAN_PLACE(1, 0, 0, 0)] = 1;
@@ -254,19 +255,21 @@ static void directions(void)
 /* The largest lengths, as the calls themselves tell them. */
 static void largest(void)
 {
+    enum { CENTRE = SIRVESHAN_CENTRE_LENGTH(16), REST = SIRVESHAN_NEIGHBOURS_LENGTH(16, 63) };
     struct call c = case_a();
-    float *zeros = calloc(SIRVESHAN_SAMPLES_LENGTH(16, 63), sizeof *zeros);
-    sirveshan_extracted answer;
     c.header.subdivisions = 16;
     c.header.mask = 63;
-    answer = sirveshan_extract(c.header, zeros, 0, NULL, 0, NULL, 0, NULL, 0, NULL, 0);
-    expect_refusal("largest centre", answer.refused, 4, SIRVESHAN_CENTRE_LENGTH(16), 0, 0);
-    answer = sirveshan_extract(c.header, zeros, SIRVESHAN_CENTRE_LENGTH(16), zeros, SIRVESHAN_NEIGHBOURS_LENGTH(16, 63) + 1, NULL, 0, NULL, 0,
-                               NULL, 0);
-    expect_refusal("largest neighbours", answer.refused, 6, SIRVESHAN_NEIGHBOURS_LENGTH(16, 63), 0, 0);
-    answer = sirveshan_extract(c.header, zeros, SIRVESHAN_CENTRE_LENGTH(16), zeros, SIRVESHAN_NEIGHBOURS_LENGTH(16, 63), NULL, 0, NULL, 0, NULL, 0);
-    expect_refusal("largest store", answer.refused, 9, SIRVESHAN_STORE_LENGTH(16), 0, 0);
-    free(zeros);
+    c.centre = calloc(CENTRE, sizeof *c.centre);
+    c.neighbours = calloc(REST + 1, sizeof *c.neighbours);
+    c.store_length = SIRVESHAN_STORE_LENGTH(16) - 1;
+    expect_refused("largest centre", c, 4, CENTRE, 0, 0);
+    c.centre_length = CENTRE;
+    c.neighbours_length = REST + 1;
+    expect_refused("largest neighbours", c, 6, REST, 0, 0);
+    c.neighbours_length = REST;
+    expect_refused("largest store", c, 9, SIRVESHAN_STORE_LENGTH(16), 0, 0);
+    free(c.centre);
+    free(c.neighbours);
 }
 
 int main(void)

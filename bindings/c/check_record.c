@@ -17,7 +17,8 @@ static sirveshan_header header(void)
 
 static sirveshan_written write_to(uint8_t *bytes, size_t length, sirveshan_header h, size_t centre_length)
 {
-    return sirveshan_write(h, samples, centre_length, samples + SIRVESHAN_CENTRE_LENGTH(N), SIRVESHAN_NEIGHBOURS_LENGTH(N, MASK), bytes, length);
+    const float *neighbours = samples + SIRVESHAN_CENTRE_LENGTH(N);
+    return sirveshan_write(h, samples, centre_length, neighbours, SIRVESHAN_NEIGHBOURS_LENGTH(N, MASK), bytes, length);
 }
 
 static size_t bytes_altered(const uint8_t *bytes, size_t from, size_t length)
@@ -94,7 +95,8 @@ static void not_read(void)
     free(read);
 }
 
-static void expect_not_written(const char *what, sirveshan_header h, size_t centre_length, size_t length, size_t number, size_t first)
+static void expect_not_written(const char *what, sirveshan_header h, size_t centre_length, size_t length, size_t number,
+                               size_t first)
 {
     uint8_t *bytes = room(BYTES / 4);
     sirveshan_written written;
