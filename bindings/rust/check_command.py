@@ -284,7 +284,7 @@ def near(what, found, wanted):
 
 def check_summary_of_closed_meshes():
     hollow = records.sampled_block(lambda *point: min(3.5 - math.dist(point, (4, 4, 4)), math.dist(point, (4, 4, 4)) - 1.5), 16, 0)
-    cavity = records.sampled_block(lambda *point: math.dist(point, (4, 4, 4)) - 2.0, 9, 0)
+    cavity = records.sampled_block(lambda *point: math.dist(point, (4, 4, 4)) - 2.0, 16, 0)
     ball = sphere(16, 0, 3.2)
     for block, about in ((ball, 4 / 3 * math.pi * 3.2 ** 3), (hollow, 4 / 3 * math.pi * (3.5 ** 3 - 1.5 ** 3)), (cavity, -4 / 3 * math.pi * 8)):
         record = reference.record_of(block)

@@ -1,6 +1,6 @@
 //! Transvoxel extraction over sampled f32 blocks, proved in Rattle and linked as a static library.
 //!
-//! [`extract`] is one call with lent buffers: it allocates nothing, keeps nothing and refuses by
+//! [`extract()`] is one call with lent buffers: it allocates nothing, keeps nothing and refuses by
 //! number what it cannot use, with no buffer altered. [`Mesher`] keeps buffers of the right sizes
 //! for a stage that meshes block after block. [`Record`] is a block with its samples, read from and
 //! written to the bytes of a block record. [`viewer`] has the calls over record bytes alone.

@@ -18,7 +18,8 @@ pub fn bounding_box(mesh: &Mesh) -> Option<(Position, Position)> {
 }
 
 pub fn surface_area(mesh: &Mesh) -> f64 {
-    triangles(mesh, [0.0; 3]).map(|[a, b, c]| length(cross(minus(b, a), minus(c, a))) / 2.0).sum()
+    let area = |[a, b, c]: [[f64; 3]; 3]| length(cross(minus(b, a), minus(c, a))) / 2.0;
+    triangles(mesh, [0.0; 3]).map(area).fold(0.0, |sum, part| sum + part)
 }
 
 /// How many triangle sides have no side the other way to meet. A mesh is closed when there are none: each directed side of
@@ -39,7 +40,8 @@ pub fn open_sides(mesh: &Mesh) -> usize {
 pub fn enclosed_volume(mesh: &Mesh) -> f64 {
     let (origin, _) = bounding_box(mesh).unwrap_or_default();
     let from = origin.map(f64::from);
-    triangles(mesh, from).map(|[a, b, c]| dot(a, cross(b, c)) / 6.0).sum()
+    let volume = |[a, b, c]: [[f64; 3]; 3]| dot(a, cross(b, c)) / 6.0;
+    triangles(mesh, from).map(volume).fold(0.0, |sum, part| sum + part)
 }
 
 fn position(vertex: &[f32; 6]) -> Position {
