@@ -1,6 +1,7 @@
 //! Links the proved static library, libsirveshan.a: the one in the folder that SIRVESHAN_LIB_DIR names, or the one that
 //! `rt staticlib sirveshan` writes at the project's root. Says what is missing, and how to get it, where it cannot.
 
+use std::ffi::OsStr;
 use std::path::{Path, PathBuf};
 
 const FOLDER: &str = "SIRVESHAN_LIB_DIR";
@@ -11,7 +12,7 @@ fn main() {
     println!("cargo:rerun-if-changed=build.rs");
     let chosen = std::env::var_os(FOLDER).filter(|folder| !folder.is_empty());
     let archive = match &chosen {
-        Some(folder) => called_from().join(folder).join(ARCHIVE),
+        Some(folder) => seen_from_caller(folder).join(ARCHIVE),
         None => project().join("target/staticlib").join(ARCHIVE),
     };
     println!("cargo:rerun-if-changed={}", archive.display());
@@ -25,14 +26,19 @@ fn main() {
     println!("cargo:rustc-link-lib=static=sirveshan");
 }
 
-/// Where cargo was called: a build script runs in the crate's folder, and a relative folder was not meant from there.
-fn called_from() -> PathBuf {
+/// A build script runs in the crate's folder, but a relative folder was meant from where cargo was called.
+fn seen_from_caller(folder: &OsStr) -> PathBuf {
+    if Path::new(folder).is_absolute() {
+        return PathBuf::from(folder);
+    }
     println!("cargo:rerun-if-env-changed=PWD");
-    std::env::var_os("PWD").map(PathBuf::from).unwrap_or_default()
+    std::env::var_os("PWD").map(PathBuf::from).unwrap_or_default().join(folder)
 }
 
+/// The folder two above this crate's.
 fn project() -> PathBuf {
-    PathBuf::from(env!("CARGO_MANIFEST_DIR")).join("../..")
+    let here = Path::new(env!("CARGO_MANIFEST_DIR"));
+    here.ancestors().nth(2).unwrap_or(here).to_path_buf()
 }
 
 fn what_is_missing(archive: &Path, chosen: bool) -> Option<String> {
