@@ -299,25 +299,38 @@ def check_summary_of_closed_meshes():
         same("box", [(reference.f32(a), reference.f32(b)) for a, b in zip(low, high)], box)
 
 
-def check_closed_at_a_low_face():
-    """Inside points at the block's low corner that the surface keeps within: doubled vertices are one place."""
-    for point in [(0, 0, 0), (0, 3, 3), (3, 0, 0)]:
-        block = noise(random.Random(5), 4, 0, pick=(0.0,))
-        centre = list(block.centre)
-        centre[reference.sample_place(4, point)] = reference.bits(1.0)
-        record = reference.record_of(block._replace(threshold=reference.bits(0.5), centre=centre))
-        lines = summary_lines(record)
-        _, area, _, opened, _ = figures(record)
-        near("area", lines["area"], area)
-        same("volume", lines["volume"], "none: the mesh is not closed, %d sides are open" % opened)
+def outside_but(samples):
+    """A block of 4 subdivisions, all outside but for the samples given by point."""
     block = noise(random.Random(5), 4, 0, pick=(0.0,))
     centre = list(block.centre)
-    centre[reference.sample_place(4, (1, 1, 1))] = reference.bits(1.0)
-    record = reference.record_of(block._replace(threshold=reference.bits(0.5), centre=centre))
+    for point, sample in samples.items():
+        centre[reference.sample_place(4, point)] = reference.bits(sample)
+    return reference.record_of(block._replace(threshold=reference.bits(0.5), centre=centre))
+
+
+def check_open_at_a_low_face():
+    for point in [(0, 0, 0), (0, 3, 3), (3, 0, 0), (4, 4, 4)]:
+        record = outside_but({point: 1.0})
+        lines = summary_lines(record)
+        _, area, _, opened, _ = figures(record)
+        assert opened > 0
+        near("area", lines["area"], area)
+        same("volume", lines["volume"], "none: the mesh is not closed, %d sides are open" % opened)
+
+
+def check_closed_though_vertices_are_doubled():
+    """The surface touches the low face in one point, where several vertices stand: closed by positions, not by indices."""
+    record = outside_but({(1, 2, 2): 1.0, (0, 2, 2): 0.5})
     mesh, _, volume, opened, _ = figures(record)
     same("open sides", opened, 0)
-    assert len(mesh.vertices) == 6
+    assert len({vertex[:3] for vertex in mesh.vertices}) < len(mesh.vertices)
     near("volume", summary_lines(record)["volume"], volume)
+
+
+def check_closed_and_flat():
+    """A sample just at the threshold: the triangles have no area."""
+    lines = summary_lines(outside_but({(2, 2, 2): 0.5}))
+    same("figures", (lines["triangles"], lines["area"], lines["volume"]), ("8", "0", "0"))
 
 
 def check_summary_of_open_meshes():
