@@ -21,7 +21,7 @@ block() { awk -v language="$1" -v wanted="$2" '$0 == "```" { on = 0 } on { print
 blocks() { grep -c "^\`\`\`$1\$" "$root/docs/API.md"; }
 
 count=$(blocks c)
-[ "$count" -ge 1 ] && [ "$count" = "$(blocks output)" ] || stop 1 "docs/API.md has $count C programs and $(blocks output) outputs"
+[ "$count" = "$(blocks output)" ] || stop 1 "docs/API.md has $count C programs and $(blocks output) outputs"
 for k in $(seq "$count"); do
     block c "$k" > "$work/example.c"
     "${x86_cc[@]}" -std=c99 -O2 -Wall -Wextra -Werror -pedantic -I "$root/include" "$work/example.c" "$archive" -o "$work/example"

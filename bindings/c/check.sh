@@ -38,5 +38,5 @@ done
 head -c 100 "$root/examples/face.record" > "$work/cut"
 status=0
 said=$("${x86_static[@]}" "$work/mesh_record" "$work/cut" 2>&1) || status=$?
-[ "$status" = 1 ] && [ "$said" = "refused 11 0 0 0" ] || { echo "mesh_record, cut: $status $said"; exit 1; }
+[ "$status $said" = "1 refused 11 0 0 0" ] || { echo "mesh_record, cut: $status $said"; exit 1; }
 echo "mesh_record, cut: $said"

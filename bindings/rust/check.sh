@@ -20,9 +20,12 @@ if is_x86 && cargo clippy --version > /dev/null 2>&1; then
 else
     echo "no cargo clippy: not run"
 fi
-# What is missing is said plainly, and how to get it.
-for folder in "$here/nowhere"; do
-    said=$(SIRVESHAN_LIB_DIR=$folder x86_cargo build --offline 2>&1) && { echo "built over no library"; exit 1; }
-    grep -q "$folder/libsirveshan.a is not there" <<< "$said" || { echo "$said"; exit 1; }
-done
+# What is missing is said plainly, and how to get it: a library, a processor that it is for.
+told() { # WORDS CARGO..: the build fails and says so
+    local said
+    ! said=$("${@:2}" 2>&1) || stop 1 "this was built, and should not: ${*:2}"
+    grep -qF "$1" <<< "$said" || stop 1 "not said: $1, but: $said"
+}
+SIRVESHAN_LIB_DIR=$here/nowhere told "$here/nowhere/libsirveshan.a is not there" x86_cargo build --offline
+SIRVESHAN_LIB_DIR='' told "The proved library is for x86-64" cargo build --offline --target aarch64-unknown-linux-gnu
 echo "tests, documentation and form: passed"

@@ -28,7 +28,7 @@ struct Command {
     run: fn(Arguments) -> Result<(), Failure>,
 }
 
-const COMMANDS: [&Command; 3] = [&mesh::COMMAND, &info::COMMAND, &sample::COMMAND];
+const COMMANDS: &[&Command] = &[&mesh::COMMAND, &info::COMMAND, &sample::COMMAND];
 
 const ABOUT: &str = "\
 RECORD is the file of a block record, or - for standard input.
