@@ -5,14 +5,9 @@ set -euo pipefail
 here=$(dirname "$(readlink -f "$0")")
 root=$(cd "$here/.." && pwd)
 . "$root/tools/x86.sh"
+. "$root/bindings/library.sh"
 find_x86_cc
-if [ -n "${SIRVESHAN_LIB_DIR:-}" ]; then
-    SIRVESHAN_LIB_DIR=$(cd "$SIRVESHAN_LIB_DIR" && pwd)
-    export SIRVESHAN_LIB_DIR
-else
-    library
-fi
-archive=${SIRVESHAN_LIB_DIR:-$root/target/staticlib}/libsirveshan.a
+find_library
 work=$(mktemp -d)
 trap 'rm -rf "$work"' EXIT
 

@@ -2,12 +2,12 @@
 # bindings/c/check.sh: the header by itself, and every C program here over the library: built without a warning, run, its answer seen.
 # SIRVESHAN_LIB_DIR names a folder with another libsirveshan.a. On another processor than x86-64 tools/x86.sh finds what runs them.
 set -euo pipefail
-cd "$(dirname "$(readlink -f "$0")")"
-root=$(cd ../.. && pwd)
+here=$(dirname "$(readlink -f "$0")")
+root=$(cd "$here/../.." && pwd)
 . "$root/tools/x86.sh"
+. "$root/bindings/library.sh"
 find_x86_cc
-[ -n "${SIRVESHAN_LIB_DIR:-}" ] || library
-archive=${SIRVESHAN_LIB_DIR:-$root/target/staticlib}/libsirveshan.a
+find_library
 work=$(mktemp -d)
 trap 'rm -rf "$work"' EXIT
 strict=(-O2 -Wall -Wextra -Werror -pedantic -I "$root/include")
@@ -22,7 +22,7 @@ else
 fi
 
 for program in check_viewer check_extract check_record stack mesh_record; do
-    "${x86_cc[@]}" -std=c99 "${strict[@]}" "$program.c" "$archive" -lm -pthread -o "$work/$program"
+    "${x86_cc[@]}" -std=c99 "${strict[@]}" "$here/$program.c" "$archive" -lm -pthread -o "$work/$program"
 done
 for program in check_viewer check_extract check_record stack; do
     echo "$program: $("${x86_static[@]}" "$work/$program")"

@@ -5,13 +5,9 @@ set -euo pipefail
 here=$(dirname "$(readlink -f "$0")")
 root=$(cd "$here/../.." && pwd)
 . "$root/tools/x86.sh"
+. "$root/bindings/library.sh"
 need python3 "it drives the command"
-if [ -n "${SIRVESHAN_LIB_DIR:-}" ]; then
-    SIRVESHAN_LIB_DIR=$(cd "$SIRVESHAN_LIB_DIR" && pwd)
-    export SIRVESHAN_LIB_DIR
-else
-    library
-fi
+find_library
 find_x86
 x86_cargo build --release --offline --quiet --bin sirveshan --manifest-path "$here/Cargo.toml"
 exec python3 "$here/check_command.py" "${x86_static[@]}" "$here/target/${x86_folder}release/sirveshan"

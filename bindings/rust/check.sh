@@ -5,12 +5,8 @@ set -euo pipefail
 here=$(dirname "$(readlink -f "$0")")
 root=$(cd "$here/../.." && pwd)
 . "$root/tools/x86.sh"
-if [ -n "${SIRVESHAN_LIB_DIR:-}" ]; then
-    SIRVESHAN_LIB_DIR=$(cd "$SIRVESHAN_LIB_DIR" && pwd)
-    export SIRVESHAN_LIB_DIR
-else
-    library
-fi
+. "$root/bindings/library.sh"
+find_library
 cd "$here"
 x86_cargo test --offline --quiet
 RUSTDOCFLAGS="-D warnings" x86_cargo doc --offline --quiet --document-private-items
