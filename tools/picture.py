@@ -21,7 +21,7 @@ def read_listing(lines):
     """The vertices' positions and the triangles of a listing."""
     vertices, triangles = [], []
     for line in lines:
-        kind, *words = line.split()
+        kind, *words = line.split() or [""]
         if kind == "v":
             vertices.append([struct.unpack(">f", bytes.fromhex(word))[0] for word in words[:3]])
         elif kind == "t":
@@ -95,7 +95,7 @@ def png(pixels):
 
 def main():
     if len(sys.argv) != 2:
-        sys.exit("picture.py FILE < LISTING")
+        sys.exit("usage: picture.py FILE.png < LISTING")
     vertices, triangles = read_listing(sys.stdin)
     if not triangles:
         sys.exit("no triangle to draw")
@@ -104,8 +104,11 @@ def main():
     nearness = [[-math.inf] * WIDTH for _ in range(HEIGHT)]
     for corners in triangles:
         fill(pixels, nearness, [points[k] for k in corners], lit(*(vertices[k] for k in corners)))
-    with open(sys.argv[1], "wb") as out:
-        out.write(png(pixels))
+    try:
+        with open(sys.argv[1], "wb") as out:
+            out.write(png(pixels))
+    except OSError as reason:
+        sys.exit("picture.py: %s" % reason)
 
 
 main()

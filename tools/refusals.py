@@ -159,7 +159,7 @@ def code_cases(text):
     """The same of the code's numbers_of, by struct or by a helper that takes the number first."""
     body = re.search(r"fn numbers_of\(refusal: Refusal\)(.*?)\n}", text, re.S)
     cases = []
-    arms = r"Refusal::(\w+)(?:\(\w+\))? => (?:\{\s*)?\w+\s*[({]([^})]*)[)}]"
+    arms = r"Refusal::(\w+)(?:\(\w+\))? => (?:\{\s*)?[\w:]+\s*[({]([^})]*)[)}]"
     for name, inner in re.findall(arms, body.group(1) if body else "", re.S):
         atoms = [atom.split(":")[-1].strip() for atom in inner.split(",") if atom.strip()]
         cases.append((name, int(atoms[0]), len([atom for atom in atoms[1:] if atom != "0"])))

@@ -1,5 +1,6 @@
 #!/usr/bin/env python3
-"""The published Transvoxel tables, from one copy of the numbers (tools/tables/*.txt) to code and specs.
+"""The Transvoxel tables, from one copy of the numbers (tools/tables/*.txt) to code and specs. The numbers were set down from knowledge of the
+published ones and have not been compared with that file.
 
     tables.py                  write src/*_classes.rt, *_cells.rt, *_codes.rt and specs/*Rows.antt of crates/tables
     tables.py --check          say whether writing them again would change anything
@@ -255,7 +256,11 @@ def main(words):
     if words == ["--self-test"]:
         return self_test()
     if len(words) == 2 and words[0] == "--compare":
-        return compare(words[1])
+        try:
+            return compare(words[1])
+        except (OSError, ValueError) as reason:
+            print("tables.py: %s: %s" % (words[1], reason))
+            return 2
     print(__doc__)
     return 2
 

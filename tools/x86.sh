@@ -12,7 +12,8 @@
 # A script ends with the status $missing when a tool is missing: 77, which tools/check-all counts as skipped, unless the script sets another.
 missing=${missing:-77}
 toolchain="rattle-kit-5b logic 064da1ca440f63e7"
-script=${0##*/}
+script=$(readlink -f "$0")
+script=${script#"$root"/}
 
 stop() { # STATUS WORDS
     echo "$script: ${*:2}" >&2
@@ -78,7 +79,7 @@ find_x86() {
 find_x86_cc() {
     find_x86
     if is_x86; then
-        x86_cc=("${CC:-gcc}")
+        read -ra x86_cc <<< "${CC:-gcc}"
         need "${x86_cc[0]}" "a C compiler for x86-64 is needed"
     else
         x86_cc=(x86_64-linux-gnu-gcc -static)

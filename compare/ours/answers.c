@@ -4,7 +4,8 @@
    A call on standard input is a run of little-endian words: n, mask, then threshold, base x y z and
    size as f32 bits; the lengths of centre, neighbours, store, vertices and triangles; the samples'
    bits. The answer on standard output: its number, its three numbers (for a mesh 0, both counts,
-   0), then all of the three lent buffers, which every call finds filled with MARK. */
+   0), then all of the three lent buffers, which every call finds filled with MARK: as an f32 a
+   signalling NaN, which no arithmetic leaves as it is. */
 
 #include <stdint.h>
 #include <stdio.h>
@@ -13,7 +14,7 @@
 
 #include "sirveshan.h"
 
-#define MARK 0x5eed5eedu
+#define MARK 0x7fa5a5a5u
 
 static void fail(const char *what)
 {

@@ -5,9 +5,9 @@ use crate::ours::Answer;
 use oracle::record::Block;
 
 /// Whether such a library is linked.
-pub const LINKED: bool = cfg!(before);
+pub const LINKED: bool = !cfg!(before = "none");
 
-#[cfg(not(before))]
+#[cfg(before = "none")]
 pub fn extract(_: &Block, _: &mut [u32], _: &mut [f32], _: &mut [u32]) -> Answer {
     Err("no library of another commit is linked: compare/before REV does that".into())
 }

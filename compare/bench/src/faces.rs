@@ -42,7 +42,7 @@ pub fn block(n: usize, mask: u8, face: &str) -> Block {
     let mut neighbours = Vec::new();
     for side in (0..6).filter(|side| mask >> side & 1 == 1) {
         let mut origin = [0; 3];
-        origin[side / 2] = if side % 2 == 0 { -2 * n as i64 } else { 2 * n as i64 };
+        origin[side / 2] = if side & 1 == 0 { -2 * n as i64 } else { 2 * n as i64 };
         let at = |p: [i64; 3]| value(face, std::array::from_fn(|k| p[k] + origin[k]), n);
         neighbours.extend(points(2 * n as i64).map(at));
     }

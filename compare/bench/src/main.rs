@@ -19,24 +19,32 @@ bench ours|before|rust TIMES N MASK FACE  meshes one block that often and prints
                                           (FACE: smooth, wavy, noisy); compare/instructions counts it";
 const SIZES: [usize; 3] = [4, 8, 16];
 const MASKS: [u8; 3] = [0, 1, 63];
-const ROUND: Duration = Duration::from_millis(700);
+/// A round of calls in seconds: short, so that some rounds are not interrupted.
+const ROUND: f64 = 3e-4;
+const WHOLE: Duration = Duration::from_millis(700);
 
 type Outcome = Result<(), String>;
 
-/// The best of many rounds of each call, taken in turn, in microseconds a call.
+/// Seconds for a call, as the mean of so many.
+fn mean(call: &mut dyn FnMut(), times: u32) -> f64 {
+    let start = Instant::now();
+    for _ in 0..times {
+        call();
+    }
+    start.elapsed().as_secs_f64() / f64::from(times)
+}
+
+/// The best of many short rounds of each call, taken in turn, in microseconds a call.
 fn best(calls: &mut [Box<dyn FnMut() + '_>]) -> Vec<f64> {
-    let mut best = vec![f64::INFINITY; calls.len()];
-    let end = Instant::now() + ROUND * calls.len() as u32;
+    let mut best: Vec<f64> = calls.iter_mut().map(|call| mean(call, 10)).collect();
+    let times: Vec<u32> = best.iter().map(|&time| (ROUND / time).clamp(1.0, 50.0) as u32).collect();
+    let end = Instant::now() + WHOLE * calls.len() as u32;
     while Instant::now() < end {
-        for (call, best) in calls.iter_mut().zip(&mut best) {
-            let start = Instant::now();
-            for _ in 0..10 {
-                call();
-            }
-            *best = best.min(start.elapsed().as_secs_f64() * 1e5);
+        for ((call, best), &times) in calls.iter_mut().zip(&mut best).zip(&times) {
+            *best = best.min(mean(call, times));
         }
     }
-    best
+    best.iter().map(|time| 1e6 * time).collect()
 }
 
 /// Buffers for a library that has given the Rust's mesh for the block.

@@ -15,7 +15,7 @@ pub fn points(n: i64) -> impl Iterator<Item = [i64; 3]> {
         (0..=n).flat_map(move |x| (0..=n).flat_map(move |y| (0..=n).map(move |z| [x, y, z])));
     let faces = (0..6).flat_map(move |side| {
         (0..=n).flat_map(move |i| {
-            (0..=n).map(move |j| face_point(side, if side % 2 == 0 { -1 } else { n + 1 }, i, j))
+            (0..=n).map(move |j| face_point(side, if side & 1 == 0 { -1 } else { n + 1 }, i, j))
         })
     });
     in_block.chain(faces)
@@ -46,10 +46,10 @@ fn neighbour(
     threshold: f32,
 ) -> Vec<f32> {
     let mut origin = [0; 3];
-    origin[side / 2] = if side % 2 == 0 { -2 * n } else { 2 * n };
+    origin[side / 2] = if side & 1 == 0 { -2 * n } else { 2 * n };
     let place = |point: Point| std::array::from_fn(|k| point[k] + origin[k]);
     let mut samples: Vec<f32> = points(2 * n).map(|point| field.at(place(point), salt)).collect();
-    let (near, far) = if side % 2 == 0 { (0, 2 * n) } else { (n, 0) };
+    let (near, far) = if side & 1 == 0 { (0, 2 * n) } else { (n, 0) };
     for i in 0..=n {
         for j in 0..=n {
             let coarse = centre[place_in_block(n, face_point(side, near, i, j))];

@@ -5,8 +5,9 @@ use std::io::{self, BufReader, BufWriter, Read, Write};
 use std::path::Path;
 use std::process::{Child, ChildStdin, ChildStdout, Command, Stdio};
 
-/// What stands in a lent buffer before the call, and must still stand beyond what is written.
-pub const MARK: u32 = 0x5eed_5eed;
+/// What stands in a lent buffer before the call, and must still stand beyond what is written: as an
+/// f32 a signalling NaN, which no arithmetic leaves as it is.
+pub const MARK: u32 = 0x7fa5_a5a5;
 
 pub struct Ours {
     input: BufWriter<ChildStdin>,
