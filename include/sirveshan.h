@@ -112,7 +112,7 @@ extern "C" {
 #define SIRVESHAN_LOW_Z 16
 #define SIRVESHAN_HIGH_Z 32
 
-/* Bytes of stack that a call takes at most: measured, see bindings/c/stack.c, and rounded up. */
+/* Bytes of stack that are enough for any call: about 35 KiB were measured (bindings/c/stack.c), and this is rounded up. */
 #define SIRVESHAN_STACK 65536
 
 /*
