@@ -159,6 +159,7 @@ def check_refused_header_is_told():
     same("status", done.returncode, 1)
     assert b"size          1048576.1" in done.stdout, done.stdout
     assert done.stderr.startswith(b"refused 3 3 0 0: "), done.stderr
+    refused(run("info", "-", given=changed(record, 4, b"\x02")), reference.Refusal(12, 2))
 
 
 def check_input_that_is_not_there():
@@ -237,9 +238,45 @@ def check_run_of_a_thousand():
         same("refusals", [(int(re.search(r"\(record (\d+)\)$", line)[1]), line.split(":")[0]) for line in lines], refusals)
 
 
+def check_run_of_damaged_bytes():
+    """Bytes changed at random behind the length field, so that the run stays one."""
+    chance = random.Random(9)
+    parts = []
+    for _ in range(400):
+        record = bytearray(reference.record_of(noise(chance, chance.choice([1, 2]), chance.choice([0, 0, 1 << chance.randrange(6)]))))
+        for _ in range(chance.choice([1, 2, 4])):
+            record[chance.choice([chance.randrange(4, 27), chance.randrange(27, len(record))])] = chance.randrange(256)
+        parts.append(bytes(record))
+    parts.append(reference.record_of(records.case_a()))
+    wanted = [reference.mesh_text(part) for part in parts]
+    met = {int(text.split()[1]) for text in wanted if text.startswith("refused")}
+    assert met >= {1, 2, 3, 7, 8, 12, 13}, met
+    done = run("mesh", "-", "--jobs", 2, given=b"".join(parts))
+    same("answers", done.stdout.decode(), "".join(wanted))
+
+
 def check_run_without_refusal():
     parts = [reference.record_of(noise(random.Random(seed), 1, 0)) for seed in range(20)]
     accepted(run("mesh", "-", "--jobs", 2, given=b"".join(parts)), "".join(map(reference.mesh_text, parts)))
+
+
+def check_length_field_too_small():
+    """Not a run: the bytes after the first record can be none, so its length field is wrong."""
+    for record in (reference.record_of(records.case_a()), reference.record_of(noise(random.Random(8), 3, 1)), mismatch()):
+        for less in (1, 3, 4, 8, 40):
+            wrong = changed(record, 0, (len(record) - 4 - less).to_bytes(4, "big"))
+            refused(run("mesh", "-", given=wrong), reference.Refusal(11))
+        refused(run("mesh", "-", given=changed(record, 0, bytes(4))), reference.Refusal(11))
+
+
+def check_a_run_that_begins_badly():
+    """A first record with a wrong count of samples does not hide those after it."""
+    good = reference.record_of(records.case_a())
+    bad, short = with_length(good[:-4]), bytes(4)
+    done = run("mesh", "-", given=bad + short + good)
+    same("status", done.returncode, 1)
+    same("output", done.stdout.decode(), "refused 13 32 0 0\nrefused 11 0 0 0\n" + reference.mesh_text(good))
+    same("lines", done.stderr.count(b"\n"), 2)
 
 
 def check_what_follows_a_record():

@@ -12,8 +12,8 @@ pub const COMMAND: Command = Command {
     about: "\
 prints what a record says: its header, blank or not, its mesh's counts
 
-A record that is refused still has its header told, as its bytes say it; why it is refused stands on
-standard error. Blank: all in-block samples lie on one side of the threshold.
+A refused record of version 1 still has its header told, as its bytes say it; why it is refused stands
+on standard error. Blank: all in-block samples lie on one side of the threshold.
 
     --plain     for programs: lines `key value` with version, n, mask, threshold, base (three), size
                 (f32 as bits in hex) and blank (0 or 1); refused as the viewer's calls refuse, which
@@ -48,8 +48,8 @@ fn plain_text(bytes: &[u8]) -> Result<String, Refusal> {
 }
 
 fn tell(bytes: &[u8]) -> Result<(), Failure> {
-    if let Some((version, header)) = fields(bytes) {
-        output::put(header_text(version, &header).as_bytes())?;
+    if let Some(header) = fields(bytes) {
+        output::put(header_text(&header).as_bytes())?;
     }
     let record = Record::read(bytes).map_err(Failure::Refused)?;
     let blank = viewer::blank(bytes).map_err(Failure::Refused)?;
@@ -61,13 +61,13 @@ fn tell(bytes: &[u8]) -> Result<(), Failure> {
     output::put(format!("mesh          {vertices} vertices, {triangles} triangles\n").as_bytes())
 }
 
-fn header_text(version: u8, header: &Header) -> String {
+fn header_text(header: &Header) -> String {
     let Header { block: Block { base: [x, y, z], size, subdivisions }, mask, threshold } = *header;
     let sides: Vec<&str> = Side::named(mask).map(Side::name).collect();
     let sides = if sides.is_empty() { "none".to_string() } else { sides.join(", ") };
     let samples = header.centre_length().saturating_add(header.neighbours_length());
     format!(
-        "version       {version}\n\
+        "version       1\n\
          subdivisions  {subdivisions}\n\
          finer sides   {sides} (mask {mask})\n\
          threshold     {threshold}\n\
@@ -79,14 +79,14 @@ fn header_text(version: u8, header: &Header) -> String {
 
 const VERSION_AT: usize = 4;
 
-/// The version and the header of a record of version 1, as they stand: nothing is judged.
-fn fields(bytes: &[u8]) -> Option<(u8, Header)> {
-    let [version, subdivisions, mask, words @ ..] = bytes.get(VERSION_AT..RECORD_HEADER)? else {
+/// The header of a record of version 1, as it stands: nothing else is judged.
+fn fields(bytes: &[u8]) -> Option<Header> {
+    let [1, subdivisions, mask, words @ ..] = bytes.get(VERSION_AT..RECORD_HEADER)? else {
         return None;
     };
     let mut floats = words.chunks_exact(4).map(|word| f32::from_be_bytes(word.try_into().unwrap()));
     let mut next = || floats.next();
     let (threshold, base, size) = (next()?, [next()?, next()?, next()?], next()?);
     let block = Block { base, size, subdivisions: (*subdivisions).into() };
-    Some((*version, Header { block, mask: *mask, threshold }))
+    Some(Header { block, mask: *mask, threshold })
 }

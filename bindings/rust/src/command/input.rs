@@ -1,6 +1,8 @@
 //! Records from a file or from standard input: one, or a run of them laid end to end by their length fields.
 
 use crate::failure::Failure;
+use sirveshan::read_record;
+use std::collections::VecDeque;
 use std::ffi::OsStr;
 use std::fs::File;
 use std::io::{self, BufRead, BufReader, Read};
@@ -61,15 +63,39 @@ pub struct Piece {
 
 /// The records of a run, one after another. The bytes of a cut last record are its own piece, and so are those of an empty
 /// input, so that each is refused as a record.
+///
+/// A first record whose length is not what it says of itself, with nothing after it that could be a record, is no run: then
+/// its length field is wrong, and all of the input is that one record.
 pub struct Run {
     input: Input,
+    /// Read ahead, to tell a run from a record with a wrong length.
+    waiting: VecDeque<Piece>,
     read: usize,
     ended: bool,
 }
 
 impl Run {
     pub fn open(path: &OsStr) -> Result<Run, Failure> {
-        Ok(Run { input: Input::open(path)?, read: 0, ended: false })
+        let input = Input::open(path)?;
+        let mut run = Run { input, waiting: VecDeque::new(), read: 0, ended: false };
+        run.read_ahead()?;
+        Ok(run)
+    }
+
+    fn read_ahead(&mut self) -> Result<(), Failure> {
+        let first = self.next_piece()?;
+        let mut in_doubt = matches!(refused_with(&first), Some(LENGTH | SAMPLES));
+        self.waiting.push_back(first);
+        while in_doubt && !self.ended {
+            let piece = self.next_piece()?;
+            in_doubt = refused_with(&piece) == Some(LENGTH);
+            self.waiting.push_back(piece);
+        }
+        if in_doubt {
+            let bytes = self.waiting.drain(..).flat_map(|piece| piece.bytes).collect();
+            self.waiting.push_back(Piece { number: 1, alone: true, bytes });
+        }
+        Ok(())
     }
 
     fn next_piece(&mut self) -> Result<Piece, Failure> {
@@ -83,10 +109,21 @@ impl Run {
     }
 }
 
+/// The refusals of a record's length: its bytes or its length field, and the count of its samples.
+const LENGTH: u32 = 11;
+const SAMPLES: u32 = 13;
+
+fn refused_with(piece: &Piece) -> Option<u32> {
+    read_record(&piece.bytes, &mut []).err().map(|refusal| refusal.number)
+}
+
 impl Iterator for Run {
     type Item = Result<Piece, Failure>;
 
     fn next(&mut self) -> Option<Self::Item> {
+        if let Some(piece) = self.waiting.pop_front() {
+            return Some(Ok(piece));
+        }
         if self.ended {
             return None;
         }
