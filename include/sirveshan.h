@@ -38,8 +38,9 @@
  * A vertex is six floats: position x, y, z, then gradient x, y, z. A triangle is three indices of vertices. Seen from outside
  * a triangle's corners run counter-clockwise: (second - first) x (third - first) points outward, to where samples are below
  * the threshold. A gradient is, along each axis, the sample one step up less the sample one step down: it points to where
- * samples grow, so inward, against the triangle's own normal; it is neither divided by the step nor of unit length. Take its
- * opposite, scaled to length 1, as the normal for light.
+ * samples grow, so on a smooth face inward, against the triangle's own normal. It is not divided by the step (which on a finer
+ * side is the neighbour's for the points that the block itself lacks) and not of unit length: as a normal for light take its
+ * opposite, scaled to length 1.
  *
  *
  * WHAT THE CALLER OWES

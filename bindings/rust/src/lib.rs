@@ -22,8 +22,8 @@
 //! ```
 //!
 //! A sample at or above the threshold is inside. Seen from outside a triangle's corners run
-//! counter-clockwise. A vertex's gradient points to where samples grow, so inward; it is not
-//! divided by the grid's step and not of unit length.
+//! counter-clockwise. A vertex's gradient points to where samples grow, so on a smooth face inward;
+//! it is not divided by the grid's step and not of unit length.
 #![warn(missing_docs)]
 
 mod block;
