@@ -1,18 +1,98 @@
 /*
- * Sirveshan's calls from C. What a call is lent stays the caller's: each pointer goes with the length of what it points to,
- * and buffers that are written do not overlap with anything else. Nothing is kept and nothing is allocated.
+ * Sirveshan's calls from C: link libsirveshan.a (x86-64; `rt staticlib sirveshan` writes it to target/staticlib). What each call
+ * answers and leaves is proved; this page says it in words.
  *
- * Three calls serve a viewer (libviewer.a). Each takes the bytes of one block record, judges it whole and answers one number.
- * They write nowhere.
+ * A mesh is the surface between the inside and the outside of a sampled block. A sample is inside when it is at or above the
+ * threshold (>=), so -0 is inside for the threshold 0.
  *
- * A record is refused by the first of these that it meets, in this order:
- *   11  under 27 bytes, or its length field does not tell what follows it
- *   12  version byte not 1
- *    1  subdivisions not 1 to 16
- *    2  mask above 63
- *    3  base or threshold not finite or beyond 1,048,576 in size, or size not in 1/1024 to 1,048,576
- *   13  not as many samples as subdivisions and mask ask for
- *    7  a sample not finite or beyond 1,048,576 in size
+ *
+ * SAMPLES
+ *
+ * A block with n subdivisions has n cells along each axis, so m = n + 1 grid points, 0 to n. Its samples stand in one list:
+ * first the m*m*m points of the block, x slowest and z fastest, point (x, y, z) at
+ *
+ *     m*m*x + m*y + z
+ *
+ * then six faces of m*m points each, one step outside the block, which only gradients look at. In order: x = -1, x = n+1,
+ * y = -1, y = n+1, z = -1, z = n+1; a face's points at m*i + j, with i and j the two other coordinates in the order of the
+ * axes. In all m*m*m + 6*m*m. A point with two coordinates outside is never sampled. With n = 1, m = 2:
+ *
+ *     z                                 place  0     (0,0,0)          place  8 .. 11   x = -1: (-1,0,0) (-1,0,1) (-1,1,0) (-1,1,1)
+ *     |    3--------7                          1     (0,0,1)                12 .. 15   x =  2
+ *     |   /|       /|                          2     (0,1,0)                16 .. 19   y = -1: (0,-1,0) (0,-1,1) (1,-1,0) (1,-1,1)
+ *     |  1--------5 |                          3     (0,1,1)                20 .. 23   y =  2
+ *     |  | |      | |                          4     (1,0,0)                24 .. 27   z = -1: (0,0,-1) (0,1,-1) (1,0,-1) (1,1,-1)
+ *     |  | 2------|-6   y                      5     (1,0,1)                28 .. 31   z =  2
+ *     |  |/       |/   /                       6     (1,1,0)
+ *     |  0--------4   /                        7     (1,1,1)
+ *     +-------------------- x
+ *
+ * The mask names the sides at which a neighbour is finer, one bit each: 1 low x, 2 high x, 4 low y, 8 high y, 16 low z, 32 high
+ * z; sides are numbered 0 to 5 in that order. Such a neighbour has 2n subdivisions and its own samples in the order above. The
+ * neighbours' samples are lent one block after another, in side order, for the named sides alone. On a named face each of the
+ * centre's points and the neighbour's point at the same place must lie on the same side of the threshold (refusal 8).
+ *
+ *
+ * THE MESH
+ *
+ * A vertex is six floats: position x, y, z, then gradient x, y, z. A triangle is three indices of vertices. Seen from outside
+ * a triangle's corners run counter-clockwise: (second - first) x (third - first) points outward, to where samples are below
+ * the threshold. A gradient is, along each axis, the sample one step up less the sample one step down: it points to where
+ * samples grow, so on a smooth face inward, against the triangle's own normal. It is not divided by the step (which on a finer
+ * side is the neighbour's for the points that the block itself lacks) and not of unit length: as a normal for light take its
+ * opposite, scaled to length 1.
+ *
+ *
+ * WHAT THE CALLER OWES
+ *
+ * - Each pointer goes with the number of elements that it points to. NULL is allowed where that number is 0.
+ * - float and uint32_t buffers are aligned as C aligns these types; bytes need no alignment.
+ * - A buffer that is written overlaps with no other buffer of the call, and no one else touches the buffers meanwhile.
+ * - The stack has room: at most SIRVESHAN_STACK bytes for any call.
+ *
+ * Nothing is allocated, kept or locked, and there is no state: calls may run on several threads at once, each with its own
+ * buffers that are written. What is lent as const may be shared.
+ *
+ *
+ * REFUSALS
+ *
+ * What cannot be used is refused by number, with three numbers that say more, 0 where unused; then no lent place is altered.
+ * No input makes a call stop the program. On the left when, on the right what the three numbers are:
+ *
+ * [refusals: written by tools/refusals.py from docs/refusals.tsv]
+ *    1  subdivisions n not 1 to 16                          n
+ *    2  mask above 63                                       mask
+ *    3  base, size or threshold out of range                0 to 2 base x y z, 3 size, 4 threshold
+ *    4  centre length wrong                                 length wanted
+ *    5  a neighbour is missing                              first side not wholly there
+ *    6  neighbour list too long                             length wanted
+ *    7  a sample not finite or beyond 1,048,576             its place, neighbours counted on after the centre
+ *    8  a face disagrees with its neighbour                 side; u; v
+ *    9  index store too short                               places wanted
+ *   10  vertices or triangles do not fit                    vertices wanted; triangles wanted
+ *   11  record under 27 bytes, or its length field wrong
+ *   12  record version not 1                                the byte
+ *   13  record's samples not the count wanted               samples wanted
+ *   14  a lent buffer too short                             places wanted
+ *   15  grid point never sampled
+ * [end of refusals]
+ *
+ * The u and v of 8 run 0 to n over the face's grid points. The point is, by side: 0 (0, v, n-u), 1 (n, v, u), 2 (u, 0, n-v),
+ * 3 (u, n, v), 4 (u, v, 0), 5 (n-u, v, n).
+ *
+ *
+ * THE RECORD
+ *
+ * All big-endian; floats as their IEEE 754 bits.
+ *
+ *     byte  0   4   the length of what follows these four bytes
+ *           4   1   version, 1
+ *           5   1   subdivisions n
+ *           6   1   mask
+ *           7   4   threshold
+ *          11  12   base x, y, z
+ *          23   4   size
+ *          27  4k   the k samples: the centre's, then those of the neighbours
  */
 #ifndef SIRVESHAN_H
 #define SIRVESHAN_H
@@ -24,42 +104,136 @@
 extern "C" {
 #endif
 
-/* What is added to the number of a refusal, so that it is no answer: by the first two calls, and by the third. */
+/* The most subdivisions, and the bits of the mask. */
+#define SIRVESHAN_MOST_SUBDIVISIONS 16
+#define SIRVESHAN_LOW_X 1
+#define SIRVESHAN_HIGH_X 2
+#define SIRVESHAN_LOW_Y 4
+#define SIRVESHAN_HIGH_Y 8
+#define SIRVESHAN_LOW_Z 16
+#define SIRVESHAN_HIGH_Z 32
+
+/* Bytes of stack that are enough for any call: about 35 KiB were measured (bindings/c/stack.c), and this is rounded up. */
+#define SIRVESHAN_STACK 65536
+
+/*
+ * Lengths and places by n, 1 to 16, and mask, 0 to 63. Each is a constant expression of type size_t for constant arguments; an
+ * argument may be evaluated more than once.
+ */
+#define SIRVESHAN_POINTS(n) ((size_t)(n) + 1)
+#define SIRVESHAN_SIDES(mask)                                                                                                    \
+    ((size_t)((((mask) >> 0) & 1) + (((mask) >> 1) & 1) + (((mask) >> 2) & 1) + (((mask) >> 3) & 1) + (((mask) >> 4) & 1) +      \
+              (((mask) >> 5) & 1)))
+
+/* Samples of the block itself, of all its finer neighbours, and of both together. */
+#define SIRVESHAN_CENTRE_LENGTH(n) (SIRVESHAN_POINTS(n) * SIRVESHAN_POINTS(n) * (SIRVESHAN_POINTS(n) + 6))
+#define SIRVESHAN_NEIGHBOURS_LENGTH(n, mask) (SIRVESHAN_SIDES(mask) * SIRVESHAN_CENTRE_LENGTH(2 * (size_t)(n)))
+#define SIRVESHAN_SAMPLES_LENGTH(n, mask) (SIRVESHAN_CENTRE_LENGTH(n) + SIRVESHAN_NEIGHBOURS_LENGTH(n, mask))
+
+/* Bytes of a record. */
+#define SIRVESHAN_RECORD_LENGTH(n, mask) ((size_t)27 + 4 * SIRVESHAN_SAMPLES_LENGTH(n, mask))
+
+/* Places of the index store: 4 n^3 + 60 n^2. */
+#define SIRVESHAN_STORE_LENGTH(n) ((size_t)(n) * (size_t)(n) * (4 * (size_t)(n) + 60))
+
+/* The place of the block's point x, y, z, each 0 to n; and of point i, j on one of the six faces outside, 0 to 5. */
+#define SIRVESHAN_PLACE(n, x, y, z) (((size_t)(x) * SIRVESHAN_POINTS(n) + (size_t)(y)) * SIRVESHAN_POINTS(n) + (size_t)(z))
+#define SIRVESHAN_FACE_PLACE(n, face, i, j) SIRVESHAN_PLACE(n, SIRVESHAN_POINTS(n) + (size_t)(face), i, j)
+
+/*
+ * Room that is enough for the mesh of any block with n and mask: vertices (six floats each) and triangles (three indices each).
+ * Proved: at most 12 of each for a cell, of which there are n^3 regular ones and n^2 transition cells a named side (few-vertices
+ * and few-triangles of Counted, in crates/algorithm/specs).
+ */
+#define SIRVESHAN_CELLS(n, mask) ((size_t)(n) * (size_t)(n) * ((size_t)(n) + SIRVESHAN_SIDES(mask)))
+#define SIRVESHAN_MOST_VERTICES(n, mask) (12 * SIRVESHAN_CELLS(n, mask))
+#define SIRVESHAN_MOST_TRIANGLES(n, mask) (12 * SIRVESHAN_CELLS(n, mask))
+
+/* A block, which of its neighbours are finer, and where inside begins. */
+typedef struct sirveshan_header {
+    float x, y, z;       /* its lowest point, the base: each finite and at most 1,048,576 in size */
+    float size;          /* the length of its side: 1/1024 to 1,048,576 */
+    size_t subdivisions; /* n, 1 to 16 */
+    uint8_t mask;        /* the sides with a finer neighbour, 0 to 63 */
+    float threshold;     /* a sample at or above it is inside: finite and at most 1,048,576 in size */
+} sirveshan_header;
+
+/* A refusal: its number, 0 for none, and its three numbers. */
+typedef struct sirveshan_refusal {
+    size_t number, first, second, third;
+} sirveshan_refusal;
+
+/*
+ * The mesh of a block, for a meshing stage. centre has SIRVESHAN_CENTRE_LENGTH(n) samples, neighbours
+ * SIRVESHAN_NEIGHBOURS_LENGTH(n, mask).
+ *
+ * store is room to work in: there extraction keeps, for each cell, the indices of the vertices that later cells use again. Lend
+ * SIRVESHAN_STORE_LENGTH(n) places or more. What they hold before does not matter, what they hold after is of no use to a caller,
+ * and the same store may serve block after block.
+ *
+ * vertices_length counts floats, not vertices, and triangles_length indices: there is room for vertices_length / 6 vertices and
+ * triangles_length / 3 triangles, rounded down.
+ *
+ * On a mesh refused.number is 0: the first 6 * vertices floats and the first 3 * triangles indices are written, and all beyond
+ * stays as it was. Judged are 1 to 10, in that order. To have room that just fits, call with both lengths 0 first: 10 tells both
+ * counts (and a mesh with no vertex is accepted). On a refusal both counts are 0 and no lent place is altered.
+ */
+typedef struct sirveshan_extracted {
+    sirveshan_refusal refused;
+    size_t vertices, triangles;
+} sirveshan_extracted;
+
+sirveshan_extracted sirveshan_extract(sirveshan_header header, const float *centre, size_t centre_length,
+                                      const float *neighbours, size_t neighbours_length, uint32_t *store, size_t store_length,
+                                      float *vertices, size_t vertices_length, uint32_t *triangles, size_t triangles_length);
+
+/*
+ * Reads a record: its header is answered, and its samples fill the first places of samples, the centre's first and then those of
+ * the neighbours; all beyond stays. Judged are 11, 12, 1, 2, 3, 13, 7, 14, in that order: 14 tells how many samples need room. On
+ * a refusal the header is all 0 and no lent place is altered. What was read passes 1 to 7; extraction judges 8 too.
+ */
+typedef struct sirveshan_read_answer {
+    sirveshan_refusal refused;
+    sirveshan_header header;
+} sirveshan_read_answer;
+
+sirveshan_read_answer sirveshan_read(const uint8_t *src, size_t length, float *samples, size_t samples_length);
+
+/*
+ * Writes the record of a block to the first bytes of bytes and answers its length; all beyond stays. Judged are 1 to 7 and 14, in
+ * that order: 14 tells how many bytes need room. On a refusal the length is 0 and no lent place is altered. Reading what was
+ * written gives the same block, bit for bit, and writing what was read the same bytes.
+ */
+typedef struct sirveshan_written {
+    sirveshan_refusal refused;
+    size_t length;
+} sirveshan_written;
+
+sirveshan_written sirveshan_write(sirveshan_header header, const float *centre, size_t centre_length, const float *neighbours,
+                                  size_t neighbours_length, uint8_t *bytes, size_t bytes_length);
+
+/*
+ * Three calls for a viewer. Each takes the bytes of one record, judges it whole (11, 12, 1, 2, 3, 13, 7) and answers one number:
+ * what is asked, or a refusal's number plus what makes it no answer: 100 in the first two calls, 2^32 in the third. They write
+ * nowhere.
+ */
 #define SIRVESHAN_REFUSED UINT64_C(100)
 #define SIRVESHAN_SAMPLE_REFUSED (UINT64_C(1) << 32)
 
-/* The block's subdivisions n, 1 to 16; or 100 plus the number of the refusal. */
+/* The block's subdivisions, 1 to 16. */
 uint64_t sirveshan_subdivisions(const uint8_t *src, size_t length);
 
 /*
- * 1 when all (n+1)^3 samples of the block itself lie on one side of the threshold, so that it has no surface inside;
- * 0 when they do not; or 100 plus the number of the refusal. Samples outside the block and neighbours do not count.
+ * 1 when all (n+1)^3 samples of the block itself lie on one side of the threshold, so that it has no surface inside; 0 when they
+ * do not. Samples outside the block and neighbours do not count.
  */
 uint64_t sirveshan_blank(const uint8_t *src, size_t length);
 
 /*
- * The bits of the sample at a grid point of the block, as an IEEE 754 binary32; or 2^32 plus the number of the refusal.
- * Coordinates are 0 to n; one of the three may be -1 or n+1. Any other point was never sampled: 15, judged after the
- * record.
+ * The bits of the sample at a grid point of the block. Coordinates are 0 to n; one of the three may be -1 or n+1. Any other point
+ * was never sampled: 15, judged after the record.
  */
 uint64_t sirveshan_sample(const uint8_t *src, size_t length, int32_t x, int32_t y, int32_t z);
-
-/*
- * Extraction, for a meshing stage (libmeshing.a): the mesh of the block with the base point x, y, z and its finer
- * neighbours. centre holds the block's samples, neighbours those of the sides that mask names, one block after another in
- * side order (bit 0 low x, 1 high x, 2 low y, 3 high y, 4 low z, 5 high z).
- *
- * Answers 0 for a mesh: *first is the count of vertices, *second of triangles, *third 0. vertices then begins with six
- * floats for each vertex (position, gradient), triangles with three indices for each triangle, and store with its
- * 4 n^3 + 60 n^2 places; all beyond stays as it was.
- *
- * Answers the number of a refusal, 1 to 10, with its three numbers: then nothing else is written. 9 tells the places that
- * store needs, and 10 the counts of vertices and triangles that need room.
- */
-size_t sirveshan_extract(float x, float y, float z, float size, size_t subdivisions, uint8_t mask, float threshold,
-                         const float *centre, size_t centre_length, const float *neighbours, size_t neighbours_length,
-                         uint32_t *store, size_t store_length, float *vertices, size_t vertices_length,
-                         uint32_t *triangles, size_t triangles_length, size_t *first, size_t *second, size_t *third);
 
 #ifdef __cplusplus
 }

@@ -2,11 +2,7 @@
  * Calls the viewer's three functions from C on good, blank and damaged records, and compares with the answers that
  * document 01 gives. bindings/c/check.sh builds and runs it.
  */
-#include "sirveshan.h"
-
-#include <inttypes.h>
-#include <stdio.h>
-#include <string.h>
+#include "expect.h"
 
 enum { HEADER = 27, SAMPLES = 3000 };
 
@@ -19,8 +15,6 @@ struct record {
     uint8_t bytes[HEADER + 4 * SAMPLES];
     size_t length;
 };
-
-static int passed, failed;
 
 static void put(struct record *r, size_t at, uint32_t word)
 {
@@ -56,16 +50,6 @@ static struct record record_of(unsigned n, unsigned mask, uint32_t sample)
     for (size_t place = 0; place < count; place++)
         put_sample(&r, place, sample);
     return r;
-}
-
-static void expect(const char *what, uint64_t found, uint64_t wanted)
-{
-    if (found == wanted) {
-        passed++;
-        return;
-    }
-    failed++;
-    printf("%s: %" PRIu64 ", not %" PRIu64 "\n", what, found, wanted);
 }
 
 static void expect_sample(const char *what, const struct record *r, int32_t x, int32_t y, int32_t z, uint64_t wanted)
@@ -178,6 +162,5 @@ int main(void)
     good_with_neighbours();
     blank();
     damaged();
-    printf("%d passed, %d failed\n", passed, failed);
-    return failed != 0;
+    return counted();
 }

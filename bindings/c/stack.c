@@ -1,0 +1,88 @@
+/*
+ * How much stack the calls take: each runs on a thread whose stack was painted, and the lowest byte that lost its paint tells.
+ * Prints the most, and fails when it is more than the header says.
+ */
+#define _POSIX_C_SOURCE 200809L
+#include <pthread.h>
+#include <stdio.h>
+#include <stdlib.h>
+#include <string.h>
+
+#include "field.h"
+
+enum { STACK = 1 << 20, PAINT = 0xc7, SAMPLES = 300000 };
+
+static float samples[SAMPLES], vertices[6 * SIRVESHAN_MOST_VERTICES(16, 63)];
+static uint32_t store[SIRVESHAN_STORE_LENGTH(16)], triangles[3 * SIRVESHAN_MOST_TRIANGLES(16, 63)];
+static uint8_t bytes[SIRVESHAN_RECORD_LENGTH(16, 63)];
+static size_t subdivisions;
+static uint8_t mask;
+static uint8_t *painted;
+static size_t used;
+
+/* Inside and outside mixed, so that every kind of cell is met. */
+static float mixed(const int *point)
+{
+    unsigned bits = (unsigned)(point[0] * 7 + point[1] * 13 + point[2] * 29 + 1000);
+    return (float)(bits * bits / 3 % 2);
+}
+
+static void *calls(void *unused)
+{
+    sirveshan_header h = {1, 2, 3, 4, 0, 0, 0.5f};
+    size_t centre = SIRVESHAN_CENTRE_LENGTH(subdivisions), rest = SIRVESHAN_NEIGHBOURS_LENGTH(subdivisions, mask), k;
+    sirveshan_written written;
+    volatile uint8_t here = 0;
+    uint8_t *low = painted;
+    sirveshan_extracted meshed;
+    h.subdivisions = subdivisions;
+    h.mask = mask;
+    meshed = sirveshan_extract(h, samples, centre, samples + centre, rest, store, sizeof store / 4, vertices, sizeof vertices / 4,
+                               triangles, sizeof triangles / 4);
+    if (meshed.refused.number != 0 || meshed.triangles == 0)
+        abort();
+    written = sirveshan_write(h, samples, centre, samples + centre, rest, bytes, sizeof bytes);
+    if (written.refused.number != 0 || sirveshan_read(bytes, written.length, samples, SAMPLES).refused.number != 0)
+        abort();
+    if (sirveshan_subdivisions(bytes, written.length) != subdivisions || sirveshan_blank(bytes, written.length) > 1)
+        abort();
+    if (sirveshan_sample(bytes, written.length, 0, 0, 0) > UINT32_MAX)
+        abort();
+    for (k = 0; low[k] == PAINT; k++)
+        ;
+    used = (size_t)((uint8_t *)&here - (low + k));
+    (void)unused;
+    return NULL;
+}
+
+/* The stack that the calls take on a block of n with mask. */
+static size_t measured(size_t n, uint8_t sides)
+{
+    pthread_attr_t attributes;
+    pthread_t thread;
+    subdivisions = n;
+    mask = sides;
+    fill(samples, n, sides, mixed);
+    memset(painted, PAINT, STACK);
+    if (pthread_attr_init(&attributes) || pthread_attr_setstack(&attributes, painted, STACK) ||
+        pthread_create(&thread, &attributes, calls, NULL) || pthread_join(thread, NULL))
+        abort();
+    return used;
+}
+
+int main(void)
+{
+    static const uint8_t masks[3] = {0, 1, 63};
+    size_t n, k, most = 0;
+    void *stack;
+    if (posix_memalign(&stack, 4096, STACK))
+        abort();
+    painted = stack;
+    for (n = 1; n <= 16; n += 5)
+        for (k = 0; k < 3; k++) {
+            size_t now = measured(n, masks[k]);
+            most = now > most ? now : most;
+        }
+    printf("%zu bytes of stack at most; the header says %d\n", most, SIRVESHAN_STACK);
+    return most > SIRVESHAN_STACK || most < 1024;
+}

@@ -1,0 +1,479 @@
+#!/usr/bin/env python3
+"""Drives the command `sirveshan` and holds what it prints and how it ends to tools/reference.py.
+
+    python3 bindings/rust/check_command.py COMMAND...
+
+COMMAND is the program, with the words that run it where it needs some. Each function below whose name begins with `check_`
+is a check; one that fails says what it met.
+"""
+
+import math
+import os
+import pty
+import random
+import re
+import struct
+import subprocess
+import sys
+import tempfile
+from pathlib import Path
+
+PROJECT = Path(__file__).resolve().parents[2]
+sys.path.insert(0, str(PROJECT / "tools"))
+import records  # noqa: E402
+import reference  # noqa: E402
+
+COMMAND = sys.argv[1:]
+EXAMPLES = PROJECT / "examples"
+NAN, LIMIT = 0x7FC00000, 0x49800000
+DEADLINE = 120
+
+
+# Running the command
+
+def run(*words, given=b"", **more):
+    return subprocess.run([*COMMAND, *map(str, words)], input=given, capture_output=True, timeout=DEADLINE, **more)
+
+
+def same(what, found, wanted):
+    if found != wanted:
+        raise AssertionError("%s: %.300r, not %.300r" % (what, found, wanted))
+
+
+def accepted(done, text):
+    same("exit status", (done.returncode, done.stderr), (0, b""))
+    same("output", done.stdout.decode(), text)
+
+
+def refused(done, refusal):
+    """One line on standard error with the numbers and some words, status 1, and no output."""
+    same("exit status", done.returncode, 1)
+    same("output", done.stdout, b"")
+    line = done.stderr.decode()
+    beginning = "refused %d %d %d %d: " % refusal
+    same("refusal", line[:len(beginning)], beginning)
+    same("lines", line.count("\n"), 1)
+    assert re.fullmatch(r".*[a-z]{3}.*\n", line[len(beginning):]), line
+
+
+def bad_usage(done):
+    same("exit status", done.returncode, 2)
+    same("output", done.stdout, b"")
+    assert done.stderr.startswith(b"sirveshan: "), done.stderr
+
+
+# Records
+
+def noise(chance, n, mask, pick=(0.0, 1.0, -2.0, 0.5)):
+    """A block with values at random over the fine grid, so that faces agree."""
+    values = {}
+    return records.sampled_block(lambda *point: values.setdefault(point, chance.choice(pick)), n, mask)
+
+
+def sphere(n, mask, radius, middle=4.0):
+    """Inside a sphere in a block of size 8."""
+    return records.sampled_block(lambda *point: radius - math.dist(point, (middle,) * 3), n, mask)
+
+
+def changed(record, at, value):
+    return record[:at] + value + record[at + len(value):]
+
+
+def with_length(record):
+    return changed(record, 0, (len(record) - 4).to_bytes(4, "big"))
+
+
+def f32(bits):
+    return struct.pack(">I", bits)
+
+
+def damaged_records():
+    """Records that the reader refuses, each for one reason."""
+    good = reference.record_of(records.case_a())
+    finer = reference.record_of(noise(random.Random(1), 1, 0b001001))
+    return [
+        b"", good[:3], good[:26], with_length(good[:26]), good[:-1],
+        changed(good, 0, b"\xff\xff\xff\xff"),
+        changed(good, 4, b"\x02"), changed(good, 4, b"\x00"),
+        changed(good, 5, b"\x00"), changed(good, 5, b"\x11"), changed(good, 5, b"\xff"),
+        changed(good, 6, b"\x40"), changed(good, 6, b"\xff"),
+        changed(good, 7, f32(NAN)), changed(good, 11, f32(LIMIT + 1)), changed(good, 15, f32(0xFF800000)),
+        changed(good, 19, f32(NAN + 1)), changed(good, 23, f32(0)),
+        changed(good, 5, b"\x02"), changed(good, 6, b"\x01"), with_length(good + b"\0"), with_length(good[:-4]),
+        changed(good, 27, f32(NAN)), changed(good, 27 + 4 * 31, f32(LIMIT + 1)),
+        changed(finer, len(finer) - 4, f32(0x7F800000)),
+    ]
+
+
+def mismatch():
+    """Case A with a finer neighbour that is all outside: 8."""
+    block = records.case_a()
+    return reference.record_of(block._replace(mask=1, neighbours=[0] * reference.neighbours_length(1, 1)))
+
+
+# Checks
+
+def check_examples():
+    for path in sorted(EXAMPLES.glob("*.record")):
+        wanted = reference.mesh_text(path.read_bytes())
+        accepted(run("mesh", path), wanted)
+        accepted(run("mesh", "-", given=path.read_bytes()), wanted)
+        assert wanted.startswith("mesh ")
+
+
+def check_all_sizes():
+    chance = random.Random(2)
+    for n, mask in [(1, 63), (2, 0), (3, 0b101010), (5, 0b000100), (12, 0), (13, 1), (16, 0)]:
+        record = reference.record_of(noise(chance, n, mask))
+        accepted(run("mesh", "-", given=record), reference.mesh_text(record))
+
+
+def check_largest():
+    record = reference.record_of(sphere(16, 63, 4.5))
+    accepted(run("mesh", "-", "--jobs=2", given=record), reference.mesh_text(record))
+
+
+def check_refusals():
+    met = set()
+    for record in damaged_records():
+        refusal = reference.parse(record)
+        met.add(refusal.number)
+        for words in (["mesh", "-"], ["mesh", "-", "--summary"], ["info", "-", "--plain"], ["sample", "-", 0, 0, 0]):
+            refused(run(*words, given=record), refusal)
+    same("refusals met", met, {1, 2, 3, 7, 11, 12, 13})
+
+
+def check_face_mismatch():
+    refusal = reference.accepted_mesh(mismatch())
+    same("reference", refusal.number, 8)
+    refused(run("mesh", "-", given=mismatch()), refusal)
+    done = run("info", "-", given=mismatch())
+    same("info's status", done.returncode, 1)
+    assert done.stderr.startswith(b"refused 8 0 1 0: "), done.stderr
+    same("info --plain's status", run("info", "-", "--plain", given=mismatch()).returncode, 0)
+
+
+def check_refused_header_is_told():
+    record = changed(reference.record_of(records.case_a()), 23, f32(LIMIT + 1))
+    done = run("info", "-", given=record)
+    same("status", done.returncode, 1)
+    assert b"size          1048576.1" in done.stdout, done.stdout
+    assert done.stderr.startswith(b"refused 3 3 0 0: "), done.stderr
+    refused(run("info", "-", given=changed(record, 4, b"\x02")), reference.Refusal(12, 2))
+
+
+def check_input_that_is_not_there():
+    with tempfile.TemporaryDirectory() as folder:
+        for words in (["mesh"], ["info"], ["sample"]):
+            rest = [0, 0, 0] if words == ["sample"] else []
+            bad_usage(run(*words, Path(folder) / "none", *rest))
+            bad_usage(run(*words, folder, *rest))
+
+
+def check_bad_usage():
+    record = EXAMPLES / "case-a.record"
+    for words in ([], ["draw", record], ["--mesh"], ["mesh"], ["mesh", record, record], ["mesh", record, "--plain"],
+                  ["mesh", record, "--jobs"], ["mesh", record, "--jobs", "0"], ["mesh", record, "--jobs", "many"],
+                  ["mesh", record, "--jobs=257"], ["info"], ["info", record, "--jobs", 2], ["sample", record],
+                  ["sample", record, 0, 0], ["sample", record, 0, 0, "up"], ["sample", record, 0, 0, 2 ** 31],
+                  ["sample", record, 0, 0, 0, 0]):
+        bad_usage(run(*words))
+
+
+def check_help_and_version():
+    for words in (["--help"], ["-h"], ["help"], ["mesh", "--help"], ["info", "--help"], ["sample", "--help"]):
+        done = run(*words)
+        same("status", (done.returncode, done.stderr), (0, b""))
+        assert b"sirveshan" in done.stdout and b"RECORD" in done.stdout, done.stdout
+    done = run("--version")
+    same("status", (done.returncode, done.stderr), (0, b""))
+    assert re.fullmatch(rb"sirveshan \d+\.\d+\.\d+\n", done.stdout), done.stdout
+
+
+def check_full_disk():
+    record = EXAMPLES / "face.record"
+    for words in (["mesh", record], ["mesh", record, "--summary"], ["info", record], ["info", record, "--plain"],
+                  ["sample", record, 0, 0, 0], ["--help"], ["--version"]):
+        with open("/dev/full", "wb") as full:
+            done = subprocess.run([*COMMAND, *map(str, words)], stdout=full, stderr=subprocess.PIPE, timeout=DEADLINE)
+        same("%s: status" % words, done.returncode, 3)
+        assert done.stderr.startswith(b"sirveshan: cannot write: "), done.stderr
+
+
+def check_pipe_closed_early():
+    whole = reference.record_of(noise(random.Random(3), 8, 0)) * 300
+    with tempfile.NamedTemporaryFile() as file:
+        file.write(whole)
+        file.flush()
+        for jobs in (1, 2):
+            process = subprocess.Popen([*COMMAND, "mesh", file.name, "--jobs", str(jobs)], stdout=subprocess.PIPE, stderr=subprocess.PIPE)
+            same("its beginning", process.stdout.read(5), b"mesh ")
+            process.stdout.close()
+            same("status", process.wait(DEADLINE), 3)
+            same("words", process.stderr.read(), b"")
+            process.stderr.close()
+
+
+def run_of(chance, count):
+    """Records at random, some of them damaged, with what the reference says of each."""
+    bad = [record for record in damaged_records() if len(record) >= 27 and int.from_bytes(record[:4], "big") == len(record) - 4]
+    bad.append(mismatch())
+    for _ in range(count):
+        if chance.random() < 0.1:
+            yield chance.choice(bad)
+        else:
+            yield reference.record_of(noise(chance, chance.choice([1, 1, 1, 2]), chance.choice([0, 0, 0, 1 << chance.randrange(6)])))
+
+
+def check_run_of_a_thousand():
+    parts = list(run_of(random.Random(4), 1000)) + [mismatch()[:40]]
+    answers = [reference.mesh_text(part) for part in parts]
+    wanted, refusals = "".join(answers), [(k + 1, text.strip()) for k, text in enumerate(answers) if text.startswith("refused")]
+    assert len(refusals) > 50 and refusals[-1] == (1001, "refused 11 0 0 0")
+    for jobs in (2, 1, 7):
+        done = run("mesh", "-", "--jobs", jobs, given=b"".join(parts))
+        same("status", done.returncode, 1)
+        same("answers", done.stdout.decode(), wanted)
+        lines = done.stderr.decode().splitlines()
+        same("refusals", [(int(re.search(r"\(record (\d+)\)$", line)[1]), line.split(":")[0]) for line in lines], refusals)
+
+
+def check_run_of_damaged_bytes():
+    """Bytes changed at random behind the length field, so that the run stays one."""
+    chance = random.Random(9)
+    parts = []
+    for _ in range(400):
+        record = bytearray(reference.record_of(noise(chance, chance.choice([1, 2]), chance.choice([0, 0, 1 << chance.randrange(6)]))))
+        for _ in range(chance.choice([1, 2, 4])):
+            record[chance.choice([chance.randrange(4, 27), chance.randrange(27, len(record))])] = chance.randrange(256)
+        parts.append(bytes(record))
+    parts.append(reference.record_of(records.case_a()))
+    wanted = [reference.mesh_text(part) for part in parts]
+    met = {int(text.split()[1]) for text in wanted if text.startswith("refused")}
+    assert met >= {1, 2, 3, 7, 8, 12, 13}, met
+    done = run("mesh", "-", "--jobs", 2, given=b"".join(parts))
+    same("answers", done.stdout.decode(), "".join(wanted))
+
+
+def check_run_without_refusal():
+    parts = [reference.record_of(noise(random.Random(seed), 1, 0)) for seed in range(20)]
+    accepted(run("mesh", "-", "--jobs", 2, given=b"".join(parts)), "".join(map(reference.mesh_text, parts)))
+
+
+def check_length_field_too_small():
+    """Not a run: the bytes after the first record can be none, so its length field is wrong."""
+    for record in (reference.record_of(records.case_a()), reference.record_of(noise(random.Random(8), 3, 1)), mismatch()):
+        for less in (1, 3, 4, 8, 40):
+            wrong = changed(record, 0, (len(record) - 4 - less).to_bytes(4, "big"))
+            refused(run("mesh", "-", given=wrong), reference.Refusal(11))
+        refused(run("mesh", "-", given=changed(record, 0, bytes(4))), reference.Refusal(11))
+
+
+def check_a_run_that_begins_badly():
+    """A first record with a wrong count of samples does not hide those after it."""
+    good = reference.record_of(records.case_a())
+    bad, short = with_length(good[:-4]), bytes(4)
+    done = run("mesh", "-", given=bad + short + good)
+    same("status", done.returncode, 1)
+    same("output", done.stdout.decode(), "refused 13 32 0 0\nrefused 11 0 0 0\n" + reference.mesh_text(good))
+    same("lines", done.stderr.count(b"\n"), 2)
+
+
+def check_what_follows_a_record():
+    """A record with bytes after it is a run whose last record is cut."""
+    good = reference.record_of(records.case_a())
+    done = run("mesh", "-", given=good + b"\0")
+    same("status", done.returncode, 1)
+    same("output", done.stdout.decode(), reference.mesh_text(good) + "refused 11 0 0 0\n")
+    assert done.stderr.startswith(b"refused 11 0 0 0: "), done.stderr
+
+
+# Summaries
+
+def figures(record):
+    """Area, volume and open sides of the reference's mesh."""
+    mesh = reference.accepted_mesh(record)
+    at = [tuple(reference.value(bits) for bits in vertex[:3]) for vertex in mesh.vertices]
+    area = volume = 0.0
+    sides = {}
+    for corners in mesh.triangles:
+        a, b, c = (at[k] for k in corners)
+        ab, ac = [q - p for p, q in zip(a, b)], [q - p for p, q in zip(a, c)]
+        across = [ab[1] * ac[2] - ab[2] * ac[1], ab[2] * ac[0] - ab[0] * ac[2], ab[0] * ac[1] - ab[1] * ac[0]]
+        area += math.hypot(*across) / 2
+        volume += sum(p * q for p, q in zip(a, across)) / 6
+        for side in ((a, b), (b, c), (c, a)):
+            sides[side] = sides.get(side, 0) + 1
+    opened = sum(abs(times - sides.get((q, p), 0)) for (p, q), times in sides.items() if (q, p) not in sides or p < q)
+    box = [(min(k), max(k)) for k in zip(*at)] if at else []
+    return mesh, area, volume, opened, box
+
+
+def summary_lines(record):
+    done = run("mesh", "-", "--summary", given=record)
+    same("status", (done.returncode, done.stderr), (0, b""))
+    return dict(line.split(" ", 1) for line in done.stdout.decode().splitlines())
+
+
+def near(what, found, wanted):
+    assert abs(float(found) - wanted) <= 1e-7 * max(1.0, abs(wanted)), "%s: %s, not %s" % (what, found, wanted)
+
+
+def check_summary_of_closed_meshes():
+    hollow = records.sampled_block(lambda *point: min(3.5 - math.dist(point, (4, 4, 4)), math.dist(point, (4, 4, 4)) - 1.5), 16, 0)
+    cavity = records.sampled_block(lambda *point: math.dist(point, (4, 4, 4)) - 2.0, 16, 0)
+    ball = sphere(16, 0, 3.2)
+    for block, about in ((ball, 4 / 3 * math.pi * 3.2 ** 3), (hollow, 4 / 3 * math.pi * (3.5 ** 3 - 1.5 ** 3)), (cavity, -4 / 3 * math.pi * 8)):
+        record = reference.record_of(block)
+        mesh, area, volume, opened, box = figures(record)
+        same("the reference's open sides", opened, 0)
+        lines = summary_lines(record)
+        same("counts", (lines["vertices"], lines["triangles"]), (str(len(mesh.vertices)), str(len(mesh.triangles))))
+        near("area", lines["area"], area)
+        near("volume", lines["volume"], volume)
+        assert abs(float(lines["volume"]) - about) < 0.05 * abs(about), (lines, about)
+        low, high = ([float(word) for word in part.split()] for part in lines["box"].split(" to "))
+        same("box", [(reference.f32(a), reference.f32(b)) for a, b in zip(low, high)], box)
+
+
+def outside_but(samples):
+    """A block of 4 subdivisions, all outside but for the samples given by point."""
+    block = noise(random.Random(5), 4, 0, pick=(0.0,))
+    centre = list(block.centre)
+    for point, sample in samples.items():
+        centre[reference.sample_place(4, point)] = reference.bits(sample)
+    return reference.record_of(block._replace(threshold=reference.bits(0.5), centre=centre))
+
+
+def check_open_at_a_low_face():
+    for point in [(0, 0, 0), (0, 3, 3), (3, 0, 0), (4, 4, 4)]:
+        record = outside_but({point: 1.0})
+        lines = summary_lines(record)
+        _, area, _, opened, _ = figures(record)
+        assert opened > 0
+        near("area", lines["area"], area)
+        same("volume", lines["volume"], "none: the mesh is not closed, %d sides are open" % opened)
+
+
+def check_closed_though_vertices_are_doubled():
+    """The surface touches the low face in one point, where several vertices stand: closed by positions, not by indices."""
+    record = outside_but({(1, 2, 2): 1.0, (0, 2, 2): 0.5})
+    mesh, _, volume, opened, _ = figures(record)
+    same("open sides", opened, 0)
+    assert len({vertex[:3] for vertex in mesh.vertices}) < len(mesh.vertices)
+    near("volume", summary_lines(record)["volume"], volume)
+
+
+def check_closed_and_flat():
+    """A sample just at the threshold: the triangles have no area."""
+    lines = summary_lines(outside_but({(2, 2, 2): 0.5}))
+    same("figures", (lines["triangles"], lines["area"], lines["volume"]), ("8", "0", "0"))
+
+
+def check_summary_of_open_meshes():
+    for path in sorted(EXAMPLES.glob("*.record")):
+        _, area, _, opened, _ = figures(path.read_bytes())
+        lines = summary_lines(path.read_bytes())
+        assert opened > 0
+        near("area", lines["area"], area)
+        same("volume", lines["volume"], "none: the mesh is not closed, %d sides are open" % opened)
+
+
+def check_summary_of_nothing():
+    record = reference.record_of(noise(random.Random(6), 3, 0, pick=(1.0,)))
+    lines = summary_lines(record)
+    same("lines", lines, {"vertices": "0", "triangles": "0", "box": "none", "area": "0", "volume": "none: there is no surface"})
+
+
+def check_summaries_of_a_run():
+    good = reference.record_of(records.case_a())
+    done = run("mesh", "-", "--summary", given=good + mismatch() + good)
+    same("status", done.returncode, 1)
+    one = run("mesh", "-", "--summary", given=good).stdout
+    same("output", done.stdout, b"record 1\n" + one + b"record 2\nrefused 8 0 1 0\nrecord 3\n" + one)
+
+
+# Info and samples
+
+def check_info():
+    chance = random.Random(7)
+    for n, mask in [(1, 0), (2, 63), (4, 0b010011), (16, 0)]:
+        for pick in ((0.0, 1.0), (1.0,)):
+            block = noise(chance, n, mask, pick)
+            record = reference.record_of(block)
+            wanted = "version 1\nn %d\nmask %d\nthreshold %08x\nbase %08x %08x %08x\nsize %08x\nblank %d\n" % (
+                n, mask, block.threshold, *block.base, block.size, reference.viewer_blank(record))
+            accepted(run("info", "-", "--plain", given=record), wanted)
+            said = run("info", "-", given=record)
+            same("status", (said.returncode, said.stderr), (0, b""))
+            names = [("low x", "high x", "low y", "high y", "low z", "high z")[side] for side in reference.sides_named(mask)]
+            assert ("finer sides   %s (mask %d)\n" % (", ".join(names) or "none", mask)).encode() in said.stdout, said.stdout
+            mesh = reference.mesh_of(block)
+            assert b"mesh          %d vertices, %d triangles\n" % (len(mesh.vertices), len(mesh.triangles)) in said.stdout, said.stdout
+            assert (b"blank         yes" in said.stdout) == (reference.viewer_blank(record) == 1), said.stdout
+
+
+def check_samples():
+    n = 2
+    block = records.sampled_block(lambda x, y, z: x - 10 * y + 100 * z, n, 1)
+    record = reference.record_of(block)
+    never = sampled = 0
+    for point in [(x, y, z) for x in range(-1, n + 2) for y in range(-1, n + 2) for z in (-1, 0, n, n + 1)] + [
+            (-2, 0, 0), (0, n + 2, 0), (-2 ** 31, 0, 0), (0, 2 ** 31 - 1, 0)]:
+        answer = reference.viewer_sample(record, *point)
+        done = run("sample", "-", *point, "--plain", given=record)
+        if answer >= 1 << 32:
+            refused(done, reference.Refusal(answer - (1 << 32)))
+            never += 1
+        else:
+            accepted(done, "%08x\n" % answer)
+            said = run("sample", "-", *point, given=record)
+            same("status", said.returncode, 0)
+            side = b"inside" if reference.value(answer) >= 0 else b"outside"
+            assert b"bits %08x, %s" % (answer, side) in said.stdout, said.stdout
+            sampled += 1
+    assert never > 10 and sampled > 30
+
+
+# Progress
+
+def check_progress_on_a_terminal():
+    record = reference.record_of(records.case_a())
+    for count, shown in ((1, False), (500, True)):
+        ours, theirs = pty.openpty()
+        done = subprocess.run([*COMMAND, "mesh", "-"], input=record * count, stdout=subprocess.PIPE, stderr=theirs, timeout=DEADLINE)
+        os.close(theirs)
+        said = b""
+        while True:
+            try:
+                part = os.read(ours, 65536)
+            except OSError:
+                break
+            if not part:
+                break
+            said += part
+        os.close(ours)
+        same("status", done.returncode, 0)
+        same("output", done.stdout.decode(), reference.mesh_text(record) * count)
+        same("progress for %d" % count, b" records" in said, shown)
+        if shown:
+            assert said.endswith(b"\r\x1b[K"), said[-40:]
+
+
+def main():
+    checks = [(name, check) for name, check in globals().items() if name.startswith("check_")]
+    failed = 0
+    for name, check in checks:
+        try:
+            check()
+        except (AssertionError, subprocess.TimeoutExpired) as error:
+            failed += 1
+            print("%s: %s" % (name, str(error) or "wrong"))
+    print("%d checks passed, %d failed" % (len(checks) - failed, failed))
+    return failed != 0
+
+
+if __name__ == "__main__":
+    if not COMMAND:
+        sys.exit(__doc__)
+    sys.exit(main())

@@ -1,0 +1,102 @@
+//! `sirveshan mesh`: the mesh of a record, or of each record of a run.
+
+use crate::arguments::Arguments;
+use crate::failure::{refusal_line, refusal_numbers, tell, Failure};
+use crate::input::{Piece, Run};
+use crate::jobs::in_order;
+use crate::progress::Progress;
+use crate::{listing, output, summary, Command};
+use sirveshan::{Mesh, Mesher, Record, Refusal};
+
+pub const COMMAND: Command = Command {
+    name: "mesh",
+    usage: "mesh RECORD|- [--summary] [--jobs N]",
+    about: "\
+prints the mesh of a record: its listing, or --summary
+
+The listing is document 01's at any size: `mesh` with the counts of vertices and triangles, a `v`
+line a vertex (position x y z and gradient x y z, as f32 bits in hex), a `t` line a triangle (three
+vertex indices).
+
+RECORD may be a run: records laid end to end. Each is meshed by itself, and the answers come in order.
+A refused record of a run has a line `refused N A B C` in its place, and the run goes on; each
+summary of a run begins with a line `record K`.
+
+    --summary   counts, bounding box, surface area and, of a closed mesh, the enclosed volume
+    --jobs N    mesh the records of a run on N threads (1 to 256)
+",
+    run,
+};
+
+fn run(mut arguments: Arguments) -> Result<(), Failure> {
+    let summary = arguments.flag("--summary");
+    let text = if summary { summary::summary } else { listing::listing };
+    let jobs = arguments.number("--jobs", 1..=256)?.unwrap_or(1);
+    let [path] = arguments.by_place(["RECORD"])?;
+    let mut answers = Answers { numbered: summary, progress: Progress::new(), refused: false };
+    let pieces = Run::open(&path)?;
+    in_order(jobs, pieces, || worker(text), |answer| answers.put(answer))?;
+    answers.progress.erase();
+    if answers.refused {
+        return Err(Failure::SomeRefused);
+    }
+    Ok(())
+}
+
+/// What became of a record.
+struct Answer {
+    number: usize,
+    alone: bool,
+    text: Result<Vec<u8>, Refusal>,
+}
+
+/// Meshes record after record with the same buffers.
+fn worker(text: fn(&Mesh) -> Vec<u8>) -> impl FnMut(Piece) -> Answer {
+    let mut mesher = Mesher::new();
+    move |Piece { number, alone, bytes }| {
+        let read = Record::read(&bytes);
+        let meshed = read.and_then(|record| mesher.mesh(&record).map(|mesh| text(&mesh)));
+        Answer { number, alone, text: meshed }
+    }
+}
+
+/// Where the answers go: texts to standard output, refusals to standard error.
+struct Answers {
+    /// Whether a record of a run has its number before its text.
+    numbered: bool,
+    progress: Progress,
+    refused: bool,
+}
+
+impl Answers {
+    fn put(&mut self, answer: Answer) -> Result<(), Failure> {
+        self.progress.erase();
+        if self.numbered && !answer.alone {
+            output::put(format!("record {}\n", answer.number).as_bytes())?;
+        }
+        match answer.text {
+            Ok(text) => output::put(&text)?,
+            Err(refusal) => self.put_refusal(&refusal, answer.number, answer.alone)?,
+        }
+        if !answer.alone {
+            self.progress.tell(answer.number);
+        }
+        Ok(())
+    }
+
+    fn put_refusal(
+        &mut self,
+        refusal: &Refusal,
+        number: usize,
+        alone: bool,
+    ) -> Result<(), Failure> {
+        self.refused = true;
+        let line = refusal_line(refusal);
+        if alone {
+            tell(&line);
+            return Ok(());
+        }
+        tell(&format!("{line} (record {number})"));
+        output::put(format!("{}\n", refusal_numbers(refusal)).as_bytes())
+    }
+}

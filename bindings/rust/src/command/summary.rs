@@ -1,0 +1,31 @@
+//! A mesh in a few lines, a word and its figures each.
+
+use crate::figures::{bounding_box, enclosed_volume, open_sides, surface_area};
+use sirveshan::Mesh;
+
+pub fn summary(mesh: &Mesh) -> Vec<u8> {
+    let mut text =
+        format!("vertices {}\ntriangles {}\n", mesh.vertices.len(), mesh.triangles.len());
+    text += &match bounding_box(mesh) {
+        Some(([x, y, z], [x1, y1, z1])) => format!("box {x} {y} {z} to {x1} {y1} {z1}\n"),
+        None => "box none\n".to_string(),
+    };
+    text += &format!("area {}\n", figure(surface_area(mesh)));
+    text += &volume_line(mesh);
+    text.into_bytes()
+}
+
+fn volume_line(mesh: &Mesh) -> String {
+    match open_sides(mesh) {
+        _ if mesh.triangles.is_empty() => "volume none: there is no surface\n".to_string(),
+        0 => format!("volume {}\n", figure(enclosed_volume(mesh))),
+        1 => "volume none: the mesh is not closed, 1 side is open\n".to_string(),
+        open => format!("volume none: the mesh is not closed, {open} sides are open\n"),
+    }
+}
+
+/// A number to nine digits, more than f32 positions bear.
+fn figure(number: f64) -> String {
+    let rounded: f64 = format!("{number:.8e}").parse().unwrap_or(number);
+    format!("{rounded}")
+}

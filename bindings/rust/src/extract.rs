@@ -1,0 +1,47 @@
+//! Extraction into lent buffers.
+
+use crate::{linked, Header, Refusal};
+
+/// How many vertices and triangles a mesh has.
+#[derive(Clone, Copy, Debug, PartialEq, Eq)]
+pub struct Counts {
+    /// Vertices, six f32 each.
+    pub vertices: usize,
+    /// Triangles, three indices each.
+    pub triangles: usize,
+}
+
+/// Meshes a block into lent buffers: six f32 for a vertex (position, gradient), three indices for a
+/// triangle. All beyond what is written stays; a refusal alters nothing.
+///
+/// `neighbours` holds the samples of the finer neighbours one after another, in side order. `store`
+/// is room that extraction works in, [`store_length`](crate::store_length) places; what it holds
+/// before does not matter.
+pub fn extract(
+    header: &Header,
+    centre: &[f32],
+    neighbours: &[f32],
+    store: &mut [u32],
+    vertices: &mut [f32],
+    triangles: &mut [u32],
+) -> Result<Counts, Refusal> {
+    // SAFETY: each pointer goes with the length of the slice it comes from, the slices live through
+    // the call, and the &mut ones are distinct by Rust's own rules.
+    let answer = unsafe {
+        linked::sirveshan_extract(
+            header.into(),
+            centre.as_ptr(),
+            centre.len(),
+            neighbours.as_ptr(),
+            neighbours.len(),
+            store.as_mut_ptr(),
+            store.len(),
+            vertices.as_mut_ptr(),
+            vertices.len(),
+            triangles.as_mut_ptr(),
+            triangles.len(),
+        )
+    };
+    answer.refused.check()?;
+    Ok(Counts { vertices: answer.vertices, triangles: answer.triangles })
+}

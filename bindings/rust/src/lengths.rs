@@ -1,0 +1,102 @@
+//! Lengths of lists and places in them. None of these panics: what does not fit a `usize` answers `usize::MAX`,
+//! which no call accepts as a length.
+
+use crate::Header;
+
+/// The most subdivisions that a block may have.
+pub const MOST_SUBDIVISIONS: usize = 16;
+
+/// The bytes of a record before its samples.
+pub const RECORD_HEADER: usize = 27;
+
+/// How many samples a block of `subdivisions` has: the points of its grid, and one more layer at
+/// each of its six faces.
+///
+/// ```
+/// assert_eq!(sirveshan::sample_length(2), 81);
+/// ```
+pub fn sample_length(subdivisions: usize) -> usize {
+    let m = subdivisions.saturating_add(1);
+    m.saturating_mul(m).saturating_mul(m.saturating_add(6))
+}
+
+/// How many samples the finer neighbours at the sides of `mask` have together.
+pub fn neighbours_length(subdivisions: usize, mask: u8) -> usize {
+    let sides = (mask & 63).count_ones() as usize;
+    sides.saturating_mul(sample_length(subdivisions.saturating_mul(2)))
+}
+
+/// How many places of the index store a block of `subdivisions` uses.
+pub fn store_length(subdivisions: usize) -> usize {
+    let n = subdivisions;
+    let square = n.saturating_mul(n);
+    square.saturating_mul(n.saturating_mul(4).saturating_add(60))
+}
+
+/// How many bytes the record of such a block has.
+pub fn record_length(subdivisions: usize, mask: u8) -> usize {
+    let samples = sample_length(subdivisions).saturating_add(neighbours_length(subdivisions, mask));
+    samples.saturating_mul(4).saturating_add(RECORD_HEADER)
+}
+
+/// The cells of a block: regular ones, and transition cells at the sides of `mask`.
+fn cells(subdivisions: usize, mask: u8) -> usize {
+    let sides = (mask & 63).count_ones() as usize;
+    let square = subdivisions.saturating_mul(subdivisions);
+    square.saturating_mul(subdivisions.saturating_add(sides))
+}
+
+/// More vertices than any such block has: twelve for each cell, as is proved (`Counted` in crates/algorithm).
+pub fn most_vertices(subdivisions: usize, mask: u8) -> usize {
+    cells(subdivisions, mask).saturating_mul(12)
+}
+
+/// More triangles than any such block has: twelve for each cell, as is proved (`Counted` in crates/algorithm).
+pub fn most_triangles(subdivisions: usize, mask: u8) -> usize {
+    cells(subdivisions, mask).saturating_mul(12)
+}
+
+/// Where the sample of a grid point stands among the samples of its block. Coordinates are 0 to
+/// `subdivisions`; one of the three may be a step outside. Any other point was never sampled.
+///
+/// ```
+/// assert_eq!(sirveshan::sample_place(2, [1, 2, 0]), Some(15));
+/// assert_eq!(sirveshan::sample_place(2, [-1, 1, 2]), Some(32));
+/// assert_eq!(sirveshan::sample_place(2, [-1, -1, 0]), None);
+/// ```
+pub fn sample_place(subdivisions: usize, point: [i32; 3]) -> Option<usize> {
+    let m = subdivisions.checked_add(1)?;
+    let within = |k: i32| usize::try_from(k).ok().filter(|&k| k < m);
+    let coordinates = point.map(within);
+    let nested = |a: usize, b: usize, c: usize| {
+        a.checked_mul(m)?.checked_add(b)?.checked_mul(m)?.checked_add(c)
+    };
+    match coordinates {
+        [Some(x), Some(y), Some(z)] => nested(x, y, z),
+        [None, Some(i), Some(j)] => nested(m.checked_add(face(m, 0, point[0])?)?, i, j),
+        [Some(i), None, Some(j)] => nested(m.checked_add(face(m, 1, point[1])?)?, i, j),
+        [Some(i), Some(j), None] => nested(m.checked_add(face(m, 2, point[2])?)?, i, j),
+        _ => None,
+    }
+}
+
+/// Which of the six faces a coordinate that lies outside is on, if it is one step outside.
+fn face(m: usize, axis: usize, coordinate: i32) -> Option<usize> {
+    match coordinate {
+        -1 => Some(2 * axis),
+        above if usize::try_from(above) == Ok(m) => Some(2 * axis + 1),
+        _ => None,
+    }
+}
+
+impl Header {
+    /// How many samples the block itself has.
+    pub fn centre_length(&self) -> usize {
+        sample_length(self.block.subdivisions)
+    }
+
+    /// How many samples its finer neighbours have together.
+    pub fn neighbours_length(&self) -> usize {
+        neighbours_length(self.block.subdivisions, self.mask)
+    }
+}

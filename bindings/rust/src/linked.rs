@@ -1,0 +1,96 @@
+//! The C face of the proved library, as include/sirveshan.h declares it. Only this crate's own files call it.
+
+use crate::{Block, Header, Refusal};
+
+#[repr(C)]
+#[derive(Clone, Copy)]
+pub struct CHeader {
+    base: [f32; 3],
+    size: f32,
+    subdivisions: usize,
+    mask: u8,
+    threshold: f32,
+}
+
+#[repr(C)]
+pub struct CRefusal {
+    number: usize,
+    values: [usize; 3],
+}
+
+#[repr(C)]
+pub struct Extracted {
+    pub refused: CRefusal,
+    pub vertices: usize,
+    pub triangles: usize,
+}
+
+#[repr(C)]
+pub struct ReadAnswer {
+    pub refused: CRefusal,
+    pub header: CHeader,
+}
+
+#[repr(C)]
+pub struct Written {
+    pub refused: CRefusal,
+    pub length: usize,
+}
+
+extern "C" {
+    pub fn sirveshan_subdivisions(src: *const u8, length: usize) -> u64;
+    pub fn sirveshan_blank(src: *const u8, length: usize) -> u64;
+    pub fn sirveshan_sample(src: *const u8, length: usize, x: i32, y: i32, z: i32) -> u64;
+    pub fn sirveshan_extract(
+        header: CHeader,
+        centre: *const f32,
+        centre_length: usize,
+        neighbours: *const f32,
+        neighbours_length: usize,
+        store: *mut u32,
+        store_length: usize,
+        vertices: *mut f32,
+        vertices_length: usize,
+        triangles: *mut u32,
+        triangles_length: usize,
+    ) -> Extracted;
+    pub fn sirveshan_read(
+        src: *const u8,
+        length: usize,
+        samples: *mut f32,
+        samples_length: usize,
+    ) -> ReadAnswer;
+    pub fn sirveshan_write(
+        header: CHeader,
+        centre: *const f32,
+        centre_length: usize,
+        neighbours: *const f32,
+        neighbours_length: usize,
+        bytes: *mut u8,
+        bytes_length: usize,
+    ) -> Written;
+}
+
+impl From<&Header> for CHeader {
+    fn from(header: &Header) -> CHeader {
+        let Header { block: Block { base, size, subdivisions }, mask, threshold } = *header;
+        CHeader { base, size, subdivisions, mask, threshold }
+    }
+}
+
+impl From<CHeader> for Header {
+    fn from(header: CHeader) -> Header {
+        let CHeader { base, size, subdivisions, mask, threshold } = header;
+        Header { block: Block { base, size, subdivisions }, mask, threshold }
+    }
+}
+
+impl CRefusal {
+    /// The refusal, if it is one: 0 stands for none.
+    pub fn check(self) -> Result<(), Refusal> {
+        match self.number {
+            0 => Ok(()),
+            number => Err(Refusal { number: number as u32, values: self.values }),
+        }
+    }
+}

@@ -1,0 +1,47 @@
+//! The three calls that a viewer makes with the bytes of one record. They judge the record whole, as the reader does, and
+//! write nowhere.
+
+use crate::{linked, read_record, Refusal};
+
+const REFUSED: u64 = 100;
+const SAMPLE_REFUSED: u64 = 1 << 32;
+
+/// The block's subdivisions.
+pub fn subdivisions(record: &[u8]) -> Result<usize, Refusal> {
+    // SAFETY: the pointer goes with the length of its slice, which lives through the call.
+    let answer = unsafe { linked::sirveshan_subdivisions(record.as_ptr(), record.len()) };
+    match answer.checked_sub(REFUSED) {
+        None => Ok(answer as usize),
+        Some(number) => Err(refusal(record, number)),
+    }
+}
+
+/// Whether all in-block samples lie on one side of the threshold, so that there is no surface inside.
+pub fn blank(record: &[u8]) -> Result<bool, Refusal> {
+    // SAFETY: the pointer goes with the length of its slice, which lives through the call.
+    let answer = unsafe { linked::sirveshan_blank(record.as_ptr(), record.len()) };
+    match answer.checked_sub(REFUSED) {
+        None => Ok(answer == 1),
+        Some(number) => Err(refusal(record, number)),
+    }
+}
+
+/// The sample at a grid point of the block: coordinates 0 to n, of which one may be a step outside.
+/// Any other point was never sampled, which is refusal 15.
+pub fn sample(record: &[u8], x: i32, y: i32, z: i32) -> Result<f32, Refusal> {
+    // SAFETY: the pointer goes with the length of its slice, which lives through the call.
+    let answer = unsafe { linked::sirveshan_sample(record.as_ptr(), record.len(), x, y, z) };
+    match answer.checked_sub(SAMPLE_REFUSED) {
+        None => Ok(f32::from_bits(answer as u32)),
+        Some(number) => Err(refusal(record, number)),
+    }
+}
+
+/// The refusal of a call that tells the number alone: the reader, which judges the same in the same
+/// order, has its three numbers.
+fn refusal(record: &[u8], number: u64) -> Refusal {
+    match read_record(record, &mut []) {
+        Err(refusal) if u64::from(refusal.number) == number => refusal,
+        _ => Refusal { number: number as u32, values: [0; 3] },
+    }
+}
