@@ -117,10 +117,10 @@ fn count_side(
     ensures { λ r. ⌜ Few sheetPlaces r ⌝ }
     ensures { λ r. ⌜ ((s : Star) → subdivisions s ≡ n → named (s .mask) side ≡ true → Sheet (transitionCase s side) n n (now (cases .entry)) → Grows (transitionSide s side) r) ⌝ }
 {
-    let end = ROW * n;
+    let places = ROW * n;
     let mut counts = NONE;
     let mut i = next_cut_fine(n, cases, 0);
-    while i < end {
+    while i < places {
         let at = FacePoint {
             side,
             u: i / ROW,
@@ -171,8 +171,7 @@ pub fn count_mesh(header: Header, centre: &[f32], neighbours: &[f32]) -> Counts
     requires { ⌜ Shaped (star header (now centre) (now neighbours)) ⌝ }
     ensures { λ r. ⌜ Few mostCells r × Counted (meshOf (star header (now (centre .entry)) (now (neighbours .entry)))) r ⌝ }
 {
-    plus(
-        count_regular_cells(header, centre),
-        count_transition_cells(header, neighbours),
-    )
+    let regular = count_regular_cells(header, centre);
+    let transition = count_transition_cells(header, neighbours);
+    plus(regular, transition)
 }

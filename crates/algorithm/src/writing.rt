@@ -159,9 +159,9 @@ fn write_side(
     ensures { λ r. ⌜ Holds (transitionTo (star header (now (centre .entry)) (now (neighbours .entry))) (side + 1) 0 0) r (now (vertices .exit)) (now (triangles .exit)) (now (store .exit)) ⌝ }
 {
     let n = header.block.subdivisions;
-    let end = ROW * n;
+    let places = ROW * n;
     let mut i = next_cut_fine(n, cases, 0);
-    while i < end {
+    while i < places {
         let at = FacePoint {
             side,
             u: i / ROW,

@@ -1,3 +1,4 @@
+pub mod Pinned
 mod Windings
 mod Staying
 mod Uses

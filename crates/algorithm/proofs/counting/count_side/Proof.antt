@@ -17,13 +17,13 @@ use Rattle.algorithm.proofs.counting.count_side.Statement.{statement}
 use Rattle.algorithm.proofs.counting.count_side.Tie as tie
 
 abbrev Inv-loop : tie.InvT-loop
-Inv-loop n classes cells codes cases side end counts₀ i₀ counts i = ((i ≤ rowWidth * n) × (i < rowWidth * n → i % rowWidth < n)) × (Few i counts × ((s : Star) → subdivisions s ≡ n → Sheet (transitionCase s side) n n cases → Grows (λ m. sheetTo (transitionCell s side) n m i) counts))
+Inv-loop n classes cells codes cases side places counts₀ i₀ counts i = ((i ≤ rowWidth * n) × (i < rowWidth * n → i % rowWidth < n)) × (Few i counts × ((s : Star) → subdivisions s ≡ n → Sheet (transitionCase s side) n n cases → Grows (λ m. sheetTo (transitionCell s side) n m i) counts))
 
 abbrev μ-loop : tie.MeasureT-loop
-μ-loop n classes cells codes cases side end counts₀ i₀ counts i = rowWidth * n - i
+μ-loop n classes cells codes cases side places counts₀ i₀ counts i = rowWidth * n - i
 
-mul-end : tie.Need-mul-end Inv-loop μ-loop
-mul-end c = search needs
+mul-places : tie.Need-mul-places Inv-loop μ-loop
+mul-places c = search needs
 
 next-cut-fine-requires : tie.Need-next-cut-fine-requires Inv-loop μ-loop
 next-cut-fine-requires c κs = search needs
@@ -65,21 +65,18 @@ loop-again c =
     let l = here .before .loop in
     let next = c .next-cut-fine2 .ensures in
     let more = c .before .before .count-transition-cell .ensures in
-    let below = here .loop-test .taken in
-    (
+    let below = here .loop-test .taken in (
       (next .within, next .is-cell),
-      rw (c .before .plus .ensures)
-        (
-          few-of _ (omega (arith, next .between .ordered)) (few-more (l .inv .1 .0) (more .0)),
-          λ s e sheet. grows-on (side-sheet s _ _ _ sheet) (l .i) _ _ _ below (l .inv .0 .1 below) next (l .inv .1 .1 s e sheet) (more .1 s),
-        ),
+      rw (c .before .plus .ensures) (
+        few-of _ (omega (arith, next .between .ordered)) (few-more (l .inv .1 .0) (more .0)),
+        λ s e sheet. grows-on (side-sheet s _ _ _ sheet) (l .i) _ _ _ below (l .inv .0 .1 below) next (l .inv .1 .1 s e sheet) (more .1 s),
+      ),
     )
 
 returns : tie.Need-returns Inv-loop μ-loop
 returns c =
     let l = c .before .loop in
-    let a = c .before .before .before .before .args in
-    (
+    let a = c .before .before .before .before .args in (
       few-of _ (omega arith) (l .inv .1 .0),
       λ s e named sheet. side-grows s (a .n) (l .i) e (omega arith) (omega arith) (a .side) named (l .inv .1 .1 s e sheet),
     )
@@ -90,7 +87,7 @@ count-side-spec =
     (tie.spec
     Inv-loop
     μ-loop
-    mul-end
+    mul-places
     next-cut-fine-requires
     loop-holds
     mul-count-transition-cell

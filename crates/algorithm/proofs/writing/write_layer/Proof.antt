@@ -44,7 +44,7 @@ turn c = c .before .before .before .before .before .before .before .before .befo
 
 -- the cell of this turn is one of the sheet's
 below : (c : tie.In-loop Inv-loop μ-loop) → c .before .loop .i < rowWidth * start c .args .header .block .subdivisions
-below c = c .loop-test .taken
+below c = omega (arith, c .loop-test .taken, start c .pre .1 .0 .0 .some)
 
 is-cell : (c : tie.In-loop Inv-loop μ-loop) → c .before .loop .i % rowWidth < start c .args .header .block .subdivisions
 is-cell c = c .before .loop .inv .0 .1 (below c)

@@ -16,13 +16,13 @@ use Rattle.algorithm.proofs.writing.write_side.Statement.{statement}
 use Rattle.algorithm.proofs.writing.write_side.Tie as tie
 
 abbrev Inv-loop : tie.InvT-loop
-Inv-loop header fractions centre neighbours classes cells codes cases side counts₀ store₀ vertices₀ triangles₀ n end i₀ counts store vertices triangles i =
+Inv-loop header fractions centre neighbours classes cells codes cases side counts₀ store₀ vertices₀ triangles₀ n places i₀ counts store vertices triangles i =
     let s = star header centre neighbours in
     ((i ≤ rowWidth * n) × (i < rowWidth * n → i % rowWidth < n))
     × (SameLengths vertices₀ vertices triangles₀ triangles store₀ store × Holds (sheetTo (transitionCell s side) n (transitionTo s side 0 0) i) counts vertices triangles store)
 
 abbrev μ-loop : tie.MeasureT-loop
-μ-loop header fractions centre neighbours classes cells codes cases side counts₀ store₀ vertices₀ triangles₀ n end i₀ counts store vertices triangles i =
+μ-loop header fractions centre neighbours classes cells codes cases side counts₀ store₀ vertices₀ triangles₀ n places i₀ counts store vertices triangles i =
     rowWidth * n - i
 
 -- the entry, and what holds of it
@@ -44,7 +44,7 @@ turn c = c .before .before .before .before .before .before .before .before .befo
 
 -- the cell of this turn is one of the sheet's
 below : (c : tie.In-loop Inv-loop μ-loop) → c .before .loop .i < rowWidth * start c .args .header .block .subdivisions
-below c = c .loop-test .taken
+below c = omega (arith, c .loop-test .taken, start c .pre .1 .0 .0 .some)
 
 is-cell : (c : tie.In-loop Inv-loop μ-loop) → c .before .loop .i % rowWidth < start c .args .header .block .subdivisions
 is-cell c = c .before .loop .inv .0 .1 (below c)
@@ -58,8 +58,8 @@ ready c =
     ready-at (sheet b) (transitionTo s (b .args .side) 0 0) s (l .i) (below c) (is-cell c) (rw (transition-side s (b .pre .1 .0 .0 .few) (b .args .side) (b .pre .1 .1 .1 .0 .1)) (side-upto s (b .args .side) (b .pre .1 .1 .1 .0 .0)))
     (fits-still (l .inv .1 .0) (b .pre .1 .1 .1 .1 .0)) (l .inv .1 .1)
 
-mul-end : tie.Need-mul-end Inv-loop μ-loop
-mul-end c = omega (arith, c .before .before .before .before .before .before .pre .1 .0 .0 .few)
+mul-places : tie.Need-mul-places Inv-loop μ-loop
+mul-places c = omega (arith, c .before .before .before .before .before .before .pre .1 .0 .0 .few)
 
 next-cut-fine-requires : tie.Need-next-cut-fine-requires Inv-loop μ-loop
 next-cut-fine-requires c κs =
@@ -156,7 +156,7 @@ write-side-spec =
     (tie.spec
     Inv-loop
     μ-loop
-    mul-end
+    mul-places
     next-cut-fine-requires
     loop-holds
     mul-write-transition-cell
