@@ -56,14 +56,12 @@ loop-again c =
     let l = here .before .loop in
     let next = c .next-cut2 .ensures in
     let more = c .before .before .count-regular-cell .ensures in
-    let below = here .loop-test .taken in
-    (
+    let below = here .loop-test .taken in (
       (next .within, next .is-cell),
-      rw (c .before .plus .ensures)
-        (
-          few-of _ (omega (arith, next .between .ordered)) (few-more (l .inv .1 .0) (more .0)),
-          λ s e sheet. grows-on (layer-sheet s _ _ _ sheet) (l .i) _ _ _ below (l .inv .0 .1 below) next (l .inv .1 .1 s e sheet) (more .1 s),
-        ),
+      rw (c .before .plus .ensures) (
+        few-of _ (omega (arith, next .between .ordered)) (few-more (l .inv .1 .0) (more .0)),
+        λ s e sheet. grows-on (layer-sheet s _ _ _ sheet) (l .i) _ _ _ below (l .inv .0 .1 below) next (l .inv .1 .1 s e sheet) (more .1 s),
+      ),
     )
 
 returns : tie.Need-returns Inv-loop μ-loop

@@ -45,8 +45,7 @@ still-long c = c .face-cases .kept .1 .1 .1 .0 ∙ c .before .before .before .lo
 
 loop-holds : tie.Need-loop-holds Inv-loop μ-loop
 loop-holds c =
-    let next = c .next-side .ensures in
-    (
+    let next = c .next-side .ensures in (
       (next .le-six, next .is-named),
       (length-replicate {A = ℕ} sheetPlaces 0, (few-of _ (omega arith) few-none, λ centre. grows-as (λ m. sym (sides-skip _ m 0 _ next)) grows-none)),
     )
@@ -58,8 +57,7 @@ face-cases-requires : tie.Need-face-cases-requires Inv-loop μ-loop
 face-cases-requires c κs =
     let here = c .before in
     let l = here .before .loop in
-    let there = here .before .before .before .before .before .before .before .pre in
-    (
+    let there = here .before .before .before .before .before .before .before .pre in (
       record { few = there .few; sides = there .sides; side-is = here .loop-test .taken; is-named = l .inv .0 .1 (here .loop-test .taken); neighbours-are = there .neighbours-are },
       (there .some, l .inv .1 .0),
     )
@@ -74,8 +72,7 @@ count-side-requires c κs =
     let b = codes .before .before .before .before in
     let a = b .args in
     let s = star (a .header) [] (a .neighbours .now) in
-    let side = face .before .before .before .loop .side in
-    (
+    let side = face .before .before .before .loop .side in (
       record { classes-are = codes .before .before .transition-cell-class .ensures; cells-are = codes .before .transition-cell-data .ensures; codes-are = codes .transition-vertex-data .ensures },
       (
         (b .pre .few, still-long face),
@@ -104,16 +101,14 @@ loop-again c =
     let l = here .before .loop in
     let more = c .before .before .count-side .ensures in
     let next = c .next-side2 .ensures in
-    let named-here = l .inv .0 .1 (here .loop-test .taken) in
-    (
+    let named-here = l .inv .0 .1 (here .loop-test .taken) in (
       (next .le-six, next .is-named),
       (
         still-long face,
-        rw (c .before .plus .ensures)
-          (
-            few-of _ (omega (arith, next .from-le)) (few-more (l .inv .1 .1 .0) (more .0)),
-            λ centre. grows-as (λ m. sym (sides-skip _ m _ _ next)) (grows-more _ (l .side) (l .inv .1 .1 .1 centre) (more .1 _ refl named-here (face .face-cases .ensures centre))),
-          ),
+        rw (c .before .plus .ensures) (
+          few-of _ (omega (arith, next .from-le)) (few-more (l .inv .1 .1 .0) (more .0)),
+          λ centre. grows-as (λ m. sym (sides-skip _ m _ _ next)) (grows-more _ (l .side) (l .inv .1 .1 .1 centre) (more .1 _ refl named-here (face .face-cases .ensures centre))),
+        ),
       ),
     )
 

@@ -65,21 +65,18 @@ loop-again c =
     let l = here .before .loop in
     let next = c .next-cut-fine2 .ensures in
     let more = c .before .before .count-transition-cell .ensures in
-    let below = here .loop-test .taken in
-    (
+    let below = here .loop-test .taken in (
       (next .within, next .is-cell),
-      rw (c .before .plus .ensures)
-        (
-          few-of _ (omega (arith, next .between .ordered)) (few-more (l .inv .1 .0) (more .0)),
-          λ s e sheet. grows-on (side-sheet s _ _ _ sheet) (l .i) _ _ _ below (l .inv .0 .1 below) next (l .inv .1 .1 s e sheet) (more .1 s),
-        ),
+      rw (c .before .plus .ensures) (
+        few-of _ (omega (arith, next .between .ordered)) (few-more (l .inv .1 .0) (more .0)),
+        λ s e sheet. grows-on (side-sheet s _ _ _ sheet) (l .i) _ _ _ below (l .inv .0 .1 below) next (l .inv .1 .1 s e sheet) (more .1 s),
+      ),
     )
 
 returns : tie.Need-returns Inv-loop μ-loop
 returns c =
     let l = c .before .loop in
-    let a = c .before .before .before .before .args in
-    (
+    let a = c .before .before .before .before .args in (
       few-of _ (omega arith) (l .inv .1 .0),
       λ s e named sheet. side-grows s (a .n) (l .i) e (omega arith) (omega arith) (a .side) named (l .inv .1 .1 s e sheet),
     )
