@@ -5,12 +5,6 @@ use lib.Seq.{length-take-le}
 use borrow.Author.Needs.{needs}
 use Rattle.printing.proofs.print_block.Statement.{statement}
 use Rattle.printing.proofs.print_block.Tie as tie
-use Rattle.printing.proofs.print_block.Reads as reads
-use Rattle.printing.proofs.print_block.Lts as lts
-use Rattle.algorithm.proofs.extract.Reads as extract-reads
-use Rattle.grid.proofs.voxel_blocks.sample_length.Reads as sample-length-reads
-use Rattle.printing.proofs.print_answer.Reads as print-answer-reads
-use Rattle.record.proofs.judging.sample_count.Reads as sample-count-reads
 
 sample-length-requires : tie.Need-sample-length-requires
 sample-length-requires c κs = search needs

@@ -3,11 +3,6 @@ use Rattle.record.specs.Reading.{read-held}
 use borrow.Author.Needs.{needs}
 use Rattle.printing.proofs.print_listing.Statement.{statement}
 use Rattle.printing.proofs.print_listing.Tie as tie
-use Rattle.printing.proofs.print_listing.Reads as reads
-use Rattle.printing.proofs.print_listing.Lts as lts
-use Rattle.printing.proofs.print_block.Reads as print-block-reads
-use Rattle.printing.proofs.print_refusal.Reads as print-refusal-reads
-use Rattle.record.proofs.reader.read_record.Reads as read-record-reads
 
 print-refusal-requires : tie.Need-print-refusal-requires
 print-refusal-requires c κs = search needs
