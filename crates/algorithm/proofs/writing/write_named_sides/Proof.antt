@@ -36,6 +36,10 @@ start c = c .before .before .before .before .before .before .before .before .bef
 abbrev starOf : Entry → Star
 starOf b = star (b .args .header) (b .args .centre .now) (b .args .neighbours .now)
 
+-- the side of this turn
+below : (c : tie.In-loop Inv-loop μ-loop) → c .before .loop .side < sideCount
+below c = omega (arith, c .loop-test .taken)
+
 -- the sheet is as long as it was
 still-long : (c : tie.After-face-cases Inv-loop μ-loop) → length (c .face-cases .last .1 .1 .1 .0) ≡ sheetPlaces
 still-long c = c .face-cases .kept .1 .1 .1 .0 ∙ c .before .before .before .loop .inv .1 .0
@@ -75,7 +79,7 @@ face-cases-requires c κs =
     let here = c .before in
     let l = here .before .loop in
     let shaped = start here .pre .0 .0 in (
-      record { few = shaped .few; sides = shaped .sides; side-is = here .loop-test .taken; is-named = l .inv .0 .1 (here .loop-test .taken); neighbours-are = shaped .neighbours-are },
+      record { few = shaped .few; sides = shaped .sides; side-is = below here; is-named = l .inv .0 .1 (below here); neighbours-are = shaped .neighbours-are },
       (shaped .some, l .inv .1 .0),
     )
 
@@ -94,7 +98,7 @@ write-side-requires c κs =
         b .pre .0,
         (
           (still-long filled, filled .face-cases .ensures (b .args .centre .now)),
-          ((here .loop-test .taken, l .inv .0 .1 (here .loop-test .taken)), (fits-still (l .inv .1 .1 .0) (b .pre .1 .0), l .inv .1 .1 .1)),
+          ((below here, l .inv .0 .1 (below here)), (fits-still (l .inv .1 .1 .0) (b .pre .1 .0), l .inv .1 .1 .1)),
         ),
       ),
     )

@@ -67,7 +67,7 @@ layer-cases-requires : tie.Need-layer-cases-requires Inv-loop μ-loop
 layer-cases-requires c κs =
     let here = c .before in
     let shaped = start here .pre .0 .0 in
-    ((shaped .few, shaped .centre-is), (here .loop-test .taken, here .before .loop .inv .1 .0))
+    ((shaped .few, shaped .centre-is), (omega (arith, here .loop-test .taken), here .before .loop .inv .1 .0))
 
 slice-aggregate-write-layer : tie.Need-slice-aggregate-write-layer Inv-loop μ-loop
 slice-aggregate-write-layer c = sym (still-long (c .before .before .before .before .before))
@@ -84,7 +84,7 @@ write-layer-requires c κs =
         b .pre .0,
         (
           (still-long filled, filled .layer-cases .ensures (b .args .neighbours .now)),
-          (here .loop-test .taken, (fits-still (l .inv .1 .1 .0) (b .pre .1 .0), l .inv .1 .1 .1)),
+          (omega (arith, here .loop-test .taken), (fits-still (l .inv .1 .1 .0) (b .pre .1 .0), l .inv .1 .1 .1)),
         ),
       ),
     )
