@@ -21,7 +21,7 @@ transition-place-requires : tie.Need-transition-place-requires
 transition-place-requires c κs =
     let b = c .before .before .before in
     let h = transition-in (c .before .at2 .given .1) (b .pre .1 .0) in
-    record { few = b .pre .0; side-is = h .side-in; u-in = h .u-in; v-in = h .v-in; reuse = rw (c .before .at2 .given .1) at (b .pre .1 .1) }
+    record { few = b .pre .0; side-is = h .side-in; u-in = omega arith; v-in = omega arith; reuse = rw (c .before .at2 .given .1) at (b .pre .1 .1) }
 
 returns : tie.Need-returns
 returns c = (rw (c .before .before .at .given .1) (c .regular-place .ensures .0), omega (arith, c .regular-place .ensures .1))
