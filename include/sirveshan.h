@@ -142,8 +142,8 @@ extern "C" {
 
 /*
  * Room that is enough for the mesh of any block with n and mask: vertices (six floats each) and triangles (three indices each).
- * Proved: at most 12 of each for a cell, of which there are n^3 regular ones and n^2 transition cells a named side (few-vertices
- * and few-triangles of Counted, in crates/algorithm/specs).
+ * Proved: at most 12 of each for a cell, of which there are n^3 regular ones and n^2 transition cells a named side (Enough, in
+ * crates/promises/specs/Promises.antt).
  */
 #define SIRVESHAN_CELLS(n, mask) ((size_t)(n) * (size_t)(n) * ((size_t)(n) + SIRVESHAN_SIDES(mask)))
 #define SIRVESHAN_MOST_VERTICES(n, mask) (12 * SIRVESHAN_CELLS(n, mask))

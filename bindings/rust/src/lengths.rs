@@ -46,12 +46,12 @@ fn cells(subdivisions: usize, mask: u8) -> usize {
     square.saturating_mul(subdivisions.saturating_add(sides))
 }
 
-/// More vertices than any such block has: twelve for each cell, as is proved (`Counted` in crates/algorithm).
+/// More vertices than any such block has: twelve for each cell, as is proved (`Enough` in crates/promises).
 pub fn most_vertices(subdivisions: usize, mask: u8) -> usize {
     cells(subdivisions, mask).saturating_mul(12)
 }
 
-/// More triangles than any such block has: twelve for each cell, as is proved (`Counted` in crates/algorithm).
+/// More triangles than any such block has: twelve for each cell, as is proved (`Enough` in crates/promises).
 pub fn most_triangles(subdivisions: usize, mask: u8) -> usize {
     cells(subdivisions, mask).saturating_mul(12)
 }

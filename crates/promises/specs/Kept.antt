@@ -7,6 +7,7 @@ use Rattle.record.specs.RoundTrip.{read-write, write-read}
 use Rattle.promises.specs.Promises.{Promises}
 use Rattle.promises.specs.Extracted.{extraction, extraction-untouched, wanted, equal-mesh, no-hole-is-left}
 use Rattle.promises.specs.Records.{reading, reading-untouched, samples-laid, writing, writing-untouched, bytes-laid}
+use Rattle.promises.specs.Room.{enough}
 use Rattle.promises.specs.Views.{point, packed-record, subdivisions-apart, blank-apart, viewer-sample}
 
 pub kept : Promises
@@ -31,5 +32,6 @@ kept =
       definition = record { mesh = equal-mesh; wanted = wanted; samples = samples-laid; bytes = bytes-laid };
       no-hole = no-hole-is-left;
       round-trips = record { read-write = read-write; write-read = write-read };
+      room = enough;
       starred = figures-agree;
     }

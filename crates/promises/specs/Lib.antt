@@ -10,4 +10,5 @@ pub mod ReadBack
 pub mod Surface
 pub mod Extracted
 pub mod Records
+pub mod Room
 pub mod Views

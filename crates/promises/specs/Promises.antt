@@ -1,10 +1,11 @@
--- What the buyer was promised, in five parts, for every input; `Kept.kept` is the theorem that all of it holds. It speaks of what the public calls
+-- What the buyer was promised, in six parts, for every input; `Kept.kept` is the theorem that all of it holds. It speaks of what the public calls
 -- answer and leave in the buffers lent to them: the model's `extract`, `readRecord`, `writeRecord`, `readPoint` and the viewer's three answers, to each of
 -- which the `ensures` of the call says that the code is equal. The words are set down in Orders (judging), Left (buffers) and closed's Clauses (no hole).
 -- Definitions only.
 use Prim.Native.Nat.{ℕ, _+_, _*_, _^_, _≤_, _<_}
 use mathlib.Core.Path.{_≡_}
 use mathlib.Core.List.{List, [], _∷_, _++_, map}
+use lib.Count.{ones}
 use lib.Dec.{T}
 use lib.IntN.{ℤ}
 use lib.Ieee as Ieee
@@ -19,6 +20,7 @@ use Rattle.model.specs.declared.Extraction.the-variants as Extraction
 use Rattle.model.specs.declared.PointRead.the-variants as PointRead
 use Rattle.model.specs.declared.RecordRead.the-variants as RecordRead
 use Rattle.model.specs.declared.RecordWritten.the-variants as RecordWritten
+use Rattle.model.specs.Limits.{mostMask}
 use Rattle.model.specs.Samples.{sampleLength, valueAt, oneUp}
 use Rattle.model.specs.Sides.{neighboursLength}
 use Rattle.model.specs.Star.{Star, subdivisions}
@@ -135,7 +137,21 @@ pub record RecordsRoundTrip : Type 0 where
       → readRecord (take k (writeRecord h centre neighbours out .bytes)) samples
       ≡ record { answer = RecordRead.Block h; samples = laid (centre ++ neighbours) samples }
 
--- ---- all, with 5: the starred figures of document 01
+-- ---- 5. room that is enough
+
+-- the cells of a block: n * n * n regular ones, and n * n transition cells a named side
+abbrev pub cellCount : ℕ → ℕ → ℕ
+cellCount n mask = n * n * (n + ones mask)
+
+abbrev pub mostOfCell : ℕ
+mostOfCell = 12
+
+-- the mesh of a block has at most twelve vertices and twelve triangles a cell
+pub record Enough (s : Star) : Type 0 where
+  pub vertices : counts s .vertices ≤ mostOfCell * cellCount (subdivisions s) (s .mask)
+  pub triangles : counts s .triangles ≤ mostOfCell * cellCount (subdivisions s) (s .mask)
+
+-- ---- all, with 6: the starred figures of document 01
 
 pub record Promises : Type 0 where
   pub every-call : EveryCallIsAnswered
@@ -143,5 +159,7 @@ pub record Promises : Type 0 where
   -- accepted, the regular part of what extraction leaves has no hole
   pub no-hole : (s : Star) (lent : Lent) (c : Counts) → answered s lent ≡ Extraction.Mesh c → NoHoleIsLeft s lent c
   pub round-trips : RecordsRoundTrip
+  -- whatever the samples are
+  pub room : (s : Star) → s .mask ≤ mostMask → Enough s
   -- what the definitions work out is what document 01 states
   pub starred : map (λ (f : Figure). f .worked) figures ≡ map (λ (f : Figure). f .stated) figures
