@@ -48,6 +48,11 @@ def damaged():
     return bytes(record)
 
 
+def setUpModule():
+    """The first call proves and builds, and says so on standard error; no test reads that one."""
+    mesh(EXAMPLES[0])
+
+
 class Listings(unittest.TestCase):
     def listed(self, done, record):
         self.assertEqual(done.stdout.decode(), reference.listing(record))
