@@ -1,16 +1,15 @@
--- Cells that are not cut: one after another, and eight at a time.
+-- Cells that are not cut: one after another, and four at a time, by the word that their numbers make.
 use Prim.Native.Nat.{ℕ, zero, suc, _+_, _-_, _*_, _%_, _≤_, _<_}
 use mathlib.Core.Path.{_≡_, refl, ap, _∙_}
-use mathlib.Core.Bool.{Bool, true, false, _||_}
-use mathlib.Core.Logic.{_⊎_, inl, inr}
+use mathlib.Core.Bool.{Bool, true, false, _||_, or-true}
 use mathlib.Core.List.{List}
 use native.Mathlib.Decide.{decLt}
 use native.Mathlib.Omega.{arith}
 use lib.Dec.{eqb}
 use lib.ListN.{getD}
-use borrow.Author.Tests.{eqb-true}
+use borrow.Author.Tests.{eqb-true, eq-eqb}
 use Rattle.cases.specs.Sheets.{rowWidth}
-use Rattle.cases.specs.Scans.{allRegular, uncut, eightOf, Uncut, Passed, NextCut}
+use Rattle.cases.specs.Scans.{uncut, fourOf, Uncut, Passed, NextCut}
 
 -- ---- one after another
 
@@ -40,57 +39,52 @@ module _ {n all : ℕ} {cases : List ℕ} where
   pub stop-at-end : {from i : ℕ} → Uncut n all cases from i → i ≤ rowWidth * n → rowWidth * n ≤ i → NextCut n all cases from i
   stop-at-end so-far low high = record { between = so-far; within = low; is-cell = λ h. absurd (let x : ⊥ = omega arith in x) }
 
--- ---- eight at a time
+-- ---- four at a time
 
-below-eight : (P : ℕ → Type 0) → P 0 → P 1 → P 2 → P 3 → P 4 → P 5 → P 6 → P 7 → (j : ℕ) → j < 8 → P j
-below-eight P a b c d e f g h zero l = a
-below-eight P a b c d e f g h (suc zero) l = b
-below-eight P a b c d e f g h (suc (suc zero)) l = c
-below-eight P a b c d e f g h (suc (suc (suc zero))) l = d
-below-eight P a b c d e f g h (suc (suc (suc (suc zero)))) l = e
-below-eight P a b c d e f g h (suc (suc (suc (suc (suc zero))))) l = f
-below-eight P a b c d e f g h (suc (suc (suc (suc (suc (suc zero)))))) l = g
-below-eight P a b c d e f g h (suc (suc (suc (suc (suc (suc (suc zero))))))) l = h
-below-eight P a b c d e f g h (suc (suc (suc (suc (suc (suc (suc (suc j)))))))) l = absurd (let x : ⊥ = omega arith in x)
+below-four : (P : ℕ → Type 0) → P 0 → P 1 → P 2 → P 3 → (j : ℕ) → j < 4 → P j
+below-four P a b c d zero l = a
+below-four P a b c d (suc zero) l = b
+below-four P a b c d (suc (suc zero)) l = c
+below-four P a b c d (suc (suc (suc zero))) l = d
+below-four P a b c d (suc (suc (suc (suc j)))) l = absurd (let x : ⊥ = omega arith in x)
 
-module _ (cases : List ℕ) (i : ℕ) where
-  abbrev byte : ℕ → ℕ
-  byte j = getD cases (i + j) 0
+-- what a place holds is below this
+abbrev limit : ℕ
+limit = 0x1_0000
 
-  all-are : (v n : ℕ) → uncut v allRegular ≡ true → ((j : ℕ) → j < 8 → byte j ≡ v) → Uncut n allRegular cases i (i + 8)
-  all-are v n e at =
+lowest : (a b x y : ℕ) → a < limit → b < limit → a + limit * x ≡ b + limit * y → (a ≡ b) × (x ≡ y)
+lowest a b x y ha hb e = (omega arith, omega arith)
+
+-- the word of one number four times
+abbrev fourTimes : ℕ → ℕ
+fourTimes v = 0x1_0001_0001_0001 * v
+
+module _ (cases : List ℕ) (i all : ℕ) (held : (k : ℕ) → getD cases k 0 < limit) where
+  abbrev number : ℕ → ℕ
+  number j = getD cases (i + j) 0
+
+  -- four numbers that make the word of one number four times are each that number
+  each-is : (v : ℕ) → v < limit → fourOf cases i ≡ fourTimes v → (j : ℕ) → j < 4 → number j ≡ v
+  each-is v small e =
+      let first : getD cases i 0 ≡ number 0 = ap (λ (k : ℕ). getD cases k 0) (omega arith) in
+      let (e0, rest) = lowest (number 0) v (number 1 + limit * number 2 + limit * limit * number 3) (0x1_0001_0001 * v) (held _) small (omega arith) in
+      let (e1, last) = lowest (number 1) v (number 2 + limit * number 3) (0x1_0001 * v) (held _) small (omega arith) in
+      let (e2, e3) = lowest (number 2) v (number 3) v (held _) small (omega arith) in
+      below-four (λ j. number j ≡ v) e0 e1 e2 e3
+
+  alike : (v n : ℕ) → v < limit → uncut v all ≡ true → fourOf cases i ≡ fourTimes v → Uncut n all cases i (i + 4)
+  alike v n small e word =
       record {
         ordered = omega arith;
         none-cut = λ k l h c.
             let q : i + (k - i) ≡ k = omega arith in
-            rw (← q) (ap (λ (case : ℕ). uncut case allRegular) (at (k - i) (omega arith)) ∙ e);
+            rw (← q) (ap (λ (case : ℕ). uncut case all) (each-is v small word (k - i) (omega arith)) ∙ e);
       }
 
-  -- a word that is 0, or full, has bytes that are
-  empty-word : getD cases i 0 ≡ byte 0 → eightOf cases i ≡ 0 → (j : ℕ) → j < 8 → byte j ≡ 0
-  empty-word first e =
-      below-eight (λ j. byte j ≡ 0) (omega arith) (omega arith) (omega arith) (omega arith) (omega arith) (omega arith) (omega arith) (omega arith)
-
-  full-word : ((k : ℕ) → getD cases k 0 < 256) → getD cases i 0 ≡ byte 0 → eightOf cases i ≡ 0xffff_ffff_ffff_ffff → (j : ℕ) → j < 8 → byte j ≡ 255
-  full-word bytes first e =
-      let b0 = bytes i in
-      let b1 = bytes (i + 1) in
-      let b2 = bytes (i + 2) in
-      let b3 = bytes (i + 3) in
-      let b4 = bytes (i + 4) in
-      let b5 = bytes (i + 5) in
-      let b6 = bytes (i + 6) in
-      let b7 = bytes (i + 7) in
-      below-eight (λ j. byte j ≡ 255) (omega arith) (omega arith) (omega arith) (omega arith) (omega arith) (omega arith) (omega arith) (omega arith)
-
-  pub eight-alike : ((k : ℕ) → getD cases k 0 < 256) → (eqb (eightOf cases i) 0 || eqb (eightOf cases i) 0xffff_ffff_ffff_ffff) ≡ true
-      → (n : ℕ) → Uncut n allRegular cases i (i + 8)
-  eight-alike bytes e n = by (eqb (eightOf cases i) 0) refl (eqb (eightOf cases i) 0xffff_ffff_ffff_ffff) refl e
+  pub four-alike : (full : ℕ) → all < limit → full ≡ fourTimes all → (eqb (fourOf cases i) 0 || eqb (fourOf cases i) full) ≡ true
+      → (n : ℕ) → Uncut n all cases i (i + 4)
+  four-alike full small is e n = by (eqb (fourOf cases i) 0) refl e
     where
-      first : getD cases i 0 ≡ byte 0
-      first = ap (λ (k : ℕ). getD cases k 0) (omega arith)
-
-      by : (p : Bool) → eqb (eightOf cases i) 0 ≡ p → (q : Bool) → eqb (eightOf cases i) 0xffff_ffff_ffff_ffff ≡ q → (p || q) ≡ true
-          → Uncut n allRegular cases i (i + 8)
-      by true ep q eq t = all-are 0 n refl (empty-word first (eqb-true (eightOf cases i) 0 ep))
-      by false ep q eq t = all-are 255 n refl (full-word bytes first (eqb-true (eightOf cases i) 0xffff_ffff_ffff_ffff (eq ∙ t)))
+      by : (p : Bool) → eqb (fourOf cases i) 0 ≡ p → (p || eqb (fourOf cases i) full) ≡ true → Uncut n all cases i (i + 4)
+      by true empty t = alike 0 n (omega arith) refl (eqb-true (fourOf cases i) 0 empty)
+      by false other t = alike all n small (rw (eq-eqb all all refl) (or-true (eqb all 0))) (eqb-true (fourOf cases i) full t ∙ is)

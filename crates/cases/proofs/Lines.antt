@@ -1,5 +1,5 @@
 -- The lines of samples at a row of regular cells, and that the cells' numbers are the model's.
-use Prim.Native.Nat.{ℕ, _+_, _-_, _*_, _^_, _≤_, _<_}
+use Prim.Native.Nat.{ℕ, _+_, _-_, _*_, _≤_, _<_}
 use mathlib.Core.Path.{_≡_, sym, ap, _∙_}
 use mathlib.Core.List.{List}
 use native.Mathlib.Nat.{add-zero}
@@ -7,13 +7,11 @@ use native.Mathlib.Omega.{arith}
 use lib.Ieee.{Float, nan}
 use lib.ListN.{getD, length, take, drop, length-take, length-drop}
 use lib.Seq.{getD-take, getD-drop}
-use Rattle.laws.specs.Steps.{total}
-use Rattle.model.specs.declared.Header.{Header}
 use Rattle.model.specs.Samples.{inBlock, sampleOf}
 use Rattle.model.specs.Rotations.{xyz}
 use Rattle.model.specs.Formulas.{insideBit}
-use Rattle.model.specs.Star.{Star, star, subdivisions}
-use Rattle.model.specs.Points.{cornerPoint, regularCase}
+use Rattle.model.specs.Star.{Star, subdivisions}
+use Rattle.model.specs.Points.{regularCase}
 use Rattle.grid.specs.Places.{sample-is}
 use Rattle.cases.specs.Sheets.{fourInside, lineCase, Line}
 
@@ -38,16 +36,13 @@ module _ (n : ℕ) (centre : List Float) (x y start end : ℕ) (hx : x ≤ n) (h
 abbrev cornerBit : Star → ℕ → ℕ → ℕ → ℕ
 cornerBit s x y z = insideBit (s .threshold) (sampleOf (subdivisions s) (s .centre) (xyz x y z))
 
-abbrev fourCorners : Star → ℕ → ℕ → ℕ → ℕ
-fourCorners s x y z = total (λ k. 2 ^ k * insideBit (s .threshold) (sampleOf (subdivisions s) (s .centre) (cornerPoint x y z k))) 4
+abbrev fourCorners : Star → ℕ → ℕ → ℕ → ℕ → ℕ
+fourCorners s x y z w =
+    w * cornerBit s x y z + 2 * w * cornerBit s (x + 1) y z + 4 * w * cornerBit s x (y + 1) z + 8 * w * cornerBit s (x + 1) (y + 1) z
 
-four-are : (s : Star) (x y z a b c d : ℕ) → a ≡ cornerBit s x y z → b ≡ cornerBit s (x + 1) y z → c ≡ cornerBit s x (y + 1) z
-    → d ≡ cornerBit s (x + 1) (y + 1) z → a + 2 * b + 4 * c + 8 * d ≡ fourCorners s x y z
-four-are s x y z a b c d ea eb ec ed = rw (ea, eb, ec, ed) (simp add-zero (omega arith))
-
-eight-are : (s : Star) (x y z low high : ℕ) → low ≡ fourCorners s x y z → high ≡ fourCorners s x y (z + 1) → low + 16 * high ≡ regularCase s x y z
+eight-are : (s : Star) (x y z : ℕ) → fourCorners s x y z 1 + fourCorners s x y (z + 1) 16 ≡ regularCase s x y z
 unfolding regularCase
-eight-are s x y z low high el eh = rw (el, eh) (simp add-zero (omega arith))
+eight-are s x y z = simp add-zero (omega arith)
 
 module _ (s : Star) (x y : ℕ) (a b c d : List Float) (la : Line (subdivisions s) (s .centre) x y a)
     (lb : Line (subdivisions s) (s .centre) (x + 1) y b) (lc : Line (subdivisions s) (s .centre) x (y + 1) c)
@@ -56,9 +51,11 @@ module _ (s : Star) (x y : ℕ) (a b c d : List Float) (la : Line (subdivisions 
       → insideBit (s .threshold) (getD line z nan) ≡ cornerBit s p q z
   bit-is p q line l z hz = ap (insideBit (s .threshold)) (l .sample-at z hz)
 
-  four-is : (z : ℕ) → z ≤ subdivisions s → fourInside (s .threshold) a b c d z ≡ fourCorners s x y z
-  four-is z hz =
-      four-are s x y z _ _ _ _ (bit-is x y a la z hz) (bit-is (x + 1) y b lb z hz) (bit-is x (y + 1) c lc z hz) (bit-is (x + 1) (y + 1) d ld z hz)
+  four-is : (z w : ℕ) → z ≤ subdivisions s → fourInside (s .threshold) a b c d z w ≡ fourCorners s x y z w
+  four-is z w hz =
+      λ i.
+      w * bit-is x y a la z hz i + 2 * w * bit-is (x + 1) y b lb z hz i + 4 * w * bit-is x (y + 1) c lc z hz i
+      + 8 * w * bit-is (x + 1) (y + 1) d ld z hz i
 
   pub case-is : (z : ℕ) → z < subdivisions s → lineCase (s .threshold) a b c d z ≡ regularCase s x y z
-  case-is z hz = eight-are s x y z _ _ (four-is z (omega arith)) (four-is (z + 1) (omega arith))
+  case-is z hz = (λ i. four-is z 1 (omega arith) i + four-is (z + 1) 16 (omega arith) i) ∙ eight-are s x y z

@@ -1,3 +1,4 @@
 pub mod Sheets
 pub mod Faces
 pub mod Scans
+pub mod Numbers

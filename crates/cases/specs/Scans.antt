@@ -35,9 +35,7 @@ pub record NextCut (n all : ℕ) (cases : List ℕ) (from next : ℕ) : Type 0 w
   pub within : next ≤ rowWidth * n
   pub is-cell : next < rowWidth * n → next % rowWidth < n
 
--- eight numbers as one word
-abbrev pub eightOf : List ℕ → ℕ → ℕ
-eightOf cases i =
-    getD cases i 0 + 0x100 * getD cases (i + 1) 0 + 0x1_0000 * getD cases (i + 2) 0 + 0x100_0000 * getD cases (i + 3) 0
-    + 0x1_0000_0000 * getD cases (i + 4) 0 + 0x100_0000_0000 * getD cases (i + 5) 0 + 0x1_0000_0000_0000 * getD cases (i + 6) 0
-    + 0x100_0000_0000_0000 * getD cases (i + 7) 0
+-- four numbers as one word
+abbrev pub fourOf : List ℕ → ℕ → ℕ
+fourOf cases i =
+    getD cases i 0 + 0x1_0000 * getD cases (i + 1) 0 + 0x1_0000_0000 * getD cases (i + 2) 0 + 0x1_0000_0000_0000 * getD cases (i + 3) 0

@@ -31,11 +31,15 @@ pub record Line (n : ℕ) (centre : List Float) (x y : ℕ) (line : List Float) 
   pub long : length line ≡ n + 1
   pub sample-at : (z : ℕ) → z ≤ n → getD line z nan ≡ sampleOf n centre (xyz x y z)
 
--- the inside bits of four lines at z, as the Rust numbers the corners
-abbrev pub fourInside : Float → List Float → List Float → List Float → List Float → ℕ → ℕ
-fourInside t a b c d z =
-    insideBit t (getD a z nan) + 2 * insideBit t (getD b z nan) + 4 * insideBit t (getD c z nan) + 8 * insideBit t (getD d z nan)
+-- what four lines add at z, as the Rust numbers the corners, the first adding w if it is inside
+abbrev pub fourInside : Float → List Float → List Float → List Float → List Float → ℕ → ℕ → ℕ
+fourInside t a b c d z w =
+    w * insideBit t (getD a z nan) + 2 * w * insideBit t (getD b z nan) + 4 * w * insideBit t (getD c z nan) + 8 * w * insideBit t (getD d z nan)
 
 -- the case number of the cell at z between four lines
 abbrev pub lineCase : Float → List Float → List Float → List Float → List Float → ℕ → ℕ
-lineCase t a b c d z = fourInside t a b c d z + 16 * fourInside t a b c d (z + 1)
+lineCase t a b c d z = fourInside t a b c d z 1 + fourInside t a b c d (z + 1) 16
+
+-- the least number in a word's top byte, where a case number is summed
+abbrev pub topByte : ℕ
+topByte = 0x100_0000

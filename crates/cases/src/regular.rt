@@ -9,27 +9,33 @@ ghost use Rattle.model.specs.Samples.{sampleLength};
 ghost use Rattle.model.specs.Formulas.{insideBit};
 ghost use Rattle.model.specs.Star.{star};
 ghost use Rattle.model.specs.Points.{regularCase};
-ghost use Rattle.cases.specs.Sheets.{rowWidth, sheetPlaces, Sheet, RowPut, Line, fourInside, lineCase};
+ghost use Rattle.cases.specs.Sheets.{rowWidth, sheetPlaces, Sheet, RowPut, Line, fourInside, lineCase, topByte};
 use crate::scan::ROW;
 use grid::voxel_blocks::in_block;
 use grid::voxel_blocks::inside;
 use model::Header;
 
-fn bit(threshold: f32, sample: f32) -> u8
-    ensures { λ r. ⌜ (r ≡ insideBit threshold sample) × (r ≤ 1) ⌝ }
+// What a cell's first corner adds. Sums in the top byte keep the compiler's lanes at thirty-two bits: lower down it narrows them, and packs
+// after each comparison.
+const TOP_BYTE: u32 = 0x100_0000;
+
+// What a sample adds if it is inside.
+fn weighed(threshold: f32, sample: f32, w: u32) -> u32
+    ensures { λ r. ⌜ (r ≡ w * insideBit threshold sample) × (r ≤ w) ⌝ }
 {
-    if inside(threshold, sample) { 1 } else { 0 }
+    if inside(threshold, sample) { w } else { 0 }
 }
 
-// The four corners at one z, as the Rust numbers them.
-fn four(threshold: f32, a: &[f32], b: &[f32], c: &[f32], d: &[f32], z: usize) -> u8
+// The four corners at one z, as the Rust numbers them, the first adding w.
+fn four(threshold: f32, a: &[f32], b: &[f32], c: &[f32], d: &[f32], z: usize, w: u32) -> u32
     requires { ⌜ (z < length (now a)) × ((z < length (now b)) × ((z < length (now c)) × (z < length (now d)))) ⌝ }
-    ensures { λ r. ⌜ (r ≡ fourInside threshold (now (a .entry)) (now (b .entry)) (now (c .entry)) (now (d .entry)) z) × (r ≤ 15) ⌝ }
+    requires { ⌜ w ≤ 16 * topByte ⌝ }
+    ensures { λ r. ⌜ (r ≡ fourInside threshold (now (a .entry)) (now (b .entry)) (now (c .entry)) (now (d .entry)) z w) × (r ≤ 15 * w) ⌝ }
 {
-    bit(threshold, a[z])
-        + 2 * bit(threshold, b[z])
-        + 4 * bit(threshold, c[z])
-        + 8 * bit(threshold, d[z])
+    weighed(threshold, a[z], w)
+        + weighed(threshold, b[z], 2 * w)
+        + weighed(threshold, c[z], 4 * w)
+        + weighed(threshold, d[z], 8 * w)
 }
 
 // The cells between four lines, their numbers from start on.
@@ -40,7 +46,7 @@ fn row_between(
     b: &[f32],
     c: &[f32],
     d: &[f32],
-    cases: &mut [u8],
+    cases: &mut [u16],
     start: usize,
 )
     requires { ⌜ (n ≤ mostSubdivisions) × (start + n ≤ length (now cases)) ⌝ }
@@ -49,9 +55,9 @@ fn row_between(
 {
     let mut z = 0;
     while z < n {
-        let low = four(threshold, a, b, c, d, z);
-        let high = four(threshold, a, b, c, d, z + 1);
-        cases[start + z] = low + 16 * high;
+        let low = four(threshold, a, b, c, d, z, TOP_BYTE);
+        let high = four(threshold, a, b, c, d, z + 1, 16 * TOP_BYTE);
+        cases[start + z] = ((low + high) / TOP_BYTE) as u16;
         z += 1;
     }
 }
@@ -67,7 +73,7 @@ fn line(n: usize, centre: &[f32], x: usize, y: usize) -> &[f32]
     &centre[start..end]
 }
 
-fn row(header: Header, centre: &[f32], x: usize, y: usize, cases: &mut [u8])
+fn row(header: Header, centre: &[f32], x: usize, y: usize, cases: &mut [u16])
     requires { ⌜ (header .block .subdivisions ≤ mostSubdivisions) × (length (now centre) ≡ sampleLength (header .block .subdivisions)) ⌝ }
     requires { ⌜ (x < header .block .subdivisions) × ((y < header .block .subdivisions) × (length (now cases) ≡ sheetPlaces)) ⌝ }
     ensures { λ _. ⌜ ((ns : List Float) → RowPut (regularCase (star header (now (centre .entry)) ns) x y) (rowWidth * y) (header .block .subdivisions) (now (cases .entry)) (now (cases .exit))) ⌝ }
@@ -81,7 +87,7 @@ fn row(header: Header, centre: &[f32], x: usize, y: usize, cases: &mut [u8])
 }
 
 // The case numbers of the cells at x.
-pub fn layer_cases(header: Header, centre: &[f32], x: usize, cases: &mut [u8])
+pub fn layer_cases(header: Header, centre: &[f32], x: usize, cases: &mut [u16])
     requires { ⌜ (header .block .subdivisions ≤ mostSubdivisions) × (length (now centre) ≡ sampleLength (header .block .subdivisions)) ⌝ }
     requires { ⌜ (x < header .block .subdivisions) × (length (now cases) ≡ sheetPlaces) ⌝ }
     ensures { λ _. ⌜ ((ns : List Float) → Sheet (regularCase (star header (now (centre .entry)) ns) x) (header .block .subdivisions) (header .block .subdivisions) (now (cases .exit))) ⌝ }

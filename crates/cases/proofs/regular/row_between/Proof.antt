@@ -1,16 +1,13 @@
 -- `regular::row_between` meets its contract. The loop's invariant: the places passed hold their cells' numbers.
 use native.Mathlib.Omega.{arith}
 use borrow.Author.Needs.{needs}
-use Prim.Native.Nat.{ℕ, _-_, _+_, _*_, _≤_}
+use Prim.Native.Nat.{_-_, _≤_}
 use mathlib.Core.Path.{_≡_, refl}
 use lib.ListN.{length, length-set}
 use Rattle.cases.specs.Sheets.{lineCase, RowPut}
 use Rattle.cases.proofs.Rows.{none-put, one-more}
 use Rattle.cases.proofs.regular.row_between.Statement.{statement}
 use Rattle.cases.proofs.regular.row_between.Tie as tie
-
-sixteens : {low high p q : ℕ} → low ≡ p → high ≡ q → low + 16 * high ≡ p + 16 * q
-sixteens e f = λ i. e i + 16 * f i
 
 abbrev Inv-loop : tie.InvT-loop
 Inv-loop n threshold a b c d cases₀ start z₀ cases z = (z ≤ n) × ((length cases ≡ length cases₀) × RowPut (lineCase threshold a b c d) start z cases₀ cases)
@@ -27,17 +24,23 @@ four-requires c κs = search needs
 add-four : tie.Need-add-four Inv-loop μ-loop
 add-four c = search needs
 
+mul-four : tie.Need-mul-four Inv-loop μ-loop
+mul-four c = search needs
+
 four-requires-2 : tie.Need-four-requires-2 Inv-loop μ-loop
 four-requires-2 c κs = search needs
-
-mul-cases : tie.Need-mul-cases Inv-loop μ-loop
-mul-cases c = search needs
 
 add-cases : tie.Need-add-cases Inv-loop μ-loop
 add-cases c = search needs
 
+cast-cases : tie.Need-cast-cases Inv-loop μ-loop
+cast-cases c = search needs
+
 add-cases-2 : tie.Need-add-cases-2 Inv-loop μ-loop
 add-cases-2 c = search needs
+
+mul-cases : tie.Need-mul-cases Inv-loop μ-loop
+mul-cases c = search needs
 
 slice-write-cases : tie.Need-slice-write-cases Inv-loop μ-loop
 slice-write-cases c = search needs
@@ -52,9 +55,8 @@ loop-again : tie.Need-loop-again Inv-loop μ-loop
 loop-again c =
     let l = c .before .before .before .loop in
     let a = c .before .before .before .before .before .before .before .before .before .args in
-    let more = one-more (lineCase (a .threshold) (a .a .now) (a .b .now) (a .c .now) (a .d .now)) (a .start) (l .z) _ (a .cases .now) (l .cases) (l .inv .1 .1) (omega arith)
-    (sixteens (c .before .four .ensures .0) (c .four2 .ensures .0)) in
-    (omega arith, (rw length-set (l .inv .1 .0), more))
+    let more = one-more _ (a .start) (l .z) _ (a .cases .now) (l .cases) (l .inv .1 .1) (omega arith) in
+    (omega arith, (rw length-set (l .inv .1 .0), more (omega (arith, c .before .four .ensures .0, c .four2 .ensures .0))))
 
 same-length : tie.Need-same-length Inv-loop μ-loop
 same-length c = omega arith
@@ -74,10 +76,12 @@ row-between-spec =
     loop-holds
     four-requires
     add-four
+    mul-four
     four-requires-2
-    mul-cases
     add-cases
+    cast-cases
     add-cases-2
+    mul-cases
     slice-write-cases
     add-z
     loop-less

@@ -3,16 +3,16 @@ use native.Mathlib.Omega.{arith}
 use borrow.Author.Needs.{needs}
 use Prim.Native.Nat.{_-_, _*_, _≤_}
 use Rattle.cases.specs.Sheets.{rowWidth}
-use Rattle.cases.specs.Scans.{allRegular, Uncut}
+use Rattle.cases.specs.Scans.{Uncut}
 use Rattle.cases.proofs.Cuts.{no-cells, more-cells, stop-here, stop-at-end}
 use Rattle.cases.proofs.scan.next_cut.Statement.{statement}
 use Rattle.cases.proofs.scan.next_cut.Tie as tie
 
 abbrev Inv-loop : tie.InvT-loop
-Inv-loop n cases from end i₀ i = (i ≤ rowWidth * n) × Uncut n allRegular cases from i
+Inv-loop n all cases from end i₀ i = (i ≤ rowWidth * n) × Uncut n all cases from i
 
 abbrev μ-loop : tie.MeasureT-loop
-μ-loop n cases from end i₀ i = rowWidth * n - i
+μ-loop n all cases from end i₀ i = rowWidth * n - i
 
 mul-end : tie.Need-mul-end Inv-loop μ-loop
 mul-end c = search needs

@@ -1,4 +1,4 @@
--- `scan::passed` meets its contract: what is passed over is beyond a row's cells, or eight places that are alike, or one cell that is not cut.
+-- `scan::passed` meets its contract: what is passed over is beyond a row's cells, or four places that are alike, or one cell that is not cut.
 use native.Mathlib.Omega.{arith}
 use mathlib.Core.Path.{sym, _∙_}
 use native.Mathlib.Nat.{add-zero}
@@ -15,13 +15,15 @@ returns c =
     let a = c .before .before .args in
     record { between = row-ends (a .i) (omega arith); within = omega arith; is-cell = λ e. omega arith }
 
-eight-uncut-requires : tie.Need-eight-uncut-requires
-eight-uncut-requires c κs = search needs
+four-uncut-requires : tie.Need-four-uncut-requires
+four-uncut-requires c κs = search needs
 
 returns-2 : tie.Need-returns-2
 returns-2 c =
-    let i = c .before .before .before .before .before .args .i in
-    record { between = c .before .eight-uncut .ensures (c .if3 .taken) _; within = omega arith; is-cell = λ e. omega arith }
+    record { between = c .before .four-uncut .ensures (c .if2 .taken) _; within = omega arith; is-cell = λ e. omega arith }
+
+mul-is-uncut : tie.Need-mul-is-uncut
+mul-is-uncut c = search needs
 
 shared-slice-read-is-uncut : tie.Need-shared-slice-read-is-uncut
 shared-slice-read-is-uncut c = search needs
@@ -31,12 +33,11 @@ is-uncut-requires c κs = search needs
 
 returns-3 : tie.Need-returns-3
 returns-3 c =
-    record { between = one-cell _ (sym (c .before .is-uncut .ensures) ∙ c .if4 .taken); within = omega arith; is-cell = λ e. omega arith }
+    record { between = one-cell _ (sym (c .before .is-uncut .ensures) ∙ c .if3 .taken); within = omega arith; is-cell = λ e. omega arith }
 
 returns-4 : tie.Need-returns-4
 returns-4 c =
-    let a = c .before .before .before .before .before .before .args in
-    record { between = rw add-zero (no-cells (a .i)); within = omega arith; is-cell = λ e. omega arith }
+    record { between = rw add-zero (no-cells _); within = omega arith; is-cell = λ e. omega arith }
 
 pub passed-spec : {M : Type 1} → statement M
 passed-spec =
@@ -44,8 +45,9 @@ passed-spec =
     (tie.spec
     sub-result
     returns
-    eight-uncut-requires
+    four-uncut-requires
     returns-2
+    mul-is-uncut
     shared-slice-read-is-uncut
     is-uncut-requires
     returns-3

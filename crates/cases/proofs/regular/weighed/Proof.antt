@@ -1,0 +1,19 @@
+-- `regular::weighed` meets its contract by what `inside` ensures.
+use mathlib.Core.Path.{sym}
+use native.Mathlib.Nat.{mul-one, mul-zero}
+use native.Mathlib.Omega.{arith}
+use borrow.Author.Needs.{needs}
+use Rattle.cases.proofs.regular.weighed.Statement.{statement}
+use Rattle.cases.proofs.regular.weighed.Tie as tie
+
+inside-requires : tie.Need-inside-requires
+inside-requires c κs = search needs
+
+returns : tie.Need-returns
+returns c = (rw (← c .before .inside .ensures, c .if1 .taken) (sym (mul-one _)), omega arith)
+
+returns-2 : tie.Need-returns-2
+returns-2 c = (rw (← c .before .inside .ensures, c .if1 .left) (sym (mul-zero _)), omega arith)
+
+pub weighed-spec : {M : Type 1} → statement M
+weighed-spec = tie.close (tie.spec inside-requires returns returns-2)
