@@ -4,20 +4,20 @@ use native.Mathlib.Nat.{add-zero}
 use native.Mathlib.Numerals.{add-one}
 use native.Mathlib.Omega.{arith}
 use mathlib.Core.Path.{_≡_, sym, subst, _∙_}
-use mathlib.Core.Bool.{true}
 use mathlib.Core.List.{List}
 use lib.ListN.{length, getD}
 use Rattle.laws.specs.Steps.{iterate}
 use Rattle.model.specs.declared.Counts.{Counts}
 use Rattle.model.specs.Limits.{mostSubdivisions, sideCount}
-use Rattle.model.specs.Sides.{named}
 use Rattle.model.specs.Star.{Star, subdivisions}
-use Rattle.model.specs.Mesh.{Cell, Mesh, emptyMesh, cellStep, regularCell, regularLayer, regularMesh, transitionCell, transitionSide, meshOf}
+use Rattle.model.specs.Mesh.{Cell, Mesh, emptyMesh, cellStep, regularLayer, regularMesh, transitionSide, meshOf}
+use Rattle.cells.specs.declared.SheetIndex.{SheetIndex}
+use Rattle.cells.specs.Sheets.{sheetCell}
 use Rattle.cells.specs.Puts.{Adds, Few}
 use Rattle.cases.specs.Sheets.{rowWidth}
 use Rattle.cases.specs.Scans.{NextCut}
-use Rattle.algorithm.specs.Passes.{plus, SheetOf, sheetTo, Grows, Counted}
-use Rattle.algorithm.proofs.Walk.{sheet-skip, sheet-cell, case-there, layer-is, side-is}
+use Rattle.algorithm.specs.Passes.{plus, SheetOf, SheetIn, wholeSheet, sheetTo, Grows, Counted}
+use Rattle.algorithm.proofs.Walk.{sheet-skip, sheet-cell, case-there, sheet-whole}
 use Rattle.algorithm.proofs.Holding.{cell-made, cell-triangles}
 
 abbrev none : Counts
@@ -83,18 +83,13 @@ module _ {cell : ℕ → ℕ → Cell} {case : ℕ → ℕ → ℕ} {all n : ℕ
       grows-as (λ m. sym (sheet-skip cell n o (i + 1) next step m) ∙ sheet-cell cell n m i is)
       (grows-then g (grows-cell _ more (adds (case-there cell n o i h is))))
 
--- a whole sheet: a layer, and a side
-sheet-grows : (cell : ℕ → ℕ → Cell) (n n′ i : ℕ) {counts : Counts} → n′ ≡ n → i ≡ rowWidth * n → Grows (λ m. sheetTo cell n m i) counts
-    → Grows (λ m. sheetTo cell n′ m (rowWidth * n′)) counts
-sheet-grows cell n n′ i {counts} e end g =
-    subst (λ (k : ℕ). Grows (λ m. sheetTo cell k m (rowWidth * k)) counts) (sym e) (subst (λ (k : ℕ). Grows (λ m. sheetTo cell n m k) counts) end g)
-
-module _ (s : Star) (n i : ℕ) {counts : Counts} (n-is : subdivisions s ≡ n) (few : n ≤ mostSubdivisions) (end : i ≡ rowWidth * n) where
-  pub layer-grows : (x : ℕ) → Grows (λ m. sheetTo (regularCell s x) n m i) counts → Grows (regularLayer s x) counts
-  layer-grows x g = grows-as (λ m. sym (layer-is s (omega arith) x m)) (sheet-grows (regularCell s x) n (subdivisions s) i n-is end g)
-
-  pub side-grows : (side : ℕ) → named (s .mask) side ≡ true → Grows (λ m. sheetTo (transitionCell s side) n m i) counts → Grows (transitionSide s side) counts
-  side-grows side h g = grows-as (λ m. sym (side-is s (omega arith) side h m)) (sheet-grows (transitionCell s side) n (subdivisions s) i n-is end g)
+-- a whole sheet
+pub sheet-grows : (s : Star) (n i : ℕ) {counts : Counts} → subdivisions s ≡ n → n ≤ mostSubdivisions → i ≡ rowWidth * n → (sheet : SheetIndex)
+    → SheetIn s sheet → Grows (λ m. sheetTo (sheetCell s sheet) n m i) counts → Grows (wholeSheet s sheet) counts
+sheet-grows s n i {counts} n-is few end sheet is g =
+    let to-end = subst (λ (k : ℕ). Grows (λ m. sheetTo (sheetCell s sheet) n m k) counts) end g in
+    grows-as (λ m. sym (sheet-whole s (omega arith) sheet is m))
+    (subst (λ (k : ℕ). Grows (λ m. sheetTo (sheetCell s sheet) k m (rowWidth * k)) counts) (sym n-is) to-end)
 
 pub counted-mesh : (s : Star) (regular transition : Counts) → Grows (iterate (regularLayer s) (subdivisions s)) regular
     → Grows (iterate (transitionSide s) sideCount) transition → Counted (meshOf s) (plus regular transition)

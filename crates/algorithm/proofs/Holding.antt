@@ -8,16 +8,23 @@ use lib.ListN.{length, replicate, length-append}
 use lib.Seq.{take-all}
 use Rattle.model.specs.declared.Counts.{Counts}
 use Rattle.laws.specs.Steps.{listed}
-use Rattle.model.specs.Star.{Star}
+use Rattle.model.specs.Star.{Star, subdivisions}
 use Rattle.model.specs.Mesh.{Cell, Mesh, fillTo, triangleOf, filled, emptyMesh, cellStep, storeLength, meshOf}
 use Rattle.model.specs.Extraction.{vertexFloats, triangleIndices}
+use Rattle.grid.specs.Shape.{Shaped}
+use Rattle.points.specs.Fractions.{Fractions}
+use Rattle.points.specs.CellPoints.{centred}
+use Rattle.cells.specs.declared.SheetIndex.{SheetIndex}
+use Rattle.cells.specs.declared.SheetIndex.the-variants.{Layer, Side}
+use Rattle.cells.specs.Kinds.{Ready as CellReady}
+use Rattle.cells.specs.Sheets.{cellAt}
 use Rattle.cells.specs.Buffers.{layVertices, layTriangles}
 use Rattle.laws.specs.Lists.{length-listed, each-append}
 use Rattle.laws.specs.Laying.{take-lay}
 use Rattle.cases.specs.Sheets.{rowWidth}
 use Rattle.cases.specs.Scans.{NextCut}
 use Rattle.cells.specs.Puts.{Room, CellPut}
-use Rattle.algorithm.specs.Passes.{SheetOf, sheetTo, Fits, Holds, SameLengths, Exact, Written}
+use Rattle.algorithm.specs.Passes.{SheetOf, SheetIn, sheetTo, Fits, Holds, SameLengths, Exact, Written}
 use Rattle.algorithm.proofs.Walk.{Upto, upto-trans, sheet-upto, sheet-skip, sheet-cell}
 
 module _ (c : Cell) (m : Mesh) where
@@ -86,6 +93,18 @@ module _ {s : Star} {c : Cell} {m : Mesh} {counts : Counts} {vertices : List Flo
       }
 
 -- ---- a sheet of cells
+
+-- each of its cells is one of the block's, and what it reads is there
+pub cell-ready : (s : Star) (fractions : List Float) → Shaped s → Fractions (subdivisions s) fractions → (sheet : SheetIndex) → SheetIn s sheet
+    → (i : ℕ) → i < rowWidth * subdivisions s → i % rowWidth < subdivisions s → CellReady s fractions (cellAt sheet (i / rowWidth) (i % rowWidth))
+cell-ready s fractions shaped are (Layer x) is i h here =
+    record { centred = centred s fractions shaped are; placed = record { x-in = is; y-in = omega arith; z-in = here }; beside = tt }
+cell-ready s fractions shaped are (Side side) is i h here =
+    record {
+      centred = centred s fractions shaped are;
+      placed = record { side-in = is .0; u-in = omega arith; v-in = here };
+      beside = record { few = shaped .few; sides = shaped .sides; side-is = is .0; is-named = is .1; neighbours-are = shaped .neighbours-are };
+    }
 
 module _ {cell : ℕ → ℕ → Cell} {case : ℕ → ℕ → ℕ} {all n : ℕ} {cases : List ℕ} (o : SheetOf cell case all n cases) (m : Mesh) where
   -- the places that a scan passes over add nothing

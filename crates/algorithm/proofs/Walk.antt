@@ -15,13 +15,17 @@ use Rattle.laws.specs.Iterated.{iterate-upto, steps-skip, placed, rows-placed}
 use Rattle.model.specs.Limits.{mostSubdivisions, sideCount}
 use Rattle.model.specs.Sides.{named}
 use Rattle.model.specs.Star.{Star, subdivisions}
-use Rattle.model.specs.Points.{regularCase, transitionCase}
 use Rattle.model.specs.Mesh.{Cell, Mesh, emptyMesh, cellStep, regularCell, regularColumn, regularLayer, regularMesh, regularTo, transitionCell, transitionRow, transitionSide, transitionTo, meshOf}
 use Rattle.grid.specs.SideLaws.{NextSide}
 use Rattle.cases.specs.Sheets.{rowWidth, Sheet}
-use Rattle.cases.specs.Scans.{allRegular, allTransition, uncut, NextCut}
+use Rattle.cases.specs.Scans.{uncut, NextCut}
+use Rattle.cells.specs.declared.SheetIndex.{SheetIndex}
+use Rattle.cells.specs.declared.SheetIndex.the-variants.{Layer, Side}
+use Rattle.cells.specs.Sheets.{sheetCell, caseAt, allOf}
+use Rattle.cells.specs.Numbers.{case-small}
+use Rattle.cells.specs.Puts.{Nothing}
 use Rattle.cells.specs.Uncut.{nothing-step, regular-nothing, transition-nothing}
-use Rattle.algorithm.specs.Passes.{SheetOf, Numbered, sheetStep, sheetTo}
+use Rattle.algorithm.specs.Passes.{SheetOf, Numbered, SheetIn, wholeSheet, sheetBefore, sheetAfter, sheetStep, sheetTo}
 
 -- ---- what a later mesh has at least
 
@@ -95,18 +99,22 @@ module _ (cell : ℕ → ℕ → Cell) (n : ℕ) where
             (o .none (i / rowWidth) (i % rowWidth)
             (ap (λ (c : ℕ). uncut c all) (sym (case-there i (omega (arith, step .within)) is)) ∙ step .between .none-cut i l h is)) m
 
-  -- and its numbers are at most what the cells' numbers are
-  pub sheet-numbered : {case : ℕ → ℕ → ℕ} {all : ℕ} {cases : List ℕ} → SheetOf cell case all n cases → ((j k : ℕ) → case j k ≤ all) → Numbered n all cases
-  sheet-numbered o small = record { number-at = λ i h is. omega (arith, case-there o i h is, small (i / rowWidth) (i % rowWidth)) }
+-- a sheet of either kind
+module _ (s : Star) (sheet : SheetIndex) (n : ℕ) (cases : List ℕ) (there : Sheet (caseAt s sheet) n n cases) where
+  pub sheet-of : SheetOf (sheetCell s sheet) (caseAt s sheet) (allOf sheet) n cases
+  sheet-of = record { none = nothing sheet; sheet = there }
+    where
+      nothing : (sheet : SheetIndex) (j k : ℕ) → uncut (caseAt s sheet j k) (allOf sheet) ≡ true → Nothing (sheetCell s sheet j k)
+      nothing (Layer x) = regular-nothing s x
+      nothing (Side side) = transition-nothing s side
 
--- the sheet of a layer, and that of a side
-module _ (s : Star) where
-  pub layer-sheet : (n x : ℕ) (cases : List ℕ) → Sheet (regularCase s x) n n cases → SheetOf (regularCell s x) (regularCase s x) allRegular n cases
-  layer-sheet n x cases sheet = record { none = regular-nothing s x; sheet = sheet }
+  pub sheet-numbered : Numbered n (allOf sheet) cases
+  sheet-numbered =
+      record { number-at = λ i h is. omega (arith, case-there (sheetCell s sheet) n sheet-of i h is, case-small s sheet (i / rowWidth) (i % rowWidth)) }
 
-  pub side-sheet : (n side : ℕ) (cases : List ℕ) → Sheet (transitionCase s side) n n cases
-      → SheetOf (transitionCell s side) (transitionCase s side) allTransition n cases
-  side-sheet n side cases sheet = record { none = transition-nothing s side; sheet = sheet }
+-- the number that a scan steps over by another name
+pub scan-as : {n all all′ from next : ℕ} {cases : List ℕ} → all ≡ all′ → NextCut n all cases from next → NextCut n all′ cases from next
+scan-as e step = rw e at step
 
 -- ---- layers and sides
 
@@ -131,31 +139,37 @@ module _ (s : Star) where
       go true = upto-iterate (transitionRow s side) (upto-row side) m 0 (subdivisions s) (omega arith)
       go false = upto-same m
 
+  -- ---- a sheet of either kind
+
+  module _ (few : subdivisions s ≤ mostSubdivisions) where
+    pub sheet-whole : (sheet : SheetIndex) → SheetIn s sheet → (m : Mesh)
+        → sheetTo (sheetCell s sheet) (subdivisions s) m (rowWidth * subdivisions s) ≡ wholeSheet s sheet m
+    unfolding regularLayer regularColumn transitionSide transitionRow
+    sheet-whole (Layer x) is m = sheet-end (regularCell s x) (subdivisions s) few m _ refl
+    sheet-whole (Side side) is m = rw (is .1) (sheet-end (transitionCell s side) (subdivisions s) few m _ refl)
+
+    pub sheet-after : (sheet : SheetIndex) → SheetIn s sheet
+        → sheetTo (sheetCell s sheet) (subdivisions s) (sheetBefore s sheet) (rowWidth * subdivisions s) ≡ sheetAfter s sheet
+    unfolding regularTo transitionTo
+    sheet-after (Layer x) is = rw add-one (sheet-whole (Layer x) is (iterate (regularLayer s) x (emptyMesh (subdivisions s))))
+    sheet-after (Side side) is = rw add-one (sheet-whole (Side side) is (iterate (transitionSide s) side (regularMesh s)))
+
+  pub after-upto : (sheet : SheetIndex) → SheetIn s sheet → Upto (sheetAfter s sheet) (meshOf s)
+  unfolding regularTo transitionTo regularMesh meshOf
+  after-upto (Layer x) is =
+      rw add-one
+      (upto-trans (upto-iterate (regularLayer s) upto-layer _ (suc x) (subdivisions s) is) (upto-iterate (transitionSide s) upto-side _ 0 sideCount (omega arith)))
+  after-upto (Side side) is = rw add-one (upto-iterate (transitionSide s) upto-side _ (suc side) sideCount (is .0))
+
   -- ---- regular cells
 
   pub regular-start : regularTo s 0 0 0 ≡ emptyMesh (subdivisions s)
   unfolding regularTo
   regular-start = refl
 
-  pub layer-is : subdivisions s ≤ mostSubdivisions → (x : ℕ) (m : Mesh)
-      → sheetTo (regularCell s x) (subdivisions s) m (rowWidth * subdivisions s) ≡ regularLayer s x m
-  unfolding regularLayer regularColumn
-  layer-is few x m = sheet-end (regularCell s x) (subdivisions s) few m _ refl
-
-  pub regular-layer : subdivisions s ≤ mostSubdivisions → (x : ℕ)
-      → sheetTo (regularCell s x) (subdivisions s) (regularTo s x 0 0) (rowWidth * subdivisions s) ≡ regularTo s (x + 1) 0 0
-  unfolding regularTo
-  regular-layer few x = rw add-one (layer-is few x (iterate (regularLayer s) x (emptyMesh (subdivisions s))))
-
   pub regular-end : (x : ℕ) → x ≡ subdivisions s → regularTo s x 0 0 ≡ regularMesh s
   unfolding regularTo regularMesh
   regular-end x e = rw e
-
-  pub layer-upto : (x : ℕ) → x < subdivisions s → Upto (regularTo s (x + 1) 0 0) (meshOf s)
-  unfolding regularTo regularMesh meshOf
-  layer-upto x h =
-      rw add-one
-      (upto-trans (upto-iterate (regularLayer s) upto-layer _ (suc x) (subdivisions s) h) (upto-iterate (transitionSide s) upto-side _ 0 sideCount (omega arith)))
 
   -- ---- transition cells
 
@@ -163,23 +177,9 @@ module _ (s : Star) where
   unfolding transitionTo
   transition-start = refl
 
-  pub side-is : subdivisions s ≤ mostSubdivisions → (side : ℕ) → named (s .mask) side ≡ true → (m : Mesh)
-      → sheetTo (transitionCell s side) (subdivisions s) m (rowWidth * subdivisions s) ≡ transitionSide s side m
-  unfolding transitionSide transitionRow
-  side-is few side h m = rw h (sheet-end (transitionCell s side) (subdivisions s) few m _ refl)
-
-  pub transition-side : subdivisions s ≤ mostSubdivisions → (side : ℕ) → named (s .mask) side ≡ true
-      → sheetTo (transitionCell s side) (subdivisions s) (transitionTo s side 0 0) (rowWidth * subdivisions s) ≡ transitionTo s (side + 1) 0 0
-  unfolding transitionTo
-  transition-side few side h = rw add-one (side-is few side h (iterate (transitionSide s) side (regularMesh s)))
-
   pub transition-end : (side : ℕ) → side ≡ sideCount → transitionTo s side 0 0 ≡ meshOf s
   unfolding transitionTo meshOf
   transition-end side e = rw e
-
-  pub side-upto : (side : ℕ) → side < sideCount → Upto (transitionTo s (side + 1) 0 0) (meshOf s)
-  unfolding transitionTo meshOf
-  side-upto side h = rw add-one (upto-iterate (transitionSide s) upto-side _ (suc side) sideCount h)
 
   -- sides that are not named are stepped over
   side-unnamed : (side : ℕ) → named (s .mask) side ≡ false → (m : Mesh) → transitionSide s side m ≡ m

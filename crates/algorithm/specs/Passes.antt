@@ -13,13 +13,15 @@ use Rattle.laws.specs.Steps.{iterate, each}
 use Rattle.laws.specs.Iterated.{placed}
 use Rattle.model.specs.Refusals.{orElse}
 use Rattle.model.specs.Limits.{mostSubdivisions, mostMask, sideCount}
-use Rattle.model.specs.Sides.{neighboursLength}
+use Rattle.model.specs.Sides.{named, neighboursLength}
 use Rattle.model.specs.Star.{Star, subdivisions}
-use Rattle.model.specs.Mesh.{Cell, Mesh, cellStep, storeLength, meshOf}
+use Rattle.model.specs.Mesh.{Cell, Mesh, cellStep, storeLength, regularLayer, regularTo, transitionSide, transitionTo, meshOf}
 use Rattle.model.specs.Judging.{judgeFaces, judgeStore, judgeRoom, judgeStar}
 use Rattle.model.specs.Extraction.{vertexFloats, triangleIndices, Outcome, outcome}
 use Rattle.cases.specs.Sheets.{rowWidth, sheetPlaces, Sheet}
 use Rattle.cases.specs.Scans.{uncut}
+use Rattle.cells.specs.declared.SheetIndex.{SheetIndex}
+use Rattle.cells.specs.declared.SheetIndex.the-variants.{Layer, Side}
 use Rattle.cells.specs.Puts.{Room, Nothing}
 
 -- 1 to 9, in that order
@@ -54,6 +56,26 @@ pub record SidesThere (h : Header) (neighbours : List Float) : Type 0 where
   pub few : h .block .subdivisions ≤ mostSubdivisions
   pub sides : h .mask ≤ mostMask
   pub neighbours-are : length neighbours ≡ neighboursLength (h .block .subdivisions) (h .mask)
+
+-- ---- a sheet of cells
+
+-- it is one of the block's layers, or of its named sides
+abbrev pub SheetIn : Star → SheetIndex → Type 0
+SheetIn s (Layer x) = x < subdivisions s
+SheetIn s (Side side) = (side < sideCount) × (named (s .mask) side ≡ true)
+
+-- the steps of all its cells, and the mesh before them and after them
+abbrev pub wholeSheet : Star → SheetIndex → Mesh → Mesh
+wholeSheet s (Layer x) = regularLayer s x
+wholeSheet s (Side side) = transitionSide s side
+
+abbrev pub sheetBefore : Star → SheetIndex → Mesh
+sheetBefore s (Layer x) = regularTo s x 0 0
+sheetBefore s (Side side) = transitionTo s side 0 0
+
+abbrev pub sheetAfter : Star → SheetIndex → Mesh
+sheetAfter s (Layer x) = regularTo s (x + 1) 0 0
+sheetAfter s (Side side) = transitionTo s (side + 1) 0 0
 
 -- place i of a sheet of cells: the cell there takes its step, if there is one
 abbrev pub sheetStep : (ℕ → ℕ → Cell) → ℕ → ℕ → Mesh → Mesh

@@ -1,34 +1,27 @@
-// The writing pass: the mesh into the lent buffers, cell by cell in document 01's order. For each kind of cell one loop over the sheets,
-// and one over a sheet's cells that are cut.
+// The writing pass: the mesh into the lent buffers, cell by cell in document 01's order. Each kind of cell has a loop over its
+// sheets; that over a sheet's cells that are cut serves both.
 ghost use mathlib.Core.Path.{_≡_};
-ghost use mathlib.Core.Bool.{true};
-ghost use Prim.Native.Nat.{_+_, _<_};
 ghost use lib.ListN.{length, replicate};
-ghost use Rattle.model.specs.Limits.{sideCount};
-ghost use Rattle.model.specs.Sides.{named};
 ghost use Rattle.model.specs.Star.{star};
-ghost use Rattle.model.specs.Points.{regularCase, transitionCase};
-ghost use Rattle.model.specs.Mesh.{storeLength, regularMesh, regularTo, transitionTo, meshOf};
+ghost use Rattle.model.specs.Mesh.{storeLength, regularMesh, meshOf};
 ghost use Rattle.grid.specs.Shape.{Shaped};
 ghost use Rattle.points.specs.Fractions.{Fractions};
 ghost use Rattle.cases.specs.Sheets.{sheetPlaces, Sheet};
-ghost use Rattle.cells.specs.Rows.{RegularTables, TransitionTables};
-ghost use Rattle.algorithm.specs.Passes.{Fits, Holds, Exact, Written};
+ghost use Rattle.cells.specs.Sheets.{caseAt, Tables};
+ghost use Rattle.algorithm.specs.Passes.{SheetIn, sheetBefore, sheetAfter, Fits, Holds, Exact, Written};
 use crate::NONE;
 use cases::regular::layer_cases;
 use cases::scan::ROW;
 use cases::scan::SHEET;
 use cases::scan::next_cut;
-use cases::scan::next_cut_fine;
 use cases::transition::face_cases;
-use cells::regular_cells::write_regular_cell;
-use cells::transition_cells::write_transition_cell;
+use cells::SheetIndex;
+use cells::sheet_cells::all_inside;
+use cells::sheet_cells::write_sheet_cell;
 use grid::transition_sides::SIDES;
 use grid::transition_sides::next_side;
 use model::Counts;
-use model::FacePoint;
 use model::Header;
-use model::Xyz;
 use points::fractions::FRACTIONS;
 use points::fractions::fractions_of;
 use tables::regular_cell_class;
@@ -38,55 +31,53 @@ use tables::transition_cell_class;
 use tables::transition_cell_data;
 use tables::transition_vertex_data;
 
-// The layer of cells at x.
-fn write_layer(
+// The cells of a sheet.
+fn write_sheet(
     header: Header,
     fractions: &[f32; FRACTIONS],
     centre: &[f32],
     neighbours: &[f32],
-    classes: &[u8; 256],
-    cells: &[u8; 256],
-    codes: &[u16; 3072],
-    cases: &[u8],
-    x: usize,
+    sheet: SheetIndex,
+    classes: &[u8],
+    cells: &[u8],
+    codes: &[u16],
+    cases: &[u16],
     mut counts: Counts,
     store: &mut [u32],
     vertices: &mut [f32],
     triangles: &mut [u32],
 ) -> Counts
-    requires { ⌜ RegularTables (now classes) (now cells) (now codes) ⌝ }
+    requires { ⌜ Tables sheet (now classes) (now cells) (now codes) ⌝ }
     requires { ⌜ Shaped (star header (now centre) (now neighbours)) × Fractions (header .block .subdivisions) (now fractions) ⌝ }
-    requires { ⌜ (length (now cases) ≡ sheetPlaces) × Sheet (regularCase (star header (now centre) (now neighbours)) x) (header .block .subdivisions) (header .block .subdivisions) (now cases) ⌝ }
-    requires { ⌜ x < header .block .subdivisions ⌝ }
+    requires { ⌜ (length (now cases) ≡ sheetPlaces) × Sheet (caseAt (star header (now centre) (now neighbours)) sheet) (header .block .subdivisions) (header .block .subdivisions) (now cases) ⌝ }
+    requires { ⌜ SheetIn (star header (now centre) (now neighbours)) sheet ⌝ }
     requires { ⌜ Fits (star header (now centre) (now neighbours)) (now vertices) (now triangles) (now store) ⌝ }
-    requires { ⌜ Holds (regularTo (star header (now centre) (now neighbours)) x 0 0) counts (now vertices) (now triangles) (now store) ⌝ }
-    ensures { λ r. ⌜ Holds (regularTo (star header (now (centre .entry)) (now (neighbours .entry))) (x + 1) 0 0) r (now (vertices .exit)) (now (triangles .exit)) (now (store .exit)) ⌝ }
+    requires { ⌜ Holds (sheetBefore (star header (now centre) (now neighbours)) sheet) counts (now vertices) (now triangles) (now store) ⌝ }
+    ensures { λ r. ⌜ Holds (sheetAfter (star header (now (centre .entry)) (now (neighbours .entry))) sheet) r (now (vertices .exit)) (now (triangles .exit)) (now (store .exit)) ⌝ }
 {
     let n = header.block.subdivisions;
+    let all = all_inside(sheet);
     let end = ROW * n;
-    let mut i = next_cut(n, cases, 0);
+    let mut i = next_cut(n, all, cases, 0);
     while i < end {
-        let at = Xyz {
-            x,
-            y: i / ROW,
-            z: i % ROW,
-        };
-        counts = write_regular_cell(
+        counts = write_sheet_cell(
             header,
             fractions,
             centre,
             neighbours,
+            sheet,
             classes,
             cells,
             codes,
             cases[i],
-            at,
+            i / ROW,
+            i % ROW,
             counts,
             store,
             vertices,
             triangles,
         );
-        i = next_cut(n, cases, i + 1);
+        i = next_cut(n, all, cases, i + 1);
     }
     counts
 }
@@ -109,80 +100,27 @@ fn write_regular_cells(
     let classes = regular_cell_class();
     let cells = regular_cell_data();
     let codes = regular_vertex_data();
-    let mut cases = [0u8; SHEET];
+    let mut cases = [0u16; SHEET];
     let mut counts = NONE;
     let mut x = 0;
     while x < n {
         layer_cases(header, centre, x, &mut cases);
-        counts = write_layer(
+        counts = write_sheet(
             header,
             fractions,
             centre,
             neighbours,
+            SheetIndex::Layer(x),
             &classes,
             &cells,
             &codes,
             &cases,
-            x,
             counts,
             store,
             vertices,
             triangles,
         );
         x += 1;
-    }
-    counts
-}
-
-// The cells of a named side.
-fn write_side(
-    header: Header,
-    fractions: &[f32; FRACTIONS],
-    centre: &[f32],
-    neighbours: &[f32],
-    classes: &[u8; 512],
-    cells: &[u8; 2072],
-    codes: &[u16; 6144],
-    cases: &[u16],
-    side: usize,
-    mut counts: Counts,
-    store: &mut [u32],
-    vertices: &mut [f32],
-    triangles: &mut [u32],
-) -> Counts
-    requires { ⌜ TransitionTables (now classes) (now cells) (now codes) ⌝ }
-    requires { ⌜ Shaped (star header (now centre) (now neighbours)) × Fractions (header .block .subdivisions) (now fractions) ⌝ }
-    requires { ⌜ (length (now cases) ≡ sheetPlaces) × Sheet (transitionCase (star header (now centre) (now neighbours)) side) (header .block .subdivisions) (header .block .subdivisions) (now cases) ⌝ }
-    requires { ⌜ (side < sideCount) × (named (header .mask) side ≡ true) ⌝ }
-    requires { ⌜ Fits (star header (now centre) (now neighbours)) (now vertices) (now triangles) (now store) ⌝ }
-    requires { ⌜ Holds (transitionTo (star header (now centre) (now neighbours)) side 0 0) counts (now vertices) (now triangles) (now store) ⌝ }
-    ensures { λ r. ⌜ Holds (transitionTo (star header (now (centre .entry)) (now (neighbours .entry))) (side + 1) 0 0) r (now (vertices .exit)) (now (triangles .exit)) (now (store .exit)) ⌝ }
-{
-    let n = header.block.subdivisions;
-    let places = ROW * n;
-    let mut i = next_cut_fine(n, cases, 0);
-    while i < places {
-        let at = FacePoint {
-            side,
-            u: i / ROW,
-            v: i % ROW,
-        };
-        counts = write_transition_cell(
-            header,
-            fractions,
-            centre,
-            neighbours,
-            classes,
-            cells,
-            codes,
-            cases[i],
-            at,
-            counts,
-            store,
-            vertices,
-            triangles,
-        );
-        i = next_cut_fine(n, cases, i + 1);
     }
     counts
 }
@@ -210,16 +148,16 @@ fn write_named_sides(
     let mut side = next_side(mask, 0);
     while side < SIDES {
         face_cases(header, neighbours, side, &mut cases);
-        counts = write_side(
+        counts = write_sheet(
             header,
             fractions,
             centre,
             neighbours,
+            SheetIndex::Side(side),
             &classes,
             &cells,
             &codes,
             &cases,
-            side,
             counts,
             store,
             vertices,

@@ -1,7 +1,7 @@
 -- A cell by its case: the rows of the tables describe it, and they can be followed.
 use Prim.Native.Nat.{ℕ, _+_, _*_, _≤_, _<_}
 use mathlib.Core.Path.{_≡_}
-use mathlib.Core.Bool.{Bool, false}
+use mathlib.Core.Bool.{Bool}
 use mathlib.Core.List.{List}
 use native.Mathlib.Omega.{arith}
 use lib.Ieee.{Float}
@@ -14,16 +14,15 @@ use Rattle.tables.specs.Cases.{transitionCodes, transitionCode, transitionVerti
 use Rattle.tables.specs.RulesCorners.{CellRight, regular-cell-right, regular-class-small, transition-cell-right, transition-class-small}
 use Rattle.tables.specs.RulesSlots.{regular-code-right}
 use Rattle.tables.specs.RulesBorder.{transition-code-right}
-use Rattle.model.specs.declared.Xyz.{Xyz}
-use Rattle.model.specs.declared.FacePoint.{FacePoint}
 use Rattle.model.specs.Star.{Star}
-use Rattle.model.specs.Points.{regularCase, transitionCase}
 use Rattle.model.specs.Mesh.{Cell, fillTo, regularCell, transitionCell}
 use Rattle.cells.specs.declared.CellIndex.{CellIndex}
-use Rattle.cells.specs.declared.CellIndex.the-variants.{Regular, Transition}
+use Rattle.cells.specs.declared.SheetIndex.{SheetIndex}
+use Rattle.cells.specs.declared.SheetIndex.the-variants.{Layer, Side}
 use Rattle.cells.specs.Puts.{Room, CellPut, Adds}
 use Rattle.cells.specs.Rows.{Followed}
 use Rattle.cells.specs.Kinds.{Usable, cellOf, Coded}
+use Rattle.cells.specs.Sheets.{cellAt, sheetCell, caseAt, allOf, codesOf, rowOf, turnedOf}
 
 -- ---- the same cell under two names
 
@@ -61,55 +60,48 @@ coded : (at : CellIndex) (codes : List ℕ) (count : ℕ) → length codes ≡ 1
     → ((i : ℕ) → i < count → Usable at (getD codes i 0)) → Coded at codes count
 coded at codes count long few usable = record { there = omega arith; usable = usable }
 
--- ---- regular cells
+regular-right : (case : ℕ) → case < 256 → Right 5 (regularRow case)
+unfolding regularVertices regularTriangles regularCorner
+regular-right case small = regular-cell-right case small
 
-module _ (case : ℕ) (small : case < 256) (codes row : List ℕ) (codes-are : codes ≡ regularCodes case) (row-is : row ≡ regularRow case) where
-  regular-right : Right 5 (regularRow case)
-  unfolding regularVertices regularTriangles regularCorner
-  regular-right = regular-cell-right case small
+transition-right : (case : ℕ) → case < 512 → Right 12 (transitionRow case)
+unfolding transitionVertices transitionTriangles transitionCorner
+transition-right case small = transition-cell-right case small
 
-  pub regular-followed : Followed row
-  regular-followed =
-      let long = regular-cell-long case (regular-class-small case small) in
-      rw row-is (followed 5 (regularRow case) (omega arith) (omega arith) regular-right)
+-- ---- a sheet's cells
 
-  pub regular-coded : (at : Xyz) → Coded (Regular at) codes (verticesOf row)
-  unfolding regularCode regularVertices
-  regular-coded at =
-      rw (codes-are, row-is)
-      (coded (Regular at) (regularCodes case) (verticesOf (regularRow case)) (regular-codes-long case small) (regular-right .vertices-most)
-      (λ i h.
-      let r = regular-code-right case i small h in
-      record { a-in = r .a-small; b-in = r .b-small; index-in = r .index-small }))
+-- the row of a case can be followed
+pub sheet-followed : (sheet : SheetIndex) (case : ℕ) (row : List ℕ) → case ≤ allOf sheet → row ≡ rowOf sheet case → Followed row
+sheet-followed (Layer x) case row small row-is =
+    let below : case < 256 = omega arith in
+    let long = regular-cell-long case (regular-class-small case below) in
+    rw row-is (followed 5 (regularRow case) (omega arith) (omega arith) (regular-right case below))
+sheet-followed (Side side) case row small row-is =
+    let below : case < 512 = omega arith in
+    let long = transition-cell-long case (transition-class-small case below) in
+    rw row-is (followed 12 (transitionRow case) (omega arith) (omega arith) (transition-right case below))
 
-  pub regular-is : (s : Star) (at : Xyz) → case ≡ regularCase s (at .x) (at .y) (at .z)
-      → cellOf s (Regular at) codes row false ≡ regularCell s (at .x) (at .y) (at .z)
-  unfolding regularCell regularCode regularVertices regularTriangles regularCorner
-  regular-is s at e = rw (codes-are, row-is, e)
+-- and so can its codes
+pub sheet-coded : (sheet : SheetIndex) (case : ℕ) (codes row : List ℕ) → case ≤ allOf sheet → codes ≡ codesOf sheet case → row ≡ rowOf sheet case
+    → (u v : ℕ) (at : CellIndex) → at ≡ cellAt sheet u v → Coded at codes (verticesOf row)
+unfolding regularCode regularVertices transitionCode transitionVertices
+sheet-coded (Layer x) case codes row small codes-are row-is u v at at-is =
+    let below : case < 256 = omega arith in
+    rw (at-is, codes-are, row-is)
+    (coded (cellAt (Layer x) u v) (regularCodes case) (verticesOf (regularRow case)) (regular-codes-long case below)
+    (regular-right case below .vertices-most)
+    (λ i h. let r = regular-code-right case i below h in record { a-in = r .a-small; b-in = r .b-small; index-in = r .index-small }))
+sheet-coded (Side side) case codes row small codes-are row-is u v at at-is =
+    let below : case < 512 = omega arith in
+    rw (at-is, codes-are, row-is)
+    (coded (cellAt (Side side) u v) (transitionCodes case) (verticesOf (transitionRow case)) (transition-codes-long case below)
+    (transition-right case below .vertices-most)
+    (λ i h. let r = transition-code-right case i below h in record { a-in = r .a-small; b-in = r .b-small; index-in = r .index-small }))
 
--- ---- transition cells
-
-module _ (case : ℕ) (small : case < 512) (codes row : List ℕ) (codes-are : codes ≡ transitionCodes case) (row-is : row ≡ transitionRow case) where
-  transition-right : Right 12 (transitionRow case)
-  unfolding transitionVertices transitionTriangles transitionCorner
-  transition-right = transition-cell-right case small
-
-  pub transition-followed : Followed row
-  transition-followed =
-      let long = transition-cell-long case (transition-class-small case small) in
-      rw row-is (followed 12 (transitionRow case) (omega arith) (omega arith) transition-right)
-
-  pub transition-coded : (at : FacePoint) → Coded (Transition at) codes (verticesOf row)
-  unfolding transitionCode transitionVertices
-  transition-coded at =
-      rw (codes-are, row-is)
-      (coded (Transition at) (transitionCodes case) (verticesOf (transitionRow case)) (transition-codes-long case small)
-      (transition-right .vertices-most)
-      (λ i h.
-      let r = transition-code-right case i small h in
-      record { a-in = r .a-small; b-in = r .b-small; index-in = r .index-small }))
-
-  pub transition-is : (s : Star) (at : FacePoint) (turned : Bool) → case ≡ transitionCase s (at .side) (at .u) (at .v) → turned ≡ transitionTurned case
-      → cellOf s (Transition at) codes row turned ≡ transitionCell s (at .side) (at .u) (at .v)
-  unfolding transitionCell transitionCode transitionVertices transitionTriangles transitionCorner
-  transition-is s at turned e t = rw (codes-are, row-is, t, e)
+-- the rows describe the cell
+pub sheet-is : (sheet : SheetIndex) (case : ℕ) (codes row : List ℕ) (turned : Bool) → codes ≡ codesOf sheet case → row ≡ rowOf sheet case
+    → turned ≡ turnedOf sheet case → (s : Star) (u v : ℕ) → case ≡ caseAt s sheet u v
+    → (at : CellIndex) → at ≡ cellAt sheet u v → cellOf s at codes row turned ≡ sheetCell s sheet u v
+unfolding regularCell regularCode regularVertices regularTriangles regularCorner transitionCell transitionCode transitionVertices transitionTriangles transitionCorner
+sheet-is (Layer x) case codes row turned codes-are row-is turned-is s u v e at at-is = rw (at-is, codes-are, row-is, turned-is, e)
+sheet-is (Side side) case codes row turned codes-are row-is turned-is s u v e at at-is = rw (at-is, codes-are, row-is, turned-is, e)

@@ -1,11 +1,11 @@
 -- Regular cells that touch no low face of the block: no step back leaves it, so that just the new codes make vertices, and how many those are
 -- depends on the case alone.
 use Prim.Native.Nat.{ℕ, zero, suc, _+_, _≤_, _<_}
-use mathlib.Core.Path.{_≡_, refl, sym, ap₂, _∙_}
+use mathlib.Core.Path.{_≡_, refl, sym, ap, ap₂, _∙_}
 use mathlib.Core.Bool.{Bool, true, false, cond, _&&_, _||_}
 use mathlib.Core.List.{List}
 use native.Mathlib.Omega.{arith}
-use borrow.Author.Tests.{le-ltb}
+use borrow.Author.Tests.{le-ltb, ltb-true}
 use lib.Dec.{eqb}
 use lib.ListN.{getD}
 use Rattle.tables.specs.Codes.{stepX, stepY, stepZ, isNew}
@@ -16,16 +16,18 @@ use Rattle.tables.specs.RulesSlots.{crossedAtTop, new-codes}
 use Rattle.laws.specs.Steps.{total}
 use Rattle.model.specs.declared.Xyz.{Xyz}
 use Rattle.model.specs.Star.{Star}
-use Rattle.model.specs.Points.{regularCase}
-use Rattle.model.specs.Mesh.{regularLeaves, regularCell}
+use Rattle.model.specs.Mesh.{regularLeaves}
 use Rattle.cells.specs.declared.CellIndex.the-variants.{Regular}
+use Rattle.cells.specs.declared.SheetIndex.{SheetIndex}
+use Rattle.cells.specs.declared.SheetIndex.the-variants.{Layer, Side}
 use Rattle.cells.specs.Fills.{made-total}
 use Rattle.cells.specs.Kinds.{makesAt, cellOf}
 use Rattle.cells.specs.Puts.{Adds}
-use Rattle.cells.proofs.ByCase.{adds-as, regular-is}
+use Rattle.cells.specs.Sheets.{cellAt, sheetCell, caseAt, allOf, rowOf, awayFromLow}
+use Rattle.cells.proofs.ByCase.{adds-as, sheet-is}
 use Rattle.cells.proofs.Uses.{use-count}
 
-pub all-three : (a b c : Bool) → a && (b && c) ≡ true → (a ≡ true) × ((b ≡ true) × (c ≡ true))
+all-three : (a b c : Bool) → a && (b && c) ≡ true → (a ≡ true) × ((b ≡ true) × (c ≡ true))
 all-three true true c e = (refl, (refl, e))
 all-three true false c e = (refl, (e, cc))
 all-three false b c e = (e, (cc, cc))
@@ -50,18 +52,33 @@ module _ (at : Xyz) (hx : 0 < at .x) (hy : 0 < at .y) (hz : 0 < at .z) where
   made-new code zero = refl
   made-new code (suc k) = ap₂ (λ (a b : ℕ). a + b) (made-new code k) (rw (makes-new (code k)) (one-is (eqb (isNew (code k)) 1)))
 
-  module _ (case : ℕ) (small : case < 256) (codes row : List ℕ) (codes-are : codes ≡ regularCodes case) (row-is : row ≡ regularRow case)
-      (s : Star) (is : case ≡ regularCase s (at .x) (at .y) (at .z)) (dv dt : ℕ) (dv-is : dv ≡ crossedAtTop case) (dt-is : dt ≡ trianglesOf row) where
-    counted : total (λ i. cond (makesAt (Regular at) (getD codes i 0)) 1 0) (verticesOf row) ≡ dv
-    unfolding regularCode regularVertices
-    counted = rw (codes-are, row-is) (made-new (λ i. getD (regularCodes case) i 0) (verticesOf (regularRow case)) ∙ new-codes case small ∙ sym dv-is)
+  counted : (case : ℕ) → case < 256 → total (λ i. cond (makesAt (Regular at) (regularCode case i)) 1 0) (regularVertices case) ≡ crossedAtTop case
+  counted case small = made-new (regularCode case) (regularVertices case) ∙ new-codes case small
 
-    pub inside-adds : Adds (regularCell s (at .x) (at .y) (at .z)) dv dt
-    inside-adds =
-        adds-as (regular-is case small codes row codes-are row-is s at is)
-        (record {
-          vertices = λ base store.
-              made-total (cellOf s (Regular at) codes row false) (λ i. cond (makesAt (Regular at) (getD codes i 0)) 1 0) (λ i. use-count s (Regular at) (getD codes i 0)) base store (verticesOf row)
-              ∙ counted;
-          triangles = sym dt-is;
-        })
+none : false ≡ true → ⊥
+none e = let n : _≡_ {A = ℕ} 0 1 = ap (λ (b : Bool). cond b 1 0) e in let x : ⊥ = omega arith in x
+
+-- a cell of a sheet that is one of these has one of the regular cases
+pub away-small : (sheet : SheetIndex) (u v case : ℕ) → case ≤ allOf sheet → awayFromLow (cellAt sheet u v) ≡ true → case < 256
+away-small (Layer x) u v case small away = omega arith
+away-small (Side side) u v case small away = absurd (none away)
+
+-- what it adds
+pub away-adds : (sheet : SheetIndex) (u v case : ℕ) → awayFromLow (cellAt sheet u v) ≡ true → case ≤ allOf sheet
+    → (s : Star) → case ≡ caseAt s sheet u v → (dv dt : ℕ) → dv ≡ crossedAtTop case → dt ≡ trianglesOf (rowOf sheet case)
+    → Adds (sheetCell s sheet u v) dv dt
+unfolding regularCode regularVertices
+away-adds (Layer x) u v case away small s is dv dt dv-is dt-is =
+    let tests = all-three _ _ _ away in
+    let at : Xyz = record { x = x; y = u; z = v } in
+    let codes = regularCodes case in
+    let row = regularRow case in
+    adds-as (sheet-is (Layer x) case codes row false refl refl refl s u v is (Regular at) refl)
+    (record {
+      vertices = λ base store.
+          made-total (cellOf s (Regular at) codes row false) (λ i. cond (makesAt (Regular at) (getD codes i 0)) 1 0) (λ i. use-count s (Regular at) (getD codes i 0)) base store (verticesOf row)
+          ∙ counted at (ltb-true _ _ (tests .0)) (ltb-true _ _ (tests .1 .0)) (ltb-true _ _ (tests .1 .1)) case (omega arith)
+          ∙ sym dv-is;
+      triangles = sym dt-is;
+    })
+away-adds (Side side) u v case away small s is dv dt dv-is dt-is = absurd (none away)

@@ -1,20 +1,11 @@
--- The case number of a transition cell is one of the table's.
-use Prim.Native.Nat.{ℕ, _+_, _*_, _/_, _%_, _≤_}
-use mathlib.Core.Bool.{Bool, true, false, cond}
-use native.Mathlib.Omega.{arith}
-use Rattle.model.specs.Formulas.{inside, insideBit}
+-- The case number of a sheet's cell is one of its table's.
+use Prim.Native.Nat.{ℕ, _≤_}
 use Rattle.model.specs.Star.{Star}
-use Rattle.model.specs.Points.{fineSample, transitionCase}
-use Rattle.cases.specs.Scans.{allTransition}
+use Rattle.cases.specs.Numbers.{regular-case-small, transition-case-small}
+use Rattle.cells.specs.declared.SheetIndex.{SheetIndex}
+use Rattle.cells.specs.declared.SheetIndex.the-variants.{Layer, Side}
+use Rattle.cells.specs.Sheets.{caseAt, allOf}
 
-inside-small : (b : Bool) → cond b 1 0 ≤ 1
-inside-small true = omega arith
-inside-small false = omega arith
-
--- the nine contributions add up to 511
-pub transition-case-small : (s : Star) (side u v : ℕ) → transitionCase s side u v ≤ allTransition
-unfolding transitionCase
-transition-case-small s side u v =
-    let bit : (k : ℕ) → insideBit (s .threshold) (fineSample s side (2 * u + k % 3) (2 * v + k / 3)) ≤ 1 =
-    λ k. inside-small (inside (s .threshold) (fineSample s side (2 * u + k % 3) (2 * v + k / 3))) in
-    omega (arith, bit 0, bit 1, bit 2, bit 3, bit 4, bit 5, bit 6, bit 7, bit 8)
+pub case-small : (s : Star) (sheet : SheetIndex) (u v : ℕ) → caseAt s sheet u v ≤ allOf sheet
+case-small s (Layer x) u v = regular-case-small s x u v
+case-small s (Side side) u v = transition-case-small s side u v

@@ -1,28 +1,12 @@
--- The rows of the tables that a cell is read from: its case's row of codes, and its class's row of cell data with the winding.
--- Definitions only.
+-- A class's row of cell data, with the winding: what a cell's triangles are read from. Definitions only.
 use Prim.Native.Nat.{ℕ, _+_, _*_, _≤_, _<_}
 use mathlib.Core.Path.{_≡_}
 use mathlib.Core.Bool.{Bool}
 use mathlib.Core.List.{List}
 use lib.ListN.{length, getD}
-use Rattle.tables.specs.Arrays.{regularCellClass, regularCellData, regularVertexData, transitionCellClass, transitionCellData, transitionVertexData}
 use Rattle.tables.specs.Cases.{verticesOf, trianglesOf, cornerOf}
 use Rattle.model.specs.declared.Triangle.{Triangle}
 use Rattle.model.specs.Mesh.{sent}
-
--- ---- the lent tables
-
-pub record RegularTables (classes cells codes : List ℕ) : Type 0 where
-  pub classes-are : classes ≡ regularCellClass
-  pub cells-are : cells ≡ regularCellData
-  pub codes-are : codes ≡ regularVertexData
-
-pub record TransitionTables (classes cells codes : List ℕ) : Type 0 where
-  pub classes-are : classes ≡ transitionCellClass
-  pub cells-are : cells ≡ transitionCellData
-  pub codes-are : codes ≡ transitionVertexData
-
--- ---- a row of cell data
 
 -- a row of cell data that can be followed: it is long enough, and each corner is one of twelve
 pub record Followed (row : List ℕ) : Type 0 where

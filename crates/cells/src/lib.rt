@@ -3,8 +3,7 @@
 mod buffers;
 mod cell;
 mod codes;
-pub mod regular_cells;
-pub mod transition_cells;
+pub mod sheet_cells;
 mod triangles;
 mod vertices;
 
@@ -15,4 +14,10 @@ use model::Xyz;
 pub enum CellIndex {
     Regular(Xyz),
     Transition(FacePoint),
+}
+
+// The cells whose case numbers a sheet holds: the layer of regular cells at x, or the transition cells of a side.
+pub enum SheetIndex {
+    Layer(usize),
+    Side(usize),
 }

@@ -19,7 +19,7 @@ use Rattle.model.specs.Sides.{named}
 use Rattle.model.specs.Star.{Star, subdivisions}
 use Rattle.model.specs.Points.{regularCase, transitionCase}
 use Rattle.model.specs.Mesh.{Made, CodeUse, Cell, Fill, Mesh, madeBy, fillStep, fillTo, emptyMesh, cellStep, regularCell, regularColumn, regularLayer, regularMesh, transitionCell, transitionRow, transitionSide, meshOf}
-use Rattle.cells.specs.Numbers.{transition-case-small}
+use Rattle.cases.specs.Numbers.{transition-case-small}
 use Rattle.closed.specs.Cells.{case-small}
 use Rattle.promises.specs.Promises.{cellCount, mostOfCell, Enough}
 

@@ -27,6 +27,32 @@ transitionCellData = joined transition.cellRows
 unfoldable pub transitionVertexData : List ℕ
 transitionVertexData = joined transition.vertexRows
 
+-- ---- the lengths of lent arrays
+
+pub regular-class-length : (classes : List ℕ) → classes ≡ regularCellClass → length classes ≡ 256
+unfolding regularCellClass regular.classes
+regular-class-length classes e = ap (λ (l : List ℕ). length l) e
+
+pub regular-data-length : (cells : List ℕ) → cells ≡ regularCellData → length cells ≡ 256
+unfolding regularCellData regular.cellRows
+regular-data-length cells e = ap (λ (l : List ℕ). length l) e
+
+pub regular-codes-length : (codes : List ℕ) → codes ≡ regularVertexData → length codes ≡ 3072
+unfolding regularVertexData regular.vertexRows
+regular-codes-length codes e = ap (λ (l : List ℕ). length l) e
+
+pub transition-class-length : (classes : List ℕ) → classes ≡ transitionCellClass → length classes ≡ 512
+unfolding transitionCellClass transition.classes
+transition-class-length classes e = ap (λ (l : List ℕ). length l) e
+
+pub transition-data-length : (cells : List ℕ) → cells ≡ transitionCellData → length cells ≡ 2072
+unfolding transitionCellData transition.cellRows
+transition-data-length cells e = ap (λ (l : List ℕ). length l) e
+
+pub transition-codes-length : (codes : List ℕ) → codes ≡ transitionVertexData → length codes ≡ 6144
+unfolding transitionVertexData transition.vertexRows
+transition-codes-length codes e = ap (λ (l : List ℕ). length l) e
+
 -- ---- regular cells
 
 pub regular-class-at : (classes : List ℕ) (case : ℕ) → classes ≡ regularCellClass → getD classes case 0 ≡ regularClass case

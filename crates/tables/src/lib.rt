@@ -87,14 +87,14 @@ fn row_of_cells(cells: &[u8], row: usize, width: usize) -> &[u8]
 // ---- regular cells: rows of the lent arrays
 
 // The case's row of vertex codes.
-pub fn regular_case_codes(codes: &[u16; 3072], case: usize) -> &[u16]
+pub fn regular_case_codes(codes: &[u16], case: usize) -> &[u16]
     requires { ⌜ (now codes ≡ regularVertexData) × (case < 256) ⌝ }
     ensures { λ r. ⌜ now r ≡ regularCodes case ⌝ }
 {
     row_of_codes(codes, case)
 }
 
-fn regular_class(classes: &[u8; 256], case: usize) -> usize
+fn regular_class(classes: &[u8], case: usize) -> usize
     requires { ⌜ (now classes ≡ regularCellClass) × (case < 256) ⌝ }
     ensures { λ r. ⌜ (r ≡ regularClass case) × (r < 16) ⌝ }
 {
@@ -102,7 +102,7 @@ fn regular_class(classes: &[u8; 256], case: usize) -> usize
 }
 
 // The row of cell data that the case's class picks.
-pub fn regular_case_cell<'a>(classes: &[u8; 256], cells: &'a [u8; 256], case: usize) -> &'a [u8]
+pub fn regular_case_cell<'a>(classes: &[u8], cells: &'a [u8], case: usize) -> &'a [u8]
     requires { ⌜ (now classes ≡ regularCellClass) × (now cells ≡ regularCellData) × (case < 256) ⌝ }
     ensures { λ r. ⌜ now r ≡ regularCell case ⌝ }
 {
@@ -113,7 +113,7 @@ pub fn regular_case_cell<'a>(classes: &[u8; 256], cells: &'a [u8; 256], case: us
 // ---- transition cells: rows of the lent arrays
 
 // The case's row of vertex codes.
-pub fn transition_case_codes(codes: &[u16; 6144], case: usize) -> &[u16]
+pub fn transition_case_codes(codes: &[u16], case: usize) -> &[u16]
     requires { ⌜ (now codes ≡ transitionVertexData) × (case < 512) ⌝ }
     ensures { λ r. ⌜ now r ≡ transitionCodes case ⌝ }
 {
@@ -121,7 +121,7 @@ pub fn transition_case_codes(codes: &[u16; 6144], case: usize) -> &[u16]
 }
 
 // The class without the bit for the winding.
-fn transition_class(classes: &[u8; 512], case: usize) -> usize
+fn transition_class(classes: &[u8], case: usize) -> usize
     requires { ⌜ (now classes ≡ transitionCellClass) × (case < 512) ⌝ }
     ensures { λ r. ⌜ (r ≡ transitionClass case % 128) × (r < 56) ⌝ }
 {
@@ -129,7 +129,7 @@ fn transition_class(classes: &[u8; 512], case: usize) -> usize
 }
 
 // The row of cell data that the case's class picks.
-pub fn transition_case_cell<'a>(classes: &[u8; 512], cells: &'a [u8; 2072], case: usize) -> &'a [u8]
+pub fn transition_case_cell<'a>(classes: &[u8], cells: &'a [u8], case: usize) -> &'a [u8]
     requires { ⌜ (now classes ≡ transitionCellClass) × (now cells ≡ transitionCellData) × (case < 512) ⌝ }
     ensures { λ r. ⌜ now r ≡ transitionCell case ⌝ }
 {
@@ -138,7 +138,7 @@ pub fn transition_case_cell<'a>(classes: &[u8; 512], cells: &'a [u8; 2072], case
 }
 
 // Whether a triangle's corners go out 3, 2, 1.
-pub fn transition_turned(classes: &[u8; 512], case: usize) -> bool
+pub fn transition_turned(classes: &[u8], case: usize) -> bool
     requires { ⌜ (now classes ≡ transitionCellClass) × (case < 512) ⌝ }
     ensures { λ r. ⌜ r ≡ transitionTurned case ⌝ }
 {

@@ -2,14 +2,16 @@
 use mathlib.Core.Path.{ap}
 use Prim.Native.Nat.{ℕ}
 use lib.Dec.{leb}
-use borrow.Author.Needs.{needs}
+use native.Mathlib.Omega.{arith}
 use Rattle.tables.specs.Cases.{transitionTurned}
-use Rattle.tables.specs.Arrays.{transition-class-at}
+use Rattle.tables.specs.Arrays.{transition-class-length, transition-class-at}
 use Rattle.tables.proofs.transition_turned.Statement.{statement}
 use Rattle.tables.proofs.transition_turned.Tie as tie
 
-element-copy-out-result : tie.Need-element-copy-out-result
-element-copy-out-result c = search needs
+shared-slice-read-result : tie.Need-shared-slice-read-result
+shared-slice-read-result c =
+    let s = c .before in
+    omega (arith, transition-class-length (s .args .classes .now) (s .pre .0), s .pre .1)
 
 returns : tie.Need-returns
 unfolding transitionTurned
@@ -18,4 +20,4 @@ returns c =
     ap (λ (n : ℕ). leb 128 n) (transition-class-at (a .classes .now) (a .case) (c .before .pre .0))
 
 pub transition-turned-spec : {M : Type 1} → statement M
-transition-turned-spec = tie.close (tie.spec element-copy-out-result returns)
+transition-turned-spec = tie.close (tie.spec shared-slice-read-result returns)

@@ -13,10 +13,10 @@ use Rattle.model.specs.Sides.{named}
 use Rattle.model.specs.Star.{star}
 use Rattle.model.specs.Mesh.{transitionSide}
 use Rattle.cases.specs.Sheets.{sheetPlaces}
-use Rattle.cells.specs.Numbers.{transition-case-small}
+use Rattle.cells.specs.declared.SheetIndex.the-variants.{Side}
 use Rattle.cells.specs.Puts.{Few}
 use Rattle.algorithm.specs.Passes.{Grows}
-use Rattle.algorithm.proofs.Walk.{sides-skip, side-sheet, sheet-numbered}
+use Rattle.algorithm.proofs.Walk.{sides-skip, sheet-numbered}
 use Rattle.algorithm.proofs.Growth.{few-none, few-more, few-of, plus-fits, grows-none, grows-more, grows-as}
 use Rattle.algorithm.proofs.counting.count_named_sides.Statement.{statement}
 use Rattle.algorithm.proofs.counting.count_named_sides.Tie as tie
@@ -62,26 +62,32 @@ face-cases-requires c κs =
       (there .some, l .inv .1 .0),
     )
 
-slice-aggregate-count-side : tie.Need-slice-aggregate-count-side Inv-loop μ-loop
-slice-aggregate-count-side c = sym (still-long (c .before .before .before .before .before))
+slice-aggregate-count-sheet : tie.Need-slice-aggregate-count-sheet Inv-loop μ-loop
+slice-aggregate-count-sheet c = search needs
 
-count-side-requires : tie.Need-count-side-requires Inv-loop μ-loop
-count-side-requires c κs =
+slice-aggregate-count-sheet-2 : tie.Need-slice-aggregate-count-sheet-2 Inv-loop μ-loop
+slice-aggregate-count-sheet-2 c = search needs
+
+slice-aggregate-count-sheet-3 : tie.Need-slice-aggregate-count-sheet-3 Inv-loop μ-loop
+slice-aggregate-count-sheet-3 c = search needs
+
+slice-aggregate-count-sheet-4 : tie.Need-slice-aggregate-count-sheet-4 Inv-loop μ-loop
+slice-aggregate-count-sheet-4 c = sym (still-long (c .before .before .before .before .before))
+
+count-sheet-requires : tie.Need-count-sheet-requires Inv-loop μ-loop
+count-sheet-requires c κs =
     let face = c .before .before .before .before .before in
     let codes = face .before .before .before .before .before in
-    let b = codes .before .before .before .before in
-    let a = b .args in
-    let s = star (a .header) [] (a .neighbours .now) in
-    let side = face .before .before .before .loop .side in (
+    let b = codes .before .before .before .before in (
       record { classes-are = codes .before .before .transition-cell-class .ensures; cells-are = codes .before .transition-cell-data .ensures; codes-are = codes .transition-vertex-data .ensures },
       (
         (b .pre .few, still-long face),
-        sheet-numbered _ _ (side-sheet s _ side _ (face .face-cases .ensures [])) (λ j k. transition-case-small s side j k),
+        sheet-numbered (star (b .args .header) [] (b .args .neighbours .now)) (Side (face .before .before .before .loop .side)) _ _ (face .face-cases .ensures []),
       ),
     )
 
 plus-requires : tie.Need-plus-requires Inv-loop μ-loop
-plus-requires c κs = plus-fits (c .before .before .before .before .before .before .before .before .before .loop .inv .1 .1 .0) (c .count-side .ensures .0) (omega arith)
+plus-requires c κs = plus-fits (c .before .before .before .before .before .before .before .before .before .loop .inv .1 .1 .0) (c .count-sheet .ensures .0) (omega arith)
 
 add-next-side : tie.Need-add-next-side Inv-loop μ-loop
 add-next-side c = omega (arith, c .before .before .before .before .before .before .before .before .before .loop-test .taken)
@@ -99,7 +105,7 @@ loop-again c =
     let face = c .before .before .before .before .before .before .before .before in
     let here = face .before .before in
     let l = here .before .loop in
-    let more = c .before .before .count-side .ensures in
+    let more = c .before .before .count-sheet .ensures in
     let next = c .next-side2 .ensures in
     let named-here = l .inv .0 .1 (here .loop-test .taken) in (
       (next .le-six, next .is-named),
@@ -107,7 +113,7 @@ loop-again c =
         still-long face,
         rw (c .before .plus .ensures) (
           few-of _ (omega (arith, next .from-le)) (few-more (l .inv .1 .1 .0) (more .0)),
-          λ centre. grows-as (λ m. sym (sides-skip _ m _ _ next)) (grows-more _ (l .side) (l .inv .1 .1 .1 centre) (more .1 _ refl named-here (face .face-cases .ensures centre))),
+          λ centre. grows-as (λ m. sym (sides-skip _ m _ _ next)) (grows-more _ (l .side) (l .inv .1 .1 .1 centre) (more .1 _ refl (here .loop-test .taken, named-here) (face .face-cases .ensures centre))),
         ),
       ),
     )
@@ -131,8 +137,11 @@ count-named-sides-spec =
     loop-holds
     slice-aggregate-face-cases
     face-cases-requires
-    slice-aggregate-count-side
-    count-side-requires
+    slice-aggregate-count-sheet
+    slice-aggregate-count-sheet-2
+    slice-aggregate-count-sheet-3
+    slice-aggregate-count-sheet-4
+    count-sheet-requires
     plus-requires
     add-next-side
     next-side-requires-2

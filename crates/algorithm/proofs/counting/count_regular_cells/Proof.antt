@@ -3,15 +3,17 @@ use native.Mathlib.Omega.{arith}
 use borrow.Author.Needs.{needs}
 use Prim.Native.Nat.{ℕ, _-_, _*_, _≤_}
 use mathlib.Core.Path.{_≡_, refl, sym, _∙_}
-use mathlib.Core.List.{List}
+use mathlib.Core.List.{List, []}
 use lib.Ieee.{Float}
 use lib.ListN.{length, length-replicate}
 use Rattle.laws.specs.Steps.{iterate}
 use Rattle.model.specs.Star.{star}
 use Rattle.model.specs.Mesh.{regularLayer}
 use Rattle.cases.specs.Sheets.{sheetPlaces}
+use Rattle.cells.specs.declared.SheetIndex.the-variants.{Layer}
 use Rattle.cells.specs.Puts.{Few}
 use Rattle.algorithm.specs.Passes.{Grows}
+use Rattle.algorithm.proofs.Walk.{sheet-numbered}
 use Rattle.algorithm.proofs.Growth.{few-none, few-more, few-of, plus-fits, grows-none, grows-more}
 use Rattle.algorithm.proofs.counting.count_regular_cells.Statement.{statement}
 use Rattle.algorithm.proofs.counting.count_regular_cells.Tie as tie
@@ -47,17 +49,33 @@ layer-cases-requires c κs =
     let b = c .before .before .before .before .before .before .before in
     (b .pre, (omega (arith, c .before .loop-test .taken), l .inv .1 .0))
 
-slice-aggregate-count-layer : tie.Need-slice-aggregate-count-layer Inv-loop μ-loop
-slice-aggregate-count-layer c = sym (still-long (c .before .before .before .before .before))
+slice-aggregate-count-sheet : tie.Need-slice-aggregate-count-sheet Inv-loop μ-loop
+slice-aggregate-count-sheet c = search needs
 
-count-layer-requires : tie.Need-count-layer-requires Inv-loop μ-loop
-count-layer-requires c κs =
+slice-aggregate-count-sheet-2 : tie.Need-slice-aggregate-count-sheet-2 Inv-loop μ-loop
+slice-aggregate-count-sheet-2 c = search needs
+
+slice-aggregate-count-sheet-3 : tie.Need-slice-aggregate-count-sheet-3 Inv-loop μ-loop
+slice-aggregate-count-sheet-3 c = search needs
+
+slice-aggregate-count-sheet-4 : tie.Need-slice-aggregate-count-sheet-4 Inv-loop μ-loop
+slice-aggregate-count-sheet-4 c = sym (still-long (c .before .before .before .before .before))
+
+count-sheet-requires : tie.Need-count-sheet-requires Inv-loop μ-loop
+count-sheet-requires c κs =
     let layer = c .before .before .before .before .before in
-    let codes = layer .before .before .before .before in
-    (record { classes-are = codes .before .before .regular-cell-class .ensures; cells-are = codes .before .regular-cell-data .ensures; codes-are = codes .regular-vertex-data .ensures }, (codes .before .before .before .before .pre .0, still-long layer))
+    let here = layer .before .before in
+    let codes = here .before .before in
+    let b = codes .before .before .before .before in (
+      record { classes-are = codes .before .before .regular-cell-class .ensures; cells-are = codes .before .regular-cell-data .ensures; codes-are = codes .regular-vertex-data .ensures },
+      (
+        (b .pre .0, still-long layer),
+        sheet-numbered (star (b .args .header) (b .args .centre .now) []) (Layer (here .before .loop .x)) _ _ (layer .layer-cases .ensures []),
+      ),
+    )
 
 plus-requires : tie.Need-plus-requires Inv-loop μ-loop
-plus-requires c κs = plus-fits (c .before .before .before .before .before .before .before .before .before .loop .inv .1 .1 .0) (c .count-layer .ensures .0) (omega arith)
+plus-requires c κs = plus-fits (c .before .before .before .before .before .before .before .before .before .loop .inv .1 .1 .0) (c .count-sheet .ensures .0) (omega arith)
 
 add-x : tie.Need-add-x Inv-loop μ-loop
 add-x c = search needs
@@ -69,12 +87,12 @@ loop-again : tie.Need-loop-again Inv-loop μ-loop
 loop-again c =
     let layer = c .before .before .before .before .before .before .before in
     let l = layer .before .before .before .loop in
-    let more = c .before .count-layer .ensures in (
+    let more = c .before .count-sheet .ensures in (
       omega arith,
       (
         still-long layer,
         rw (c .plus .ensures)
-            (few-of _ (omega arith) (few-more (l .inv .1 .1 .0) (more .0)), λ ns. grows-more _ (l .x) (l .inv .1 .1 .1 ns) (more .1 _ refl (layer .layer-cases .ensures ns))),
+            (few-of _ (omega arith) (few-more (l .inv .1 .1 .0) (more .0)), λ ns. grows-more _ (l .x) (l .inv .1 .1 .1 ns) (more .1 _ refl (layer .before .before .loop-test .taken) (layer .layer-cases .ensures ns))),
       ),
     )
 
@@ -96,8 +114,11 @@ count-regular-cells-spec =
     loop-holds
     slice-aggregate-layer-cases
     layer-cases-requires
-    slice-aggregate-count-layer
-    count-layer-requires
+    slice-aggregate-count-sheet
+    slice-aggregate-count-sheet-2
+    slice-aggregate-count-sheet-3
+    slice-aggregate-count-sheet-4
+    count-sheet-requires
     plus-requires
     add-x
     loop-less

@@ -83,11 +83,20 @@ face-cases-requires c κs =
       (shaped .some, l .inv .1 .0),
     )
 
-slice-aggregate-write-side : tie.Need-slice-aggregate-write-side Inv-loop μ-loop
-slice-aggregate-write-side c = sym (still-long (c .before .before .before .before .before))
+slice-aggregate-write-sheet : tie.Need-slice-aggregate-write-sheet Inv-loop μ-loop
+slice-aggregate-write-sheet c = search needs
 
-write-side-requires : tie.Need-write-side-requires Inv-loop μ-loop
-write-side-requires c κs =
+slice-aggregate-write-sheet-2 : tie.Need-slice-aggregate-write-sheet-2 Inv-loop μ-loop
+slice-aggregate-write-sheet-2 c = search needs
+
+slice-aggregate-write-sheet-3 : tie.Need-slice-aggregate-write-sheet-3 Inv-loop μ-loop
+slice-aggregate-write-sheet-3 c = search needs
+
+slice-aggregate-write-sheet-4 : tie.Need-slice-aggregate-write-sheet-4 Inv-loop μ-loop
+slice-aggregate-write-sheet-4 c = sym (still-long (c .before .before .before .before .before))
+
+write-sheet-requires : tie.Need-write-sheet-requires Inv-loop μ-loop
+write-sheet-requires c κs =
     let filled = c .before .before .before .before .before .before .before .before in
     let here = filled .before .before in
     let codes = here .before .before .before in
@@ -120,7 +129,7 @@ loop-again c =
     let filled = put .before .before .before .before .before .before .before .before .before in
     let here = filled .before .before in
     let l = here .before .loop in
-    let w = put .write-side in
+    let w = put .write-sheet in
     let next = c .next-side2 .ensures in (
       (next .le-six, next .is-named),
       (
@@ -165,8 +174,11 @@ write-named-sides-spec =
     loop-holds
     slice-aggregate-face-cases
     face-cases-requires
-    slice-aggregate-write-side
-    write-side-requires
+    slice-aggregate-write-sheet
+    slice-aggregate-write-sheet-2
+    slice-aggregate-write-sheet-3
+    slice-aggregate-write-sheet-4
+    write-sheet-requires
     add-next-side
     next-side-requires-2
     loop-less

@@ -69,11 +69,20 @@ layer-cases-requires c κs =
     let shaped = start here .pre .0 .0 in
     ((shaped .few, shaped .centre-is), (omega (arith, here .loop-test .taken), here .before .loop .inv .1 .0))
 
-slice-aggregate-write-layer : tie.Need-slice-aggregate-write-layer Inv-loop μ-loop
-slice-aggregate-write-layer c = sym (still-long (c .before .before .before .before .before))
+slice-aggregate-write-sheet : tie.Need-slice-aggregate-write-sheet Inv-loop μ-loop
+slice-aggregate-write-sheet c = search needs
 
-write-layer-requires : tie.Need-write-layer-requires Inv-loop μ-loop
-write-layer-requires c κs =
+slice-aggregate-write-sheet-2 : tie.Need-slice-aggregate-write-sheet-2 Inv-loop μ-loop
+slice-aggregate-write-sheet-2 c = search needs
+
+slice-aggregate-write-sheet-3 : tie.Need-slice-aggregate-write-sheet-3 Inv-loop μ-loop
+slice-aggregate-write-sheet-3 c = search needs
+
+slice-aggregate-write-sheet-4 : tie.Need-slice-aggregate-write-sheet-4 Inv-loop μ-loop
+slice-aggregate-write-sheet-4 c = sym (still-long (c .before .before .before .before .before))
+
+write-sheet-requires : tie.Need-write-sheet-requires Inv-loop μ-loop
+write-sheet-requires c κs =
     let filled = c .before .before .before .before .before .before .before .before in
     let here = filled .before .before in
     let codes = here .before .before in
@@ -103,7 +112,7 @@ loop-again c =
     let filled = put .before .before .before .before .before .before .before .before .before in
     let here = filled .before .before in
     let l = here .before .loop in
-    let w = put .write-layer in (
+    let w = put .write-sheet in (
       omega (arith, here .loop-test .taken),
       (
         still-long filled,
@@ -146,8 +155,11 @@ write-regular-cells-spec =
     loop-holds
     slice-aggregate-layer-cases
     layer-cases-requires
-    slice-aggregate-write-layer
-    write-layer-requires
+    slice-aggregate-write-sheet
+    slice-aggregate-write-sheet-2
+    slice-aggregate-write-sheet-3
+    slice-aggregate-write-sheet-4
+    write-sheet-requires
     add-x
     loop-less
     loop-again

@@ -1,42 +1,42 @@
--- `writing::write_layer` meets its contract: the mesh grows by each cell that is cut, and the others leave it as it is.
+-- `writing::write_sheet` meets its contract: the mesh grows by each cell that is cut, and the others leave it as it is.
 use Prim.Native.Nat.{_-_, _*_, _/_, _%_, _≤_, _<_}
 use mathlib.Core.Path.{_≡_, refl}
 use native.Mathlib.Omega.{arith}
 use borrow.Author.Needs.{needs}
 use Rattle.model.specs.Star.{Star, star}
-use Rattle.model.specs.Points.{regularCase}
-use Rattle.model.specs.Mesh.{regularCell, regularTo}
-use Rattle.points.specs.CellPoints.{centred}
 use Rattle.cases.specs.Sheets.{rowWidth}
-use Rattle.cases.specs.Scans.{allRegular}
-use Rattle.algorithm.specs.Passes.{SheetOf, sheetTo, Holds, SameLengths}
-use Rattle.algorithm.proofs.Walk.{layer-sheet, case-there, regular-layer, layer-upto}
-use Rattle.algorithm.proofs.Holding.{Ready, room-vertices, room-triangles, holds-more, holds-skip, ready-at, holds-on, same-then, fits-still}
-use Rattle.algorithm.proofs.writing.write_layer.Statement.{statement}
-use Rattle.algorithm.proofs.writing.write_layer.Tie as tie
+use Rattle.cells.specs.Sheets.{sheetCell, caseAt, allOf}
+use Rattle.algorithm.specs.Passes.{SheetOf, sheetBefore, sheetTo, Holds, SameLengths}
+use Rattle.algorithm.proofs.Walk.{sheet-of, scan-as, case-there, sheet-after, after-upto}
+use Rattle.algorithm.proofs.Holding.{cell-ready, Ready, room-vertices, room-triangles, holds-more, holds-skip, ready-at, holds-on, same-then, fits-still}
+use Rattle.algorithm.proofs.writing.write_sheet.Statement.{statement}
+use Rattle.algorithm.proofs.writing.write_sheet.Tie as tie
 
 abbrev Inv-loop : tie.InvT-loop
-Inv-loop header fractions centre neighbours classes cells codes cases x counts₀ store₀ vertices₀ triangles₀ n end i₀ counts store vertices triangles i =
+Inv-loop header fractions centre neighbours sheet classes cells codes cases counts₀ store₀ vertices₀ triangles₀ n all end i₀ counts store vertices triangles i =
     let s = star header centre neighbours in
     ((i ≤ rowWidth * n) × (i < rowWidth * n → i % rowWidth < n))
-    × (SameLengths vertices₀ vertices triangles₀ triangles store₀ store × Holds (sheetTo (regularCell s x) n (regularTo s x 0 0) i) counts vertices triangles store)
+    × (SameLengths vertices₀ vertices triangles₀ triangles store₀ store × Holds (sheetTo (sheetCell s sheet) n (sheetBefore s sheet) i) counts vertices triangles store)
 
 abbrev μ-loop : tie.MeasureT-loop
-μ-loop header fractions centre neighbours classes cells codes cases x counts₀ store₀ vertices₀ triangles₀ n end i₀ counts store vertices triangles i =
+μ-loop header fractions centre neighbours sheet classes cells codes cases counts₀ store₀ vertices₀ triangles₀ n all end i₀ counts store vertices triangles i =
     rowWidth * n - i
 
 -- the entry, and what holds of it
 abbrev Entry : Type 0
 Entry = tie.Start Inv-loop μ-loop
 
+abbrev entry : tie.After-all-inside Inv-loop μ-loop → Entry
+entry c = c .before .before .before .before .before .before .before .before .before .before
+
 abbrev start : tie.In-loop Inv-loop μ-loop → Entry
-start c = c .before .before .before .before .before .before .before .before .before
+start c = entry (c .before .before .before)
 
 abbrev starOf : Entry → Star
 starOf b = star (b .args .header) (b .args .centre .now) (b .args .neighbours .now)
 
-sheet : (b : Entry) → SheetOf (regularCell (starOf b) (b .args .x)) (regularCase (starOf b) (b .args .x)) allRegular (b .args .header .block .subdivisions) (b .args .cases .now)
-sheet b = layer-sheet (starOf b) (b .args .header .block .subdivisions) (b .args .x) (b .args .cases .now) (b .pre .1 .1 .0 .1)
+sheet : (b : Entry) → let a = b .args in SheetOf (sheetCell (starOf b) (a .sheet)) (caseAt (starOf b) (a .sheet)) (allOf (a .sheet)) (a .header .block .subdivisions) (a .cases .now)
+sheet b = sheet-of (starOf b) (b .args .sheet) (b .args .header .block .subdivisions) (b .args .cases .now) (b .pre .1 .1 .0 .1)
 
 -- the turn of the loop, from the place where its cell is written
 abbrev turn : tie.After-slice-known6 Inv-loop μ-loop → tie.In-loop Inv-loop μ-loop
@@ -50,41 +50,47 @@ is-cell : (c : tie.In-loop Inv-loop μ-loop) → c .before .loop .i % rowWidth <
 is-cell c = c .before .loop .inv .0 .1 (below c)
 
 ready : (c : tie.In-loop Inv-loop μ-loop) → let b = start c in let l = c .before .loop in let s = starOf b in
-    Ready s (regularCell s (b .args .x) (l .i / rowWidth) (l .i % rowWidth)) (sheetTo (regularCell s (b .args .x)) (b .args .header .block .subdivisions) (regularTo s (b .args .x) 0 0) (l .i)) (l .counts) (l .vertices) (l .triangles) (l .store)
+    Ready s (sheetCell s (b .args .sheet) (l .i / rowWidth) (l .i % rowWidth)) (sheetTo (sheetCell s (b .args .sheet)) (b .args .header .block .subdivisions) (sheetBefore s (b .args .sheet)) (l .i)) (l .counts) (l .vertices) (l .triangles) (l .store)
 ready c =
     let b = start c in
     let l = c .before .loop in
     let s = starOf b in
-    ready-at (sheet b) (regularTo s (b .args .x) 0 0) s (l .i) (below c) (is-cell c) (rw (regular-layer s (b .pre .1 .0 .0 .few) (b .args .x)) (layer-upto s (b .args .x) (b .pre .1 .1 .1 .0)))
+    ready-at (sheet b) (sheetBefore s (b .args .sheet)) s (l .i) (below c) (is-cell c) (rw (sheet-after s (b .pre .1 .0 .0 .few) (b .args .sheet) (b .pre .1 .1 .1 .0)) (after-upto s (b .args .sheet) (b .pre .1 .1 .1 .0)))
     (fits-still (l .inv .1 .0) (b .pre .1 .1 .1 .1 .0)) (l .inv .1 .1)
 
+all-inside-requires : tie.Need-all-inside-requires Inv-loop μ-loop
+all-inside-requires c κs = search needs
+
 mul-end : tie.Need-mul-end Inv-loop μ-loop
-mul-end c = omega (arith, c .before .before .before .before .before .before .pre .1 .0 .0 .few)
+mul-end c = omega (arith, entry c .pre .1 .0 .0 .few)
 
 next-cut-requires : tie.Need-next-cut-requires Inv-loop μ-loop
 next-cut-requires c κs =
-    let b = c .before .before .before .before .before .before in
+    let b = entry c in
     (b .pre .1 .0 .0 .few, (b .pre .1 .1 .0 .0, omega arith))
 
 loop-holds : tie.Need-loop-holds Inv-loop μ-loop
 loop-holds c =
-    let b = c .before .before .before .before .before .before .before in
-    let next = c .next-cut .ensures in (
+    let b = entry (c .before) in
+    let next = scan-as (c .before .all-inside .ensures) (c .next-cut .ensures) in (
       (next .within, next .is-cell),
       (
         record { vertices-same = refl; triangles-same = refl; store-same = refl },
-        holds-skip (sheet b) (regularTo (starOf b) (b .args .x) 0 0) 0 _ next (b .pre .1 .1 .1 .1 .1),
+        holds-skip (sheet b) (sheetBefore (starOf b) (b .args .sheet)) 0 _ next (b .pre .1 .1 .1 .1 .1),
       ),
     )
 
-shared-slice-read-write-regular-cell :
-    tie.Need-shared-slice-read-write-regular-cell Inv-loop μ-loop
-shared-slice-read-write-regular-cell c =
+mul-write-sheet-cell : tie.Need-mul-write-sheet-cell Inv-loop μ-loop
+mul-write-sheet-cell c = omega (arith, below c, start c .pre .1 .0 .0 .few)
+
+shared-slice-read-write-sheet-cell :
+    tie.Need-shared-slice-read-write-sheet-cell Inv-loop μ-loop
+shared-slice-read-write-sheet-cell c =
     let b = start (c .before) in
     omega (arith, below (c .before), b .pre .1 .0 .0 .few, b .pre .1 .1 .0 .0)
 
-write-regular-cell-requires : tie.Need-write-regular-cell-requires Inv-loop μ-loop
-write-regular-cell-requires c κs =
+write-sheet-cell-requires : tie.Need-write-sheet-cell-requires Inv-loop μ-loop
+write-sheet-cell-requires c κs =
     let here = c .before .before .before .before in
     let b = start here in
     let i = here .before .loop .i in
@@ -92,7 +98,7 @@ write-regular-cell-requires c κs =
     let r = ready here in (
       b .pre .0,
       (
-        record { centred = centred (starOf b) (b .args .fractions .now) (shaped .0) (shaped .1); placed = record { x-in = b .pre .1 .1 .1 .0; y-in = omega (arith, below here); z-in = is-cell here }; beside = tt },
+        cell-ready (starOf b) (b .args .fractions .now) (shaped .0) (shaped .1) (b .args .sheet) (b .pre .1 .1 .1 .0) i (below here) (is-cell here),
         (
           case-there _ _ (sheet b) i (below here) (is-cell here),
           (r .fits .store-fits, (room-vertices r, room-triangles r)),
@@ -117,16 +123,13 @@ loop-less c = omega (arith, c .next-cut2 .ensures .between .ordered, below (turn
 loop-again : tie.Need-loop-again Inv-loop μ-loop
 loop-again c =
     let here = turn (c .before) in
-    let w = c .before .before .before .before .before .before .before .write-regular-cell in
-    let next = c .next-cut2 .ensures in (
+    let w = c .before .before .before .before .before .before .before .write-sheet-cell in
+    let kept = w .kept .1 .1 .1 .1 .1 .1 .1 .1 .1 .1 .1 .1 in
+    let next = scan-as (here .before .before .before .all-inside .ensures) (c .next-cut2 .ensures) in (
       (next .within, next .is-cell),
       (
         same-then (here .before .loop .inv .1 .0)
-            record {
-              vertices-same = w .kept .1 .1 .1 .1 .1 .1 .1 .1 .1 .1 .1 .0;
-              triangles-same = w .kept .1 .1 .1 .1 .1 .1 .1 .1 .1 .1 .1 .1 .0;
-              store-same = w .kept .1 .1 .1 .1 .1 .1 .1 .1 .1 .1 .0;
-            },
+            record { vertices-same = kept .1 .0; triangles-same = kept .1 .1 .0; store-same = kept .0 },
         holds-on (sheet (start here)) _ (here .before .loop .i) _ (is-cell here) next (holds-more (ready here) _ _ _ _ (w .ensures)),
       ),
     )
@@ -142,22 +145,24 @@ same-length-3 c = c .before .loop .inv .1 .0 .triangles-same
 
 returns : tie.Need-returns Inv-loop μ-loop
 returns c =
-    let b = c .before .before .before .before .before .before .before .before .before in
+    let b = entry (c .before .before .before) in
     let l = c .before .loop in
     let end : l .i ≡ rowWidth * b .args .header .block .subdivisions = omega arith in
-    rw (end, regular-layer (starOf b) (b .pre .1 .0 .0 .few) (b .args .x)) at (l .inv .1 .1)
+    rw (end, sheet-after (starOf b) (b .pre .1 .0 .0 .few) (b .args .sheet) (b .pre .1 .1 .1 .0)) at (l .inv .1 .1)
 
-pub write-layer-spec : {M : Type 1} → statement M
-write-layer-spec =
+pub write-sheet-spec : {M : Type 1} → statement M
+write-sheet-spec =
     tie.close
     (tie.spec
     Inv-loop
     μ-loop
+    all-inside-requires
     mul-end
     next-cut-requires
     loop-holds
-    shared-slice-read-write-regular-cell
-    write-regular-cell-requires
+    mul-write-sheet-cell
+    shared-slice-read-write-sheet-cell
+    write-sheet-cell-requires
     add-next-cut
     next-cut-requires-2
     loop-less
