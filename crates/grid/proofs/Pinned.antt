@@ -13,8 +13,7 @@ use Rattle.grid.proofs.face_walk.along.Reads as along
 use Rattle.grid.proofs.rotation.rotation_for_side.Reads as rotation-for-side
 use Rattle.grid.proofs.rotation.side_point.Reads as side-point
 use Rattle.grid.proofs.rotation.face_point.Reads as face-point
-use Rattle.grid.proofs.rotation.fine_point.Reads as fine-point
-use Rattle.grid.proofs.rotation.neighbour_point.Reads as neighbour-point
+use Rattle.grid.proofs.rotation.fine_points.Reads as fine-points
 use Rattle.grid.proofs.shared_vertex_indices.store_length.Reads as store-length
 use Rattle.grid.proofs.shared_vertex_indices.regular_place.Reads as regular-place
 use Rattle.grid.proofs.shared_vertex_indices.transition_place.Reads as transition-place
@@ -63,11 +62,9 @@ side-point-pinned κs a r r′ e e′ h k = pinned (h .0) (k .0)
 pub face-point-pinned : (κs : Lfts 0) (a : _) (r r′ : _) (e e′ : _) → face-point.Learnt κs a r e → face-point.Learnt κs a r′ e′ → r ≡ r′
 face-point-pinned κs a r r′ e e′ h k = pinned (h .0) (k .0)
 
-pub fine-point-pinned : (κs : Lfts 0) (a : _) (r r′ : _) (e e′ : _) → fine-point.Learnt κs a r e → fine-point.Learnt κs a r′ e′ → r ≡ r′
-fine-point-pinned κs a r r′ e e′ h k = pinned (h .0) (k .0)
-
-pub neighbour-point-pinned : (κs : Lfts 0) (a : _) (r r′ : _) (e e′ : _) → neighbour-point.Learnt κs a r e → neighbour-point.Learnt κs a r′ e′ → r ≡ r′
-neighbour-point-pinned κs a r r′ e e′ h k = pinned (h .0) (k .0)
+pub fine-points-pinned : (κs : Lfts 0) (a : _) (r r′ : _) (e e′ : _) → fine-points.Learnt κs a r e → fine-points.Learnt κs a r′ e′ → r ≡ r′
+fine-points-pinned κs a r r′ e e′ h k =
+    λ i. record { here = pinned (h .0 .0) (k .0 .0) i; there = pinned (h .1 .0) (k .1 .0) i }
 
 pub store-length-pinned : (κs : Lfts 0) (a : _) (r r′ : _) (e e′ : _) → store-length.Learnt κs a r e → store-length.Learnt κs a r′ e′ → r ≡ r′
 store-length-pinned κs a r r′ e e′ h k = pinned h k

@@ -1,7 +1,7 @@
--- Document 01, 'Transition cells': each point that a rotation gives is one of its block's, and on each axis its formula takes away no more
--- than it adds.
+-- Document 01, 'Transition cells': each point that a rotation gives is one of its block's, on each axis its formula takes away no more than
+-- it adds, and moves along U, V and W lead to it.
 use Prim.Native.Nat.{ℕ, zero, suc, _+_, _-_, _*_, _≤_, _<_}
-use mathlib.Core.Path.{_≡_}
+use mathlib.Core.Path.{_≡_, sym, _∙_}
 use native.Mathlib.Omega.{arith}
 use Rattle.model.specs.Limits.{mostSubdivisions, mostFine, sideCount}
 use Rattle.model.specs.declared.Xyz.{Xyz}
@@ -72,15 +72,23 @@ point-in side m u v w h =
     let t = turned m u v w (h .u-in) (h .v-in) (h .w-in) side (h .side-is) in
     record { x-in = t .x .in-range; y-in = t .y .in-range; z-in = t .z .in-range }
 
+-- a fine point of a face, and the same point in the neighbour
+module _ {n side u2 v2 : ℕ} (h : OnFineFace n side u2 v2) where
+  pub here-on : OnSide side (2 * n) u2 v2 0
+  here-on = omega arith
+
+  pub there-on : OnSide side (2 * n) u2 v2 (2 * n)
+  there-on = omega arith
+
 module _ (n side : ℕ) where
   pub face-point-in : (u v : ℕ) → OnFace n side u v → Within n (facePoint n side u v)
   face-point-in u v h = point-in side n u v 0 (omega arith)
 
   pub fine-point-in : (u2 v2 : ℕ) → OnFineFace n side u2 v2 → Within (2 * n) (finePoint n side u2 v2)
-  fine-point-in u2 v2 h = point-in side (2 * n) u2 v2 0 (omega arith)
+  fine-point-in u2 v2 h = point-in side (2 * n) u2 v2 0 (here-on h)
 
   pub neighbour-point-in : (u2 v2 : ℕ) → OnFineFace n side u2 v2 → Within (2 * n) (neighbourPoint n side u2 v2)
-  neighbour-point-in u2 v2 h = point-in side (2 * n) u2 v2 (2 * n) (omega arith)
+  neighbour-point-in u2 v2 h = point-in side (2 * n) u2 v2 (2 * n) (there-on h)
 
 -- ---- in steps: m * origin, then u along U, v along V, w along W
 
@@ -149,3 +157,30 @@ module _ (m u v w : ℕ) (few : m ≤ mostFine) (hu : u ≤ m) (hv : v ≤ m) (h
 pub end-is : (r : Rotation) (m u v w : ℕ) → Moves r m u v w → end r m u v w ≡ pointFrom r m u v w
 unfolding pointFrom
 end-is r m u v w t = λ i. xyz (t .x-is i) (t .y-is i) (t .z-is i)
+
+-- ---- a point of a side in steps, and w steps along W from the face's point
+
+unmoved : (p : Xyz) (d : Direction) → movedBy p 0 d ≡ p
+unmoved p d =
+    let none : (at up down : ℕ) → steppedBy at 0 up down ≡ at = λ at up down. omega arith in
+    λ i. xyz (none (p .x) (d .up .x) (d .down .x) i) (none (p .y) (d .up .y) (d .down .y) i) (none (p .z) (d .up .z) (d .down .z) i)
+
+pub steps-there : {side m u v w : ℕ} → OnSide side m u v w → UnitVectors (rotationOf side) × Moves (rotationOf side) m u v w
+steps-there {side} {m} {u} {v} {w} h =
+    (units side (h .side-is), moves m u v w (h .few) (h .u-in) (h .v-in) (h .w-in) side (h .side-is))
+
+module _ {side m u v w : ℕ} (h : OnSide side m u v w) where
+  abbrev r : Rotation
+  r = rotationOf side
+
+  flat : OnSide side m u v 0
+  flat = omega arith
+
+  flat-is : pointFrom r m u v 0 ≡ movedBy (movedBy (corner r m) u (r .u)) v (r .v)
+  flat-is = sym (end-is r m u v 0 (steps-there flat .1)) ∙ unmoved _ (r .w)
+
+  pub across-move : UnitVector (r .w) × Move (pointFrom r m u v 0) w (r .w)
+  across-move = (units side (h .side-is) .w, rw flat-is (steps-there h .1 .by-w))
+
+  pub across-is : movedBy (pointFrom r m u v 0) w (r .w) ≡ pointFrom r m u v w
+  across-is = rw flat-is (end-is r m u v w (steps-there h .1))

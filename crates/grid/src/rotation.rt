@@ -98,18 +98,21 @@ pub fn face_point(n: usize, side: usize, u: usize, v: usize) -> Xyz
     side_point(side, n, u, v, 0)
 }
 
-// The fine point (u2, v2) of a face, counted in half steps of the centre.
-pub fn fine_point(n: usize, side: usize, u2: usize, v2: usize) -> Xyz
-    requires { ⌜ OnFineFace n side u2 v2 ⌝ }
-    ensures { λ p. ⌜ (p ≡ finePoint n side u2 v2) × Within (2 * n) p ⌝ }
-{
-    side_point(side, 2 * n, u2, v2, 0)
+// A fine point of a face: here counted in half steps of the centre, there the same point in the neighbour.
+pub struct FinePoints {
+    pub here: Xyz,
+    pub there: Xyz,
 }
 
-// The same point in the neighbour.
-pub fn neighbour_point(n: usize, side: usize, u2: usize, v2: usize) -> Xyz
+// The neighbour's point is 2n further along W.
+pub fn fine_points(n: usize, side: usize, u2: usize, v2: usize) -> FinePoints
     requires { ⌜ OnFineFace n side u2 v2 ⌝ }
-    ensures { λ p. ⌜ (p ≡ neighbourPoint n side u2 v2) × Within (2 * n) p ⌝ }
+    ensures { λ p. ⌜ ((p .here ≡ finePoint n side u2 v2) × Within (2 * n) (p .here)) × ((p .there ≡ neighbourPoint n side u2 v2) × Within (2 * n) (p .there)) ⌝ }
 {
-    side_point(side, 2 * n, u2, v2, 2 * n)
+    let r = rotation_for_side(side);
+    let here = point_from(r, 2 * n, u2, v2, 0);
+    FinePoints {
+        here,
+        there: moved(here, 2 * n, r.w),
+    }
 }

@@ -6,7 +6,7 @@ use model::Vector;
 use model::Vertex;
 
 // The weight toward b.
-fn weight(a: f32, b: f32, threshold: f32) -> f32
+pub(crate) fn weight(a: f32, b: f32, threshold: f32) -> f32
     ensures { λ r. ⌜ r ≡ Formulas.weight a b threshold ⌝ }
 {
     (threshold - a) / (b - a)
@@ -18,7 +18,7 @@ fn between(w: f32, a: f32, b: f32) -> f32
     a + w * (b - a)
 }
 
-fn between_vectors(w: f32, a: Vector, b: Vector) -> Vector
+pub(crate) fn between_vectors(w: f32, a: Vector, b: Vector) -> Vector
     ensures { λ r. ⌜ r ≡ Formulas.betweenVectors w a b ⌝ }
 {
     Vector {

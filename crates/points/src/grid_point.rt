@@ -1,5 +1,6 @@
-// Document 01, 'Regular cells' and 'Transition cells': a grid point with its position, gradient and sample. Where a neighbour is read, 2n
-// stands for n, so that n is at most twice a block's there; fine is the neighbour's part of the samples at the point's side.
+// Document 01, 'Regular cells' and 'Transition cells': a grid point with its position, gradient and sample, and the vertex between two of the
+// block's own. Where a neighbour is read, 2n stands for n, so that n is at most twice a block's there; fine is the neighbour's part of the
+// samples at the point's side.
 ghost use mathlib.Core.Path.{_≡_};
 ghost use Prim.Native.Nat.{_+_, _*_, _≤_, _<_};
 ghost use mathlib.Core.List.{List};
@@ -7,7 +8,8 @@ ghost use lib.Ieee.{Float, nan};
 ghost use lib.ListN.{length, getD};
 ghost use Rattle.model.specs.Limits.{mostFine};
 ghost use Rattle.model.specs.Samples.{sampleLength};
-ghost use Rattle.model.specs.Formulas.{gradientAt};
+ghost use Rattle.model.specs.Formulas.{gradientAt, vertexBetween};
+ghost use Rattle.model.specs.Rotations.{neighbourPoint};
 ghost use Rattle.model.specs.Sides.{neighbourOf};
 ghost use Rattle.model.specs.Star.{star};
 ghost use Rattle.model.specs.Points.{regularPoint, fineGridPoint, transitionPoint};
@@ -17,15 +19,17 @@ ghost use Rattle.points.specs.CellPoints.{Centred, Bordered, InCell, fin
 ghost use Rattle.points.specs.Steps.{Reach, upFrom, downFrom, differenceAt};
 use crate::block::fine_position;
 use crate::block::regular_position;
+use crate::formulas::between_vectors;
+use crate::formulas::weight;
 use crate::fractions::FRACTIONS;
 use grid::rotation::face_point;
-use grid::rotation::fine_point;
-use grid::rotation::neighbour_point;
+use grid::rotation::fine_points;
 use grid::voxel_blocks::sample;
 use model::FacePoint;
 use model::GridPoint;
 use model::Header;
 use model::Vector;
+use model::Vertex;
 use model::Xyz;
 use tables::aux_tables::CellPoint;
 
@@ -98,12 +102,7 @@ fn gradient(n: usize, samples: &[f32], p: Xyz) -> Vector
     }
 }
 
-pub fn regular_point(
-    header: Header,
-    fractions: &[f32; FRACTIONS],
-    centre: &[f32],
-    p: Xyz,
-) -> GridPoint
+fn regular_point(header: Header, fractions: &[f32; FRACTIONS], centre: &[f32], p: Xyz) -> GridPoint
     requires { ⌜ Centred (header .block .subdivisions) (now fractions) (now centre) × Within (header .block .subdivisions) p ⌝ }
     ensures { λ r. ⌜ ((ns : List Float) → r ≡ regularPoint (star header (now (centre .entry)) ns) p) ⌝ }
 {
@@ -118,17 +117,43 @@ pub fn regular_point(
     }
 }
 
-// Of the fine point (u, v) of a side, counted in half steps.
-fn fine_gradient(n: usize, centre: &[f32], fine: &[f32], at: FacePoint) -> Vector
+// The vertex between two of the block's grid points. It makes no GridPoint: one returned through memory costs a stall.
+pub fn regular_vertex(
+    header: Header,
+    fractions: &[f32; FRACTIONS],
+    centre: &[f32],
+    a: Xyz,
+    b: Xyz,
+) -> Vertex
+    requires { ⌜ Centred (header .block .subdivisions) (now fractions) (now centre) × (Within (header .block .subdivisions) a × Within (header .block .subdivisions) b) ⌝ }
+    ensures { λ r. ⌜ ((ns : List Float) → r ≡ vertexBetween (header .threshold) (regularPoint (star header (now (centre .entry)) ns) a) (regularPoint (star header (now (centre .entry)) ns) b)) ⌝ }
+{
+    let n = header.block.subdivisions;
+    let w = weight(sample(n, centre, a), sample(n, centre, b), header.threshold);
+    let position = between_vectors(
+        w,
+        regular_position(header, fractions, a),
+        regular_position(header, fractions, b),
+    );
+    let slope = between_vectors(w, gradient(n, centre, a), gradient(n, centre, b));
+    Vertex {
+        position,
+        gradient: slope,
+    }
+}
+
+// Of the fine point (u, v) of a side, counted in half steps; there is the same point in the neighbour.
+fn fine_gradient(n: usize, centre: &[f32], fine: &[f32], at: FacePoint, there: Xyz) -> Vector
     requires { ⌜ length (now centre) ≡ sampleLength n ⌝ }
     requires { ⌜ length (now fine) ≡ sampleLength (2 * n) ⌝ }
     requires { ⌜ OnFineFace n (at .side) (at .u) (at .v) ⌝ }
+    requires { ⌜ (there ≡ neighbourPoint n (at .side) (at .u) (at .v)) × Within (2 * n) there ⌝ }
     ensures { λ r. ⌜ r ≡ fineGradient n (now (centre .entry)) (now (fine .entry)) (at .side) (at .u) (at .v) ⌝ }
 {
     if (at.u % 2 == 0) & (at.v % 2 == 0) {
         return gradient(n, centre, face_point(n, at.side, at.u / 2, at.v / 2));
     }
-    gradient(2 * n, fine, neighbour_point(n, at.side, at.u, at.v))
+    gradient(2 * n, fine, there)
 }
 
 fn fine_grid_point(
@@ -144,10 +169,10 @@ fn fine_grid_point(
     ensures { λ r. ⌜ ((ns : List Float) → now (fine .entry) ≡ neighbourOf (header .block .subdivisions) (header .mask) ns (at .side) → r ≡ fineGridPoint (star header (now (centre .entry)) ns) (at .side) (at .u) (at .v)) ⌝ }
 {
     let n = header.block.subdivisions;
-    let k = fine_point(n, at.side, at.u, at.v);
-    let position = fine_position(header.block, fractions, k);
-    let slope = fine_gradient(n, centre, fine, at);
-    let value = sample(2 * n, fine, neighbour_point(n, at.side, at.u, at.v));
+    let k = fine_points(n, at.side, at.u, at.v);
+    let position = fine_position(header.block, fractions, k.here);
+    let slope = fine_gradient(n, centre, fine, at, k.there);
+    let value = sample(2 * n, fine, k.there);
     GridPoint {
         position,
         gradient: slope,

@@ -1,6 +1,6 @@
 -- `grid::rotation::side_point` meets its contract.
 use borrow.Author.Needs.{needs}
-use Rattle.grid.specs.RotationLaws.{point-in, units, moves}
+use Rattle.grid.specs.RotationLaws.{point-in, steps-there}
 use Rattle.grid.proofs.rotation.side_point.Statement.{statement}
 use Rattle.grid.proofs.rotation.side_point.Tie as tie
 
@@ -8,11 +8,7 @@ rotation-for-side-requires : tie.Need-rotation-for-side-requires
 rotation-for-side-requires c κs = search needs
 
 point-from-requires : tie.Need-point-from-requires
-point-from-requires c κs =
-    let a = c .before .args in
-    let h = c .before .pre in
-    rw (c .rotation-for-side .ensures)
-    (units (a .side) (h .side-is), moves (a .m) (a .u) (a .v) (a .w) (h .few) (h .u-in) (h .v-in) (h .w-in) (a .side) (h .side-is))
+point-from-requires c κs = rw (c .rotation-for-side .ensures) (steps-there (c .before .pre))
 
 returns : tie.Need-returns
 returns c =

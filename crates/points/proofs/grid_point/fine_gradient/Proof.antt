@@ -10,30 +10,18 @@ gradient-requires : tie.Need-gradient-requires
 gradient-requires c κs = search needs
 
 returns : tie.Need-returns
-returns c =
-    let at = c .before in
-    rw (at .before .before .before .if1 .taken, c .gradient .ensures, at .face-point .ensures .0)
+returns c = rw (c .before .before .before .before .if1 .taken) cc
 
 mul-gradient : tie.Need-mul-gradient
 mul-gradient c = search needs
-
-neighbour-point-requires : tie.Need-neighbour-point-requires
-neighbour-point-requires c κs = search needs
 
 gradient-requires-2 : tie.Need-gradient-requires-2
 gradient-requires-2 c κs = search needs
 
 returns-2 : tie.Need-returns-2
-returns-2 c = rw (c .before .before .if1 .left, c .gradient2 .ensures, c .before .neighbour-point .ensures .0)
+returns-2 c = rw (c .before .if1 .left) cc
 
 pub fine-gradient-spec : {M : Type 1} → statement M
 fine-gradient-spec =
     tie.close
-    (tie.spec
-    face-point-requires
-    gradient-requires
-    returns
-    mul-gradient
-    neighbour-point-requires
-    gradient-requires-2
-    returns-2)
+    (tie.spec face-point-requires gradient-requires returns mul-gradient gradient-requires-2 returns-2)
