@@ -20,11 +20,11 @@ use Rattle.cells.specs.Kinds.{InBlock}
 pub corner-within : (n x y z k : ℕ) (p : Xyz) → InBlock n x y z → p ≡ cornerPoint x y z k → Within n p
 corner-within n x y z k p h e = rw e (record { x-in = omega arith; y-in = omega arith; z-in = omega arith })
 
-pub regular-made : (s : Star) (x y z code ka kb : ℕ) (pa pb : Xyz) (a b : GridPoint) (v : Vertex)
+pub regular-made : (s : Star) (x y z code ka kb : ℕ) (pa pb : Xyz) (v : Vertex)
     → ka ≡ pointA code → kb ≡ pointB code → pa ≡ cornerPoint x y z ka → pb ≡ cornerPoint x y z kb
-    → a ≡ regularPoint s pa → b ≡ regularPoint s pb → v ≡ vertexBetween (s .threshold) a b → v ≡ regularVertex s x y z code
+    → v ≡ vertexBetween (s .threshold) (regularPoint s pa) (regularPoint s pb) → v ≡ regularVertex s x y z code
 unfolding regularVertex
-regular-made s x y z code ka kb pa pb a b v ea eb ep eq ga gb ev = rw (ev, ga, gb, ep, eq, ea, eb)
+regular-made s x y z code ka kb pa pb v ea eb ep eq ev = rw (ev, ep, eq, ea, eb)
 
 pub point-in-cell : (i : ℕ) (p : CellPoint) → p ≡ cellPoint i → InCell p
 point-in-cell i p e = rw e (cell-point-in i)

@@ -28,7 +28,7 @@ use model::Vertex;
 use model::Xyz;
 use points::formulas::vertex_between;
 use points::fractions::FRACTIONS;
-use points::grid_point::regular_point;
+use points::grid_point::regular_vertex_between;
 use points::grid_point::transition_point;
 use tables::aux_tables::cell_point;
 use tables::tables_wrapper::new_vertex;
@@ -82,11 +82,7 @@ fn regular_vertex(
 {
     let a = corner_point(at, voxel_a_index(code));
     let b = corner_point(at, voxel_b_index(code));
-    vertex_between(
-        header.threshold,
-        regular_point(header, fractions, centre, a),
-        regular_point(header, fractions, centre, b),
-    )
+    regular_vertex_between(header, fractions, centre, a, b)
 }
 
 fn transition_vertex(

@@ -15,7 +15,7 @@ use Rattle.points.proofs.block.regular_position.Reads as regular-positi
 use Rattle.points.proofs.block.fine_position.Reads as fine-position
 use Rattle.points.proofs.formulas.vertex_between.Reads as vertex-between
 use Rattle.points.proofs.fractions.fractions_of.Reads as fractions-of
-use Rattle.points.proofs.grid_point.regular_vertex.Reads as regular-vertex
+use Rattle.points.proofs.grid_point.regular_vertex_between.Reads as regular-vertex-between
 use Rattle.points.proofs.grid_point.transition_point.Reads as transition-point
 
 -- the lent samples, after those of the named sides below
@@ -42,8 +42,8 @@ vertex-between-pinned κs a r r′ e e′ h k = pinned h k
 pub fractions-of-pinned : (κs : Lfts 0) (a : _) (r r′ : _) (e e′ : _) → fractions-of.Learnt κs a r e → fractions-of.Learnt κs a r′ e′ → r ≡ r′
 fractions-of-pinned κs a r r′ e e′ h k = pinned (h .are) (k .are)
 
-pub regular-vertex-pinned : (κs : Lfts 2) (a : _) (r r′ : _) (e e′ : _) → regular-vertex.Learnt κs a r e → regular-vertex.Learnt κs a r′ e′ → r ≡ r′
-regular-vertex-pinned κs a r r′ e e′ h k = pinned (h []) (k [])
+pub regular-vertex-between-pinned : (κs : Lfts 2) (a : _) (r r′ : _) (e e′ : _) → regular-vertex-between.Learnt κs a r e → regular-vertex-between.Learnt κs a r′ e′ → r ≡ r′
+regular-vertex-between-pinned κs a r r′ e e′ h k = pinned (h []) (k [])
 
 pub transition-point-pinned : (κs : Lfts 3) (a : _) (r r′ : _) (e e′ : _) → transition-point.Asked κs a
     → transition-point.Learnt κs a r e → transition-point.Learnt κs a r′ e′ → r ≡ r′

@@ -118,7 +118,7 @@ fn regular_point(header: Header, fractions: &[f32; FRACTIONS], centre: &[f32], p
 }
 
 // The vertex between two of the block's grid points. It makes no GridPoint: one returned through memory costs a stall.
-pub fn regular_vertex(
+pub fn regular_vertex_between(
     header: Header,
     fractions: &[f32; FRACTIONS],
     centre: &[f32],

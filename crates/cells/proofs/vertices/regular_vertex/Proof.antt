@@ -17,32 +17,21 @@ voxel-b-index-requires c κs = search needs
 corner-point-requires-2 : tie.Need-corner-point-requires-2
 corner-point-requires-2 c κs = search needs
 
-regular-point-requires : tie.Need-regular-point-requires
-regular-point-requires c κs =
-    let b = c .before .before .before .before .before in (
-      b .pre .0,
-      corner-within (b .args .header .block .subdivisions) (b .args .at .x) (b .args .at .y) (b .args .at .z) _ _ (b .pre .1)
-          (c .before .before .corner-point .ensures),
-    )
-
-regular-point-requires-2 : tie.Need-regular-point-requires-2
-regular-point-requires-2 c κs =
-    let b = c .before .before .before .before .before .before in (
-      b .pre .0,
-      corner-within (b .args .header .block .subdivisions) (b .args .at .x) (b .args .at .y) (b .args .at .z) _ _ (b .pre .1)
-          (c .before .corner-point2 .ensures),
-    )
-
-vertex-between-requires : tie.Need-vertex-between-requires
-vertex-between-requires c κs = search needs
+regular-vertex-between-requires : tie.Need-regular-vertex-between-requires
+regular-vertex-between-requires c κs =
+    let b = c .before .before .before .before .before in
+    let a = b .args in
+    let within = corner-within (a .header .block .subdivisions) (a .at .x) (a .at .y) (a .at .z) in
+    (b .pre .0, (within _ _ (b .pre .1) (c .before .before .corner-point .ensures), within _ _ (b .pre .1) (c .corner-point2 .ensures)))
 
 returns : tie.Need-returns
 returns c =
-    let a = c .before .before .before .before .before .before .before .before .args in
-    λ ns. regular-made (star (a .header) (a .centre .now) ns) (a .at .x) (a .at .y) (a .at .z) (a .code) _ _ _ _ _ _ _
-    (c .before .before .before .before .before .before .voxel-a-index .ensures .0) (c .before .before .before .before .voxel-b-index .ensures .0)
-    (c .before .before .before .before .before .corner-point .ensures) (c .before .before .before .corner-point2 .ensures)
-    (c .before .before .regular-point .ensures ns) (c .before .regular-point2 .ensures ns) (c .vertex-between .ensures)
+    let second = c .before in
+    let first = second .before .before in
+    let a = first .before .before .before .args in
+    λ ns. regular-made (star (a .header) (a .centre .now) ns) (a .at .x) (a .at .y) (a .at .z) (a .code) _ _ _ _ _
+    (first .before .voxel-a-index .ensures .0) (second .before .voxel-b-index .ensures .0) (first .corner-point .ensures) (second .corner-point2 .ensures)
+    (c .regular-vertex-between .ensures ns)
 
 pub regular-vertex-spec : {M : Type 1} → statement M
 regular-vertex-spec =
@@ -52,7 +41,5 @@ regular-vertex-spec =
     corner-point-requires
     voxel-b-index-requires
     corner-point-requires-2
-    regular-point-requires
-    regular-point-requires-2
-    vertex-between-requires
+    regular-vertex-between-requires
     returns)

@@ -1,8 +1,8 @@
--- `grid_point::regular_vertex` meets its contract: what its calls ensure are the parts of the two grid points, taken with one weight.
+-- `grid_point::regular_vertex_between` meets its contract: what its calls ensure are the parts of the two grid points, taken with one weight.
 use borrow.Author.Needs.{needs}
 use Rattle.model.specs.Points.{regularPoint}
-use Rattle.points.proofs.grid_point.regular_vertex.Statement.{statement}
-use Rattle.points.proofs.grid_point.regular_vertex.Tie as tie
+use Rattle.points.proofs.grid_point.regular_vertex_between.Statement.{statement}
+use Rattle.points.proofs.grid_point.regular_vertex_between.Tie as tie
 
 sample-requires : tie.Need-sample-requires
 sample-requires c κs = search needs
@@ -49,8 +49,8 @@ returns c =
       weighed .before .before .sample .ensures,
     )
 
-pub regular-vertex-spec : {M : Type 1} → statement M
-regular-vertex-spec =
+pub regular-vertex-between-spec : {M : Type 1} → statement M
+regular-vertex-between-spec =
     tie.close
     (tie.spec
     sample-requires
