@@ -39,7 +39,3 @@ fourInside t a b c d z w =
 -- the case number of the cell at z between four lines
 abbrev pub lineCase : Float → List Float → List Float → List Float → List Float → ℕ → ℕ
 lineCase t a b c d z = fourInside t a b c d z 1 + fourInside t a b c d (z + 1) 16
-
--- the least number in a word's top byte, where a case number is summed
-abbrev pub topByte : ℕ
-topByte = 0x100_0000

@@ -1,7 +1,7 @@
 // The sheet of a layer of regular cells: each cell reads its own eight samples, from four lines along z.
 ghost use mathlib.Core.Path.{_≡_};
 ghost use mathlib.Core.List.{List};
-ghost use Prim.Native.Nat.{_+_, _*_, _≤_, _<_};
+ghost use Prim.Native.Nat.{_+_, _*_, _^_, _≤_, _<_};
 ghost use lib.Ieee.{Float};
 ghost use lib.ListN.{length};
 ghost use Rattle.model.specs.Limits.{mostSubdivisions};
@@ -9,14 +9,14 @@ ghost use Rattle.model.specs.Samples.{sampleLength};
 ghost use Rattle.model.specs.Formulas.{insideBit};
 ghost use Rattle.model.specs.Star.{star};
 ghost use Rattle.model.specs.Points.{regularCase};
-ghost use Rattle.cases.specs.Sheets.{rowWidth, sheetPlaces, Sheet, RowPut, Line, fourInside, lineCase, topByte};
+ghost use Rattle.cases.specs.Sheets.{rowWidth, sheetPlaces, Sheet, RowPut, Line, fourInside, lineCase};
 use crate::scan::ROW;
 use grid::voxel_blocks::in_block;
 use grid::voxel_blocks::inside;
 use model::Header;
 
-// What a cell's first corner adds. Sums in the top byte keep the compiler's lanes at thirty-two bits: lower down it narrows them, and packs
-// after each comparison.
+// What a cell's first corner adds. One sum in the top byte keeps the compiler's lanes at thirty-two bits: lower down, or of two halves, it
+// narrows them, and packs after each comparison.
 const TOP_BYTE: u32 = 0x100_0000;
 
 // What a sample adds if it is inside.
@@ -26,13 +26,22 @@ fn weighed(threshold: f32, sample: f32, w: u32) -> u32
     if inside(threshold, sample) { w } else { 0 }
 }
 
-// The four corners at one z, as the Rust numbers them, the first adding w.
-fn four(threshold: f32, a: &[f32], b: &[f32], c: &[f32], d: &[f32], z: usize, w: u32) -> u32
+// The four corners at one z, as the Rust numbers them, the first adding w to the sum.
+fn four(
+    threshold: f32,
+    a: &[f32],
+    b: &[f32],
+    c: &[f32],
+    d: &[f32],
+    z: usize,
+    w: u32,
+    sum: u32,
+) -> u32
     requires { ⌜ (z < length (now a)) × ((z < length (now b)) × ((z < length (now c)) × (z < length (now d)))) ⌝ }
-    requires { ⌜ w ≤ 16 * topByte ⌝ }
-    ensures { λ r. ⌜ (r ≡ fourInside threshold (now (a .entry)) (now (b .entry)) (now (c .entry)) (now (d .entry)) z w) × (r ≤ 15 * w) ⌝ }
+    requires { ⌜ sum + 15 * w < 2 ^ 32 ⌝ }
+    ensures { λ r. ⌜ (r ≡ sum + fourInside threshold (now (a .entry)) (now (b .entry)) (now (c .entry)) (now (d .entry)) z w) × (r ≤ sum + 15 * w) ⌝ }
 {
-    weighed(threshold, a[z], w)
+    sum + weighed(threshold, a[z], w)
         + weighed(threshold, b[z], 2 * w)
         + weighed(threshold, c[z], 4 * w)
         + weighed(threshold, d[z], 8 * w)
@@ -55,9 +64,9 @@ fn row_between(
 {
     let mut z = 0;
     while z < n {
-        let low = four(threshold, a, b, c, d, z, TOP_BYTE);
-        let high = four(threshold, a, b, c, d, z + 1, 16 * TOP_BYTE);
-        cases[start + z] = ((low + high) / TOP_BYTE) as u16;
+        let low = four(threshold, a, b, c, d, z, TOP_BYTE, 0);
+        let sum = four(threshold, a, b, c, d, z + 1, 16 * TOP_BYTE, low);
+        cases[start + z] = (sum / TOP_BYTE) as u16;
         z += 1;
     }
 }

@@ -30,14 +30,11 @@ mul-four c = search needs
 four-requires-2 : tie.Need-four-requires-2 Inv-loop μ-loop
 four-requires-2 c κs = search needs
 
-add-cases : tie.Need-add-cases Inv-loop μ-loop
-add-cases c = search needs
-
 cast-cases : tie.Need-cast-cases Inv-loop μ-loop
 cast-cases c = search needs
 
-add-cases-2 : tie.Need-add-cases-2 Inv-loop μ-loop
-add-cases-2 c = search needs
+add-cases : tie.Need-add-cases Inv-loop μ-loop
+add-cases c = search needs
 
 mul-cases : tie.Need-mul-cases Inv-loop μ-loop
 mul-cases c = search needs
@@ -78,9 +75,8 @@ row-between-spec =
     add-four
     mul-four
     four-requires-2
-    add-cases
     cast-cases
-    add-cases-2
+    add-cases
     mul-cases
     slice-write-cases
     add-z
