@@ -41,7 +41,8 @@ fn four(
     requires { ⌜ sum + 15 * w < 2 ^ 32 ⌝ }
     ensures { λ r. ⌜ (r ≡ sum + fourInside threshold (now (a .entry)) (now (b .entry)) (now (c .entry)) (now (d .entry)) z w) × (r ≤ sum + 15 * w) ⌝ }
 {
-    sum + weighed(threshold, a[z], w)
+    sum
+        + weighed(threshold, a[z], w)
         + weighed(threshold, b[z], 2 * w)
         + weighed(threshold, c[z], 4 * w)
         + weighed(threshold, d[z], 8 * w)

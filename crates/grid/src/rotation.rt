@@ -111,8 +111,6 @@ pub fn fine_points(n: usize, side: usize, u2: usize, v2: usize) -> FinePoints
 {
     let r = rotation_for_side(side);
     let here = point_from(r, 2 * n, u2, v2, 0);
-    FinePoints {
-        here,
-        there: moved(here, 2 * n, r.w),
-    }
+    let there = moved(here, 2 * n, r.w);
+    FinePoints { here, there }
 }
