@@ -113,7 +113,7 @@ loop-again c =
         still-long face,
         rw (c .before .plus .ensures) (
           few-of _ (omega (arith, next .from-le)) (few-more (l .inv .1 .1 .0) (more .0)),
-          λ centre. grows-as (λ m. sym (sides-skip _ m _ _ next)) (grows-more _ (l .side) (l .inv .1 .1 .1 centre) (more .1 _ refl (here .loop-test .taken, named-here) (face .face-cases .ensures centre))),
+          λ centre. grows-as (λ m. sym (sides-skip _ m _ _ next)) (grows-more _ (l .side) (l .inv .1 .1 .1 centre) (more .1 _ refl (omega (arith, here .loop-test .taken), named-here) (face .face-cases .ensures centre))),
         ),
       ),
     )

@@ -92,7 +92,7 @@ loop-again c =
       (
         still-long layer,
         rw (c .plus .ensures)
-            (few-of _ (omega arith) (few-more (l .inv .1 .1 .0) (more .0)), λ ns. grows-more _ (l .x) (l .inv .1 .1 .1 ns) (more .1 _ refl (layer .before .before .loop-test .taken) (layer .layer-cases .ensures ns))),
+            (few-of _ (omega arith) (few-more (l .inv .1 .1 .0) (more .0)), λ ns. grows-more _ (l .x) (l .inv .1 .1 .1 ns) (more .1 _ refl (omega (arith, layer .before .before .loop-test .taken)) (layer .layer-cases .ensures ns))),
       ),
     )
 
