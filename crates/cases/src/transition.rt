@@ -2,7 +2,7 @@
 // its steps along u and v are found once.
 ghost use mathlib.Core.Path.{_≡_};
 ghost use mathlib.Core.List.{List};
-ghost use Prim.Native.Nat.{ℕ, _+_, _*_, _≤_, _<_};
+ghost use Prim.Native.Nat.{ℕ, _+_, _*_, _^_, _≤_, _<_};
 ghost use lib.Ieee.{Float};
 ghost use lib.ListN.{length};
 ghost use Rattle.model.specs.Limits.{mostSubdivisions, sideCount};
@@ -22,6 +22,9 @@ use grid::transition_sides::neighbour;
 use grid::voxel_blocks::inside;
 use model::Header;
 
+// A contribution of 1: the nine stand in the top bits of one sum, for the reason that regular.rt tells.
+const ONE: u32 = 0x80_0000;
+
 // The first places of the three lines that a row of cells lies on, and their step.
 struct Lines {
     a: usize,
@@ -31,7 +34,7 @@ struct Lines {
 }
 
 // The weight of the point v2 steps along a line, if it is inside.
-fn weighed(threshold: f32, fine: &[f32], first: usize, step: Stride, v2: usize, w: u16) -> u16
+fn weighed(threshold: f32, fine: &[f32], first: usize, step: Stride, v2: usize, w: u32) -> u32
     requires { ⌜ Spot (length (now fine)) first step v2 ⌝ }
     ensures { λ r. ⌜ (r ≡ weighedAt threshold (now (fine .entry)) first step v2 w) × (r ≤ w) ⌝ }
 {
@@ -39,11 +42,22 @@ fn weighed(threshold: f32, fine: &[f32], first: usize, step: Stride, v2: usize, 
     if inside(threshold, fine[i]) { w } else { 0 }
 }
 
-fn three(threshold: f32, fine: &[f32], lines: Lines, v2: usize, wa: u16, wb: u16, wc: u16) -> u16
-    requires { ⌜ Lined (length (now fine)) lines v2 × ((wa ≤ 256) × ((wb ≤ 256) × (wc ≤ 256))) ⌝ }
-    ensures { λ r. ⌜ (r ≡ threeInside threshold (now (fine .entry)) lines v2 wa wb wc) × (r ≤ wa + wb + wc) ⌝ }
+// The three points at one v2, added to the sum.
+fn three(
+    threshold: f32,
+    fine: &[f32],
+    lines: Lines,
+    v2: usize,
+    wa: u32,
+    wb: u32,
+    wc: u32,
+    sum: u32,
+) -> u32
+    requires { ⌜ Lined (length (now fine)) lines v2 × (sum + wa + wb + wc < 2 ^ 32) ⌝ }
+    ensures { λ r. ⌜ (r ≡ sum + threeInside threshold (now (fine .entry)) lines v2 wa wb wc) × (r ≤ sum + wa + wb + wc) ⌝ }
 {
-    weighed(threshold, fine, lines.a, lines.step, v2, wa)
+    sum
+        + weighed(threshold, fine, lines.a, lines.step, v2, wa)
         + weighed(threshold, fine, lines.b, lines.step, v2, wb)
         + weighed(threshold, fine, lines.c, lines.step, v2, wc)
 }
@@ -54,10 +68,28 @@ fn nine(threshold: f32, fine: &[f32], lines: Lines, v: usize) -> u16
     ensures { λ r. ⌜ r ≡ nineInside threshold (now (fine .entry)) lines v ⌝ }
 {
     let v2 = 2 * v;
-    let low = three(threshold, fine, lines, v2, 0x01, 0x02, 0x04);
-    let middle = three(threshold, fine, lines, v2 + 1, 0x80, 0x100, 0x08);
-    let high = three(threshold, fine, lines, v2 + 2, 0x40, 0x20, 0x10);
-    low + middle + high
+    let low = three(threshold, fine, lines, v2, ONE, 0x02 * ONE, 0x04 * ONE, 0);
+    let middle = three(
+        threshold,
+        fine,
+        lines,
+        v2 + 1,
+        0x80 * ONE,
+        0x100 * ONE,
+        0x08 * ONE,
+        low,
+    );
+    let sum = three(
+        threshold,
+        fine,
+        lines,
+        v2 + 2,
+        0x40 * ONE,
+        0x20 * ONE,
+        0x10 * ONE,
+        middle,
+    );
+    (sum / ONE) as u16
 }
 
 // The cells on three lines, their numbers from start on.
