@@ -1,10 +1,11 @@
 -- Document 01, 'Answers by number': 7 for samples whose places are counted on from another place, and that two lists lent one after
 -- the other are judged one after the other. Samples that can all be used pass, wherever they are counted from.
 use Prim.Native.Nat.{ℕ, zero, suc, _+_}
-use mathlib.Core.Path.{_≡_, refl, sym, _∙_}
-use mathlib.Core.Bool.{Bool, true, _&&_, and-eq-true-iff}
+use mathlib.Core.Path.{_≡_, refl, sym, ap, _∙_}
+use mathlib.Core.Bool.{Bool, true, false, _&&_, and-eq-true-iff}
 use mathlib.Core.List.{List, _++_}
-use native.Mathlib.Nat.{zero-add}
+use native.Mathlib.Nat.{zero-add, add-zero, add-suc}
+use native.Mathlib.Numerals.{add-one}
 use lib.Ieee.{Float, nan}
 use lib.ListN.{length, getD, length-append, List·getD-append}
 use lib.Seq.{getD-append-add}
@@ -25,6 +26,35 @@ judgeFrom from samples = first (usableFrom from samples) (length samples)
 abbrev pub allUsable : List Float → ℕ → Bool
 allUsable samples zero = true
 allUsable samples (suc k) = allUsable samples k && usable (getD samples k nan)
+
+-- and so can k samples from a place on
+abbrev pub usableAfter : List Float → ℕ → ℕ → Bool
+usableAfter samples from zero = true
+usableAfter samples from (suc k) = usableAfter samples from k && usable (getD samples (from + k) nan)
+
+-- two parts that lie one after the other
+pub two-parts : (samples : List Float) (from k : ℕ) → allUsable samples from && usableAfter samples from k ≡ allUsable samples (from + k)
+two-parts samples from zero = rw add-zero (and-true _)
+  where
+    and-true : (b : Bool) → b && true ≡ b
+    and-true true = refl
+    and-true false = refl
+two-parts samples from (suc k) =
+    rw add-suc (sym (and-assoc (allUsable samples from) (usableAfter samples from k) _) ∙ ap (λ (b : Bool). b && usable (getD samples (from + k) nan)) (two-parts samples from k))
+  where
+    and-assoc : (a b c : Bool) → (a && b) && c ≡ a && (b && c)
+    and-assoc true b c = refl
+    and-assoc false b c = refl
+
+pub last-one : (samples : List Float) (k : ℕ) → length samples ≡ k + 1 → allUsable samples k && usable (getD samples k nan) ≡ allUsable samples (length samples)
+last-one samples k e = rw (e, add-one)
+
+-- a sample more of each part
+pub one-more-each : (a b x y : Bool) → (a && b) && (x && y) ≡ (a && x) && (b && y)
+one-more-each true true x y = refl
+one-more-each true false true y = refl
+one-more-each true false false y = refl
+one-more-each false b x y = refl
 
 all-pass : (from : ℕ) (samples : List Float) (k : ℕ) → allUsable samples k ≡ true → first (usableFrom from samples) k ≡ Passed
 all-pass from samples zero h = refl

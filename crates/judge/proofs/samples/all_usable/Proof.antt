@@ -1,57 +1,48 @@
--- `judge::samples::all_usable` meets its contract. The invariant: the flag tells whether the samples before this place can be used.
-use Prim.Native.Nat.{_≤_, _-_}
-use mathlib.Core.Path.{_≡_}
-use borrow.Author.Needs.{needs}
+-- `judge::samples::all_usable` meets its contract: two halves are the whole list, or leave one sample.
+use Prim.Native.Nat.{_+_, _/_}
+use mathlib.Core.Path.{_≡_, ap, _∙_}
 use native.Mathlib.Omega.{arith}
-use native.Mathlib.Numerals.{add-one}
+use borrow.Author.Needs.{needs}
 use lib.ListN.{length}
-use Rattle.judge.specs.Counted.{allUsable}
+use Rattle.judge.specs.Counted.{allUsable, last-one}
 use Rattle.judge.proofs.samples.all_usable.Statement.{statement}
 use Rattle.judge.proofs.samples.all_usable.Tie as tie
 
-abbrev Inv-loop : tie.InvT-loop
-Inv-loop samples usable₀ place₀ place-end usable place = (place ≤ length samples) × (usable ≡ allUsable samples place)
+halves-usable-requires : tie.Need-halves-usable-requires
+halves-usable-requires c κs = search needs
 
-abbrev μ-loop : tie.MeasureT-loop
-μ-loop samples usable₀ place₀ place-end usable place = length samples - place
+returns : tie.Need-returns
+returns c =
+    let samples = c .before .before .before .args .samples .now in
+    let even : length samples / 2 + length samples / 2 ≡ length samples = omega arith in
+    c .before .halves-usable .ensures ∙ ap (allUsable samples) even
 
-loop-holds : tie.Need-loop-holds Inv-loop μ-loop
-loop-holds c = search needs
+add-is-usable : tie.Need-add-is-usable
+add-is-usable c = search needs
 
-mul-is-usable : tie.Need-mul-is-usable Inv-loop μ-loop
+mul-is-usable : tie.Need-mul-is-usable
 mul-is-usable c = search needs
 
-shared-slice-read-is-usable : tie.Need-shared-slice-read-is-usable Inv-loop μ-loop
+shared-slice-read-is-usable : tie.Need-shared-slice-read-is-usable
 shared-slice-read-is-usable c = search needs
 
-is-usable-requires : tie.Need-is-usable-requires Inv-loop μ-loop
+is-usable-requires : tie.Need-is-usable-requires
 is-usable-requires c κs = search needs
 
-add-place : tie.Need-add-place Inv-loop μ-loop
-add-place c = search needs
-
-loop-less : tie.Need-loop-less Inv-loop μ-loop
-loop-less c = search needs
-
-loop-again : tie.Need-loop-again Inv-loop μ-loop
-loop-again c = (omega arith, rw (add-one, c .before .before .before .loop .inv .1, c .is-usable .ensures))
-
-returns : tie.Need-returns Inv-loop μ-loop
-returns c =
-    let end : c .before .loop .place ≡ length (c .before .before .before .args .samples .now) = omega arith in
-    rw end at (c .before .loop .inv .1)
+returns-2 : tie.Need-returns-2
+returns-2 c =
+    let halves = c .before .before .before in
+    let samples = halves .before .before .args .samples .now in
+    rw (halves .halves-usable .ensures, c .is-usable .ensures) (last-one samples (length samples / 2 + length samples / 2) (omega arith))
 
 pub all-usable-spec : {M : Type 1} → statement M
 all-usable-spec =
     tie.close
     (tie.spec
-    Inv-loop
-    μ-loop
-    loop-holds
+    halves-usable-requires
+    returns
+    add-is-usable
     mul-is-usable
     shared-slice-read-is-usable
     is-usable-requires
-    add-place
-    loop-less
-    loop-again
-    returns)
+    returns-2)
