@@ -10,8 +10,8 @@ use crate::or_else;
 use model::Refusal;
 use model::Verdict;
 
-// Whether the samples of two halves can be used. It looks at them all, which the compiler does many at a time; the halves lie side by side, since
-// two streams come faster from memory than one.
+// Whether the samples of two halves can be used. It looks at them all, which the compiler does many at a time, and at both halves side by side,
+// since two streams come faster from memory than one.
 fn halves_usable(samples: &[f32], half: usize) -> bool
     requires { ⌜ half + half ≤ length (now samples) ⌝ }
     ensures { λ r. ⌜ r ≡ allUsable (now (samples .entry)) (half + half) ⌝ }
