@@ -12,7 +12,7 @@ use Rattle.model.specs.Limits.{mostSubdivisions, sideCount}
 use Rattle.model.specs.Star.{Star, subdivisions}
 use Rattle.model.specs.Mesh.{Cell, Mesh, emptyMesh, cellStep, regularLayer, regularMesh, transitionSide, meshOf}
 use Rattle.cells.specs.declared.SheetIndex.{SheetIndex}
-use Rattle.cells.specs.Sheets.{sheetCell}
+use Rattle.cells.specs.SheetCells.{sheetCell}
 use Rattle.cells.specs.Puts.{Adds, Few}
 use Rattle.cases.specs.Sheets.{rowWidth}
 use Rattle.cases.specs.Scans.{NextCut}

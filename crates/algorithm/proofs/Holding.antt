@@ -17,7 +17,7 @@ use Rattle.points.specs.CellPoints.{centred}
 use Rattle.cells.specs.declared.SheetIndex.{SheetIndex}
 use Rattle.cells.specs.declared.SheetIndex.the-variants.{Layer, Side}
 use Rattle.cells.specs.Kinds.{Ready as CellReady}
-use Rattle.cells.specs.Sheets.{cellAt}
+use Rattle.cells.specs.SheetCells.{cellAt}
 use Rattle.cells.specs.Buffers.{layVertices, layTriangles}
 use Rattle.laws.specs.Lists.{length-listed, each-append}
 use Rattle.laws.specs.Laying.{take-lay}

@@ -21,8 +21,8 @@ use Rattle.cases.specs.Sheets.{rowWidth, Sheet}
 use Rattle.cases.specs.Scans.{uncut, NextCut}
 use Rattle.cells.specs.declared.SheetIndex.{SheetIndex}
 use Rattle.cells.specs.declared.SheetIndex.the-variants.{Layer, Side}
-use Rattle.cells.specs.Sheets.{sheetCell, caseAt, allOf}
-use Rattle.cells.specs.Numbers.{case-small}
+use Rattle.cells.specs.SheetCells.{sheetCell, caseAt, allOf}
+use Rattle.cells.specs.SheetNumbers.{case-small}
 use Rattle.cells.specs.Puts.{Nothing}
 use Rattle.cells.specs.Uncut.{nothing-step, regular-nothing, transition-nothing}
 use Rattle.algorithm.specs.Passes.{SheetOf, Numbered, SheetIn, wholeSheet, sheetBefore, sheetAfter, sheetStep, sheetTo}

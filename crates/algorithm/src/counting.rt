@@ -13,7 +13,7 @@ ghost use Rattle.model.specs.Mesh.{regularLayer, transitionSide, meshOf};
 ghost use Rattle.grid.specs.Shape.{Shaped};
 ghost use Rattle.cases.specs.Sheets.{sheetPlaces, Sheet};
 ghost use Rattle.cells.specs.Puts.{Few};
-ghost use Rattle.cells.specs.Sheets.{caseAt, allOf, Tables};
+ghost use Rattle.cells.specs.SheetCells.{caseAt, allOf, Tables};
 ghost use Rattle.algorithm.specs.Passes.{mostCells, plus, Numbered, SidesThere, SheetIn, wholeSheet, Grows, Counted};
 use crate::NONE;
 use cases::regular::layer_cases;

@@ -7,7 +7,7 @@ ghost use Rattle.model.specs.Mesh.{storeLength, regularMesh, meshOf};
 ghost use Rattle.grid.specs.Shape.{Shaped};
 ghost use Rattle.points.specs.Fractions.{Fractions};
 ghost use Rattle.cases.specs.Sheets.{sheetPlaces, Sheet};
-ghost use Rattle.cells.specs.Sheets.{caseAt, Tables};
+ghost use Rattle.cells.specs.SheetCells.{caseAt, Tables};
 ghost use Rattle.algorithm.specs.Passes.{SheetIn, sheetBefore, sheetAfter, Fits, Holds, Exact, Written};
 use crate::NONE;
 use cases::regular::layer_cases;

@@ -6,25 +6,17 @@ ghost use lib.Ieee.{Float};
 ghost use lib.ListN.{length};
 ghost use Rattle.model.specs.Limits.{mostSubdivisions};
 ghost use Rattle.model.specs.Samples.{sampleLength};
-ghost use Rattle.model.specs.Formulas.{insideBit};
 ghost use Rattle.model.specs.Star.{star};
 ghost use Rattle.model.specs.Points.{regularCase};
 ghost use Rattle.cases.specs.Sheets.{rowWidth, sheetPlaces, Sheet, RowPut, Line, fourInside, lineCase};
 use crate::scan::ROW;
+use crate::weighed;
 use grid::voxel_blocks::in_block;
-use grid::voxel_blocks::inside;
 use model::Header;
 
 // What a cell's first corner adds. One sum in the top byte keeps the compiler's lanes at thirty-two bits: lower down, or of two halves, it
 // narrows them, and packs after each comparison.
 const TOP_BYTE: u32 = 0x100_0000;
-
-// What a sample adds if it is inside.
-fn weighed(threshold: f32, sample: f32, w: u32) -> u32
-    ensures { λ r. ⌜ (r ≡ w * insideBit threshold sample) × (r ≤ w) ⌝ }
-{
-    if inside(threshold, sample) { w } else { 0 }
-}
 
 // The four corners at one z, as the Rust numbers them, the first adding w to the sum.
 fn four(

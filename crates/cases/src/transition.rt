@@ -14,12 +14,12 @@ ghost use Rattle.grid.specs.Walks.{walkOf, alongBy, Leads};
 ghost use Rattle.cases.specs.Sheets.{rowWidth, sheetPlaces, Sheet, RowPut};
 ghost use Rattle.cases.specs.Faces.{Spot, Lined, weighedAt, threeInside, nineInside};
 use crate::scan::ROW;
+use crate::weighed;
 use grid::face_walk::FaceWalk;
 use grid::face_walk::Stride;
 use grid::face_walk::along;
 use grid::face_walk::face_walk;
 use grid::transition_sides::neighbour;
-use grid::voxel_blocks::inside;
 use model::Header;
 
 // A contribution of 1: the nine stand in the top bits of one sum, for the reason that regular.rt tells.
@@ -33,13 +33,13 @@ struct Lines {
     step: Stride,
 }
 
-// The weight of the point v2 steps along a line, if it is inside.
-fn weighed(threshold: f32, fine: &[f32], first: usize, step: Stride, v2: usize, w: u32) -> u32
+// What the point v2 steps along a line adds.
+fn weighed_at(threshold: f32, fine: &[f32], first: usize, step: Stride, v2: usize, w: u32) -> u32
     requires { ⌜ Spot (length (now fine)) first step v2 ⌝ }
     ensures { λ r. ⌜ (r ≡ weighedAt threshold (now (fine .entry)) first step v2 w) × (r ≤ w) ⌝ }
 {
     let i = along(first, step, v2);
-    if inside(threshold, fine[i]) { w } else { 0 }
+    weighed(threshold, fine[i], w)
 }
 
 // The three points at one v2, added to the sum.
@@ -57,9 +57,9 @@ fn three(
     ensures { λ r. ⌜ (r ≡ sum + threeInside threshold (now (fine .entry)) lines v2 wa wb wc) × (r ≤ sum + wa + wb + wc) ⌝ }
 {
     sum
-        + weighed(threshold, fine, lines.a, lines.step, v2, wa)
-        + weighed(threshold, fine, lines.b, lines.step, v2, wb)
-        + weighed(threshold, fine, lines.c, lines.step, v2, wc)
+        + weighed_at(threshold, fine, lines.a, lines.step, v2, wa)
+        + weighed_at(threshold, fine, lines.b, lines.step, v2, wb)
+        + weighed_at(threshold, fine, lines.c, lines.step, v2, wc)
 }
 
 // What each of the nine fine points adds if it is inside: the Rust's TRANSITION_HIGH_RES_FACE_CASE_CONTRIBUTIONS.

@@ -22,7 +22,7 @@ use Rattle.cells.specs.declared.SheetIndex.the-variants.{Layer, Side}
 use Rattle.cells.specs.Puts.{Room, CellPut, Adds}
 use Rattle.cells.specs.Rows.{Followed}
 use Rattle.cells.specs.Kinds.{Usable, cellOf, Coded}
-use Rattle.cells.specs.Sheets.{cellAt, sheetCell, caseAt, allOf, codesOf, rowOf, turnedOf}
+use Rattle.cells.specs.SheetCells.{cellAt, sheetCell, caseAt, allOf, codesOf, rowOf, turnedOf}
 
 -- ---- the same cell under two names
 

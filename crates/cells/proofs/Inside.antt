@@ -23,7 +23,7 @@ use Rattle.cells.specs.declared.SheetIndex.the-variants.{Layer, Side}
 use Rattle.cells.specs.Fills.{made-total}
 use Rattle.cells.specs.Kinds.{makesAt, cellOf}
 use Rattle.cells.specs.Puts.{Adds}
-use Rattle.cells.specs.Sheets.{cellAt, sheetCell, caseAt, allOf, rowOf, awayFromLow}
+use Rattle.cells.specs.SheetCells.{cellAt, sheetCell, caseAt, allOf, rowOf, awayFromLow}
 use Rattle.cells.proofs.ByCase.{adds-as, sheet-is}
 use Rattle.cells.proofs.Uses.{use-count}
 

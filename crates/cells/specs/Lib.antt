@@ -2,7 +2,7 @@ pub mod Buffers
 pub mod Puts
 pub mod Rows
 pub mod Kinds
-pub mod Sheets
+pub mod SheetCells
 pub mod Fills
 pub mod Uncut
-pub mod Numbers
+pub mod SheetNumbers

@@ -6,7 +6,7 @@ ghost use Rattle.model.specs.Star.{Star, star};
 ghost use Rattle.model.specs.Mesh.{storeLength, fillTo};
 ghost use Rattle.cells.specs.Kinds.{Ready};
 ghost use Rattle.cells.specs.Puts.{Room, CellPut, Adds, Few};
-ghost use Rattle.cells.specs.Sheets.{cellAt, allOf, caseAt, sheetCell, classArray, cellArray, codeArray, Tables, codesOf, rowOf, turnedOf, awayFromLow};
+ghost use Rattle.cells.specs.SheetCells.{cellAt, allOf, caseAt, sheetCell, classArray, cellArray, codeArray, Tables, codesOf, rowOf, turnedOf, awayFromLow};
 use crate::CellIndex;
 use crate::SheetIndex;
 use crate::cell::count_cell;

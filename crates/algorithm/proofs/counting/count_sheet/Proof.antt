@@ -5,7 +5,7 @@ use Prim.Native.Nat.{_-_, _*_, _%_, _≤_, _<_}
 use mathlib.Core.Path.{_≡_}
 use Rattle.model.specs.Star.{Star, subdivisions}
 use Rattle.cases.specs.Sheets.{rowWidth, Sheet}
-use Rattle.cells.specs.Sheets.{caseAt, sheetCell}
+use Rattle.cells.specs.SheetCells.{caseAt, sheetCell}
 use Rattle.cells.specs.Puts.{Few}
 use Rattle.algorithm.specs.Passes.{sheetTo, Grows}
 use Rattle.algorithm.proofs.Walk.{sheet-of, scan-as}

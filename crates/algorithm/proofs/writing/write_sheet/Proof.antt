@@ -5,7 +5,7 @@ use native.Mathlib.Omega.{arith}
 use borrow.Author.Needs.{needs}
 use Rattle.model.specs.Star.{Star, star}
 use Rattle.cases.specs.Sheets.{rowWidth}
-use Rattle.cells.specs.Sheets.{sheetCell, caseAt, allOf}
+use Rattle.cells.specs.SheetCells.{sheetCell, caseAt, allOf}
 use Rattle.algorithm.specs.Passes.{SheetOf, sheetBefore, sheetTo, Holds, SameLengths}
 use Rattle.algorithm.proofs.Walk.{sheet-of, scan-as, case-there, sheet-after, after-upto}
 use Rattle.algorithm.proofs.Holding.{cell-ready, Ready, room-vertices, room-triangles, holds-more, holds-skip, ready-at, holds-on, same-then, fits-still}

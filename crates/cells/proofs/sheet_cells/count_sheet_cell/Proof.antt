@@ -3,7 +3,7 @@ use mathlib.Core.Path.{_≡_, refl, sym, _∙_}
 use native.Mathlib.Omega.{arith}
 use borrow.Author.Needs.{needs}
 use Rattle.cells.specs.Rows.{Followed}
-use Rattle.cells.specs.Sheets.{turnedOf}
+use Rattle.cells.specs.SheetCells.{turnedOf}
 use Rattle.cells.proofs.ByCase.{adds-as, sheet-coded, sheet-followed, sheet-is}
 use Rattle.cells.proofs.Inside.{away-small, away-adds}
 use Rattle.cells.proofs.sheet_cells.count_sheet_cell.Statement.{statement}

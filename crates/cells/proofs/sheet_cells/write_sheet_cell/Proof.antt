@@ -5,8 +5,8 @@ use native.Mathlib.Omega.{arith}
 use borrow.Author.Needs.{needs}
 use Rattle.model.specs.Star.{Star, star}
 use Rattle.cells.specs.Kinds.{cellOf}
-use Rattle.cells.specs.Sheets.{allOf, sheetCell}
-use Rattle.cells.specs.Numbers.{case-small}
+use Rattle.cells.specs.SheetCells.{allOf, sheetCell}
+use Rattle.cells.specs.SheetNumbers.{case-small}
 use Rattle.cells.proofs.ByCase.{vertex-room, triangle-room, put-as, sheet-coded, sheet-followed, sheet-is}
 use Rattle.cells.proofs.sheet_cells.write_sheet_cell.Statement.{statement}
 use Rattle.cells.proofs.sheet_cells.write_sheet_cell.Tie as tie

@@ -4,7 +4,7 @@ use Rattle.model.specs.Star.{Star}
 use Rattle.cases.specs.Numbers.{regular-case-small, transition-case-small}
 use Rattle.cells.specs.declared.SheetIndex.{SheetIndex}
 use Rattle.cells.specs.declared.SheetIndex.the-variants.{Layer, Side}
-use Rattle.cells.specs.Sheets.{caseAt, allOf}
+use Rattle.cells.specs.SheetCells.{caseAt, allOf}
 
 pub case-small : (s : Star) (sheet : SheetIndex) (u v : ℕ) → caseAt s sheet u v ≤ allOf sheet
 case-small s (Layer x) u v = regular-case-small s x u v

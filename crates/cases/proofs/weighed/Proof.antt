@@ -1,10 +1,10 @@
--- `regular::weighed` meets its contract by what `inside` ensures.
+-- `weighed` meets its contract by what `inside` ensures.
 use mathlib.Core.Path.{sym}
 use native.Mathlib.Nat.{mul-one, mul-zero}
 use native.Mathlib.Omega.{arith}
 use borrow.Author.Needs.{needs}
-use Rattle.cases.proofs.regular.weighed.Statement.{statement}
-use Rattle.cases.proofs.regular.weighed.Tie as tie
+use Rattle.cases.proofs.weighed.Statement.{statement}
+use Rattle.cases.proofs.weighed.Tie as tie
 
 inside-requires : tie.Need-inside-requires
 inside-requires c κs = search needs

@@ -1,0 +1,23 @@
+-- `transition::weighed_at` meets its contract by what `weighed` ensures of the sample that the steps lead to.
+use borrow.Author.Needs.{needs}
+use Rattle.cases.proofs.transition.weighed_at.Statement.{statement}
+use Rattle.cases.proofs.transition.weighed_at.Tie as tie
+
+along-requires : tie.Need-along-requires
+along-requires c κs = search needs
+
+mul-weighed : tie.Need-mul-weighed
+mul-weighed c = search needs
+
+shared-slice-read-weighed : tie.Need-shared-slice-read-weighed
+shared-slice-read-weighed c = search needs
+
+weighed-requires : tie.Need-weighed-requires
+weighed-requires c κs = search needs
+
+returns : tie.Need-returns
+returns c = (rw (← c .before .before .along .ensures) (c .weighed .ensures .0), c .weighed .ensures .1)
+
+pub weighed-at-spec : {M : Type 1} → statement M
+weighed-at-spec =
+    tie.close (tie.spec along-requires mul-weighed shared-slice-read-weighed weighed-requires returns)
