@@ -60,6 +60,8 @@ pub fn numbers_of(refusal: Refusal) -> Numbers
         Refusal::SampleCount(wanted) => numbers(13, wanted, 0, 0),
         Refusal::BufferTooShort(wanted) => numbers(14, wanted, 0, 0),
         Refusal::PointNeverSampled => numbers(15, 0, 0, 0),
+        Refusal::StlLength(wanted) => numbers(16, wanted, 0, 0),
+        Refusal::NoVertex(triangle) => numbers(17, triangle, 0, 0),
     }
 }
 

@@ -4,6 +4,7 @@ pub mod Steps
 pub mod Iterated
 pub mod Lists
 pub mod Laying
+pub mod Gathered
 pub mod Sums
 -- tests as Bools, and counting what passes one
 pub mod Tests

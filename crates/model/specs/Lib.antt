@@ -9,6 +9,7 @@ pub mod Points
 pub mod Mesh
 pub mod Judging
 pub mod Extraction
+pub mod Words
 pub mod Record
 pub mod Viewer
 pub mod Figures

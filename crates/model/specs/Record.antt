@@ -1,10 +1,9 @@
--- Document 01, 'Block record': its bytes, what reading them answers, and what writing them leaves. Definitions only.
-use Prim.Native.Nat.{ℕ, _+_, _-_, _*_, _/_, _%_}
+-- Document 01, 'Block record': its bytes, big-endian, what reading them answers, and what writing them leaves. Definitions only.
+use Prim.Native.Nat.{ℕ, _+_, _-_, _*_}
 use mathlib.Core.Bool.{_&&_}
 use mathlib.Core.List.{List, [], _∷_, _++_}
 use lib.Dec.{eqb, leb}
-use lib.Ieee as Ieee
-use lib.Ieee.{Float, binary32}
+use lib.Ieee.{Float}
 use lib.ListN.{length, getD}
 use Rattle.model.specs.declared.Header.{Header}
 use Rattle.model.specs.declared.Refusal.the-variants.{RecordLength, Version, SampleCount}
@@ -16,6 +15,7 @@ use Rattle.model.specs.declared.RecordWritten.{RecordWritten}
 use Rattle.model.specs.declared.RecordWritten.the-variants as RecordWritten
 use Rattle.laws.specs.Steps.{listed, each, laid}
 use Rattle.model.specs.Sides.{sampleCount}
+use Rattle.model.specs.Words.{wordAt, wordBytes, floatAt, floatBytes}
 use Rattle.model.specs.Formulas.{vector}
 use Rattle.model.specs.Refusals.{unless, orElse}
 use Rattle.model.specs.Judging.{judgeSubdivisions, judgeMask, judgeMeasures, judgeSamples, judgeBuffer, judgeStar}
@@ -48,21 +48,6 @@ headerLength = 27
 
 abbrev pub sampleFrom : ℕ → ℕ
 sampleFrom k = headerLength + 4 * k
-
--- ---- big-endian words
-
-unfoldable pub wordAt : List ℕ → ℕ → ℕ
-wordAt bytes at =
-    16777216 * getD bytes at 0 + 65536 * getD bytes (at + 1) 0 + 256 * getD bytes (at + 2) 0 + getD bytes (at + 3) 0
-
-unfoldable pub wordBytes : ℕ → List ℕ
-wordBytes w = w / 16777216 % 256 ∷ w / 65536 % 256 ∷ w / 256 % 256 ∷ w % 256 ∷ []
-
-abbrev pub floatAt : List ℕ → ℕ → Float
-floatAt bytes at = Ieee.ofBits binary32 (wordAt bytes at)
-
-abbrev pub floatBytes : Float → List ℕ
-floatBytes x = wordBytes (Ieee.toBits binary32 x)
 
 -- ---- reading
 

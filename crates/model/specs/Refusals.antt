@@ -1,9 +1,9 @@
--- Document 01, 'Answers by number': the number and three numbers of each refusal, and the first refusal of several.
+-- Document 01, 'Answers by number', and document 02: the number and three numbers of each refusal, and the first refusal of several.
 -- Definitions only.
 use Prim.Native.Nat.{ℕ, zero, suc}
 use mathlib.Core.Bool.{Bool, true, false}
 use Rattle.model.specs.declared.Refusal.{Refusal}
-use Rattle.model.specs.declared.Refusal.the-variants.{Subdivisions, Mask, Measure, CentreLength, MissingNeighbour, NeighboursTooLong, BadSample, FaceMismatch, IndexStoreTooShort, NoRoom, RecordLength, Version, SampleCount, BufferTooShort, PointNeverSampled}
+use Rattle.model.specs.declared.Refusal.the-variants.{Subdivisions, Mask, Measure, CentreLength, MissingNeighbour, NeighboursTooLong, BadSample, FaceMismatch, IndexStoreTooShort, NoRoom, RecordLength, Version, SampleCount, BufferTooShort, PointNeverSampled, StlLength, NoVertex}
 use Rattle.model.specs.declared.Numbers.{Numbers}
 use Rattle.model.specs.declared.Verdict.{Verdict}
 use Rattle.model.specs.declared.Verdict.the-variants.{Passed, Refused}
@@ -27,6 +27,8 @@ numbersOf (Version byte) = numbers 12 byte 0 0
 numbersOf (SampleCount wanted) = numbers 13 wanted 0 0
 numbersOf (BufferTooShort wanted) = numbers 14 wanted 0 0
 numbersOf PointNeverSampled = numbers 15 0 0 0
+numbersOf (StlLength wanted) = numbers 16 wanted 0 0
+numbersOf (NoVertex triangle) = numbers 17 triangle 0 0
 
 -- the refusal, unless the test holds
 abbrev pub unless : Bool → Refusal → Verdict

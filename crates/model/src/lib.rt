@@ -78,7 +78,7 @@ pub struct Counts {
     pub triangles: usize,
 }
 
-// The refusals 1 to 15, in the order of their numbers.
+// The refusals, in the order of their numbers from 1 on. An STL of too many triangles to write wants no length: 0.
 pub enum Refusal {
     Subdivisions(usize),
     Mask(usize),
@@ -95,6 +95,8 @@ pub enum Refusal {
     SampleCount(usize),
     BufferTooShort(usize),
     PointNeverSampled,
+    StlLength(usize),
+    NoVertex(usize),
 }
 
 // A refusal as document 01 gives it out.

@@ -13,9 +13,6 @@ use Rattle.record.proofs.fields.sample_of.Reads as sample-of
 use Rattle.record.proofs.fields.sample_bits_of.Reads as sample-bits-of
 use Rattle.record.proofs.judging.judge_record.Reads as judge-record
 use Rattle.record.proofs.reader.read_record.Reads as read-record
-use Rattle.record.proofs.words.word_at.Reads as word-at
-use Rattle.record.proofs.words.float_at.Reads as float-at
-use Rattle.record.proofs.words.put_word.Reads as put-word
 use Rattle.record.proofs.writer.write_record.Reads as write-record
 
 pub sample-from-pinned : (κs : Lfts 0) (a : _) (r r′ : _) (e e′ : _) → sample-from.Learnt κs a r e → sample-from.Learnt κs a r′ e′ → r ≡ r′
@@ -45,15 +42,6 @@ judge-record-pinned κs a r r′ e e′ h k = pinned h k
 pub read-record-pinned : (κs : Lfts 2) (a : _) (r r′ : _) (e e′ : _) → read-record.Learnt κs a r e → read-record.Learnt κs a r′ e′
     → (r ≡ r′) × (now (e .1 .0) ≡ now (e′ .1 .0))
 read-record-pinned κs a r r′ e e′ h k = (λ i. pinned h k i .answer, λ i. pinned h k i .samples)
-
-pub word-at-pinned : (κs : Lfts 1) (a : _) (r r′ : _) (e e′ : _) → word-at.Learnt κs a r e → word-at.Learnt κs a r′ e′ → r ≡ r′
-word-at-pinned κs a r r′ e e′ h k = pinned h k
-
-pub float-at-pinned : (κs : Lfts 1) (a : _) (r r′ : _) (e e′ : _) → float-at.Learnt κs a r e → float-at.Learnt κs a r′ e′ → r ≡ r′
-float-at-pinned κs a r r′ e e′ h k = pinned h k
-
-pub put-word-pinned : (κs : Lfts 1) (a : _) (r r′ : _) (e e′ : _) → put-word.Learnt κs a r e → put-word.Learnt κs a r′ e′ → now (e .0) ≡ now (e′ .0)
-put-word-pinned κs a r r′ e e′ h k = pinned h k
 
 pub write-record-pinned : (κs : Lfts 3) (a : _) (r r′ : _) (e e′ : _) → write-record.Learnt κs a r e → write-record.Learnt κs a r′ e′
     → (r ≡ r′) × (now (e .1 .1 .1 .0) ≡ now (e′ .1 .1 .1 .0))

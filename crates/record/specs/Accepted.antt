@@ -18,10 +18,12 @@ use Rattle.model.specs.declared.Verdict.the-variants.{Passed}
 use Rattle.model.specs.Limits.{mostSubdivisions, mostMask}
 use Rattle.model.specs.Refusals.{unless, first}
 use Rattle.model.specs.Judging.{usable, measureUsable, judgeMeasures, judgeSamples, sampleUsable}
-use Rattle.model.specs.Record.{versionAt, thresholdAt, headerLength, sampleFrom, wordAt, floatAt, headerOf, countOf, samplesOf, judgeRecord}
+use Rattle.model.specs.Words.{wordAt, floatAt}
+use Rattle.model.specs.Record.{versionAt, thresholdAt, headerLength, sampleFrom, headerOf, countOf, samplesOf, judgeRecord}
 use Rattle.laws.specs.Lists.{length-listed, getD-listed}
 use Rattle.judge.specs.First.{unless-passed, both-passed, passed-over}
-use Rattle.record.specs.Words.{Bytes, word-lt, usable-number, size-number}
+use Rattle.words.specs.Orders.{Bytes, word-lt}
+use Rattle.record.specs.Usable.{usable-number, size-number}
 
 each-passed : (f : ℕ → Verdict) (n k : ℕ) → first f n ≡ Passed → k < n → f k ≡ Passed
 each-passed f zero k e h = absurd (not-suc-le-zero h)

@@ -4,15 +4,18 @@ use Prim.Native.Nat.{ℕ, zero, suc, _+_, _-_, _*_, _^_, _≤_, _<_}
 use native.Mathlib.Nat.{zero-add}
 use native.Mathlib.Omega.{arith}
 use mathlib.Core.Path.{_≡_, refl, sym, ap, ap₂, _∙_}
-use mathlib.Core.List.{List, [], _∷_, _++_, append-assoc}
+use mathlib.Core.List.{List, [], _∷_, _++_, append-assoc, append-nil}
 use lib.Ieee.{Float, nan}
 use lib.ListN.{length, getD, take, drop, length-append, length-drop, take-append-drop}
 use lib.Seq.{drop-cons, take-add, take-all, drop-drop, getD-append-add, sets}
 use Rattle.model.specs.declared.Header.{Header}
 use Rattle.laws.specs.Steps.{listed, each, laid}
-use Rattle.model.specs.Record.{versionAt, subdivisionsAt, maskAt, thresholdAt, headerLength, sampleFrom, wordAt, wordBytes, floatAt, floatBytes, headerOf, countOf, samplesOf, recordOf}
+use Rattle.model.specs.Words.{wordAt, wordBytes, floatAt, floatBytes}
+use Rattle.model.specs.Record.{versionAt, subdivisionsAt, maskAt, thresholdAt, headerLength, sampleFrom, headerOf, countOf, samplesOf, recordOf}
 use Rattle.laws.specs.Lists.{each-append, length-each, listed-is, sets-append, sets-first}
-use Rattle.record.specs.Words.{Bytes, Fit, word-after, word-back, floats-back, floats-after, usable-number}
+use Rattle.words.specs.Orders.{Bytes, big}
+use Rattle.words.specs.Floats.{Fit, floats-back, floats-after}
+use Rattle.record.specs.Usable.{usable-number}
 use Rattle.record.specs.Accepted.{Accepted, length-samples, measured}
 
 -- the five floats of a header
@@ -46,7 +49,7 @@ length-told h samples l =
     let rest = each floatBytes (measuresOf h ++ samples) in
     let start : List ℕ = 1 ∷ h .block .subdivisions ∷ h .mask ∷ [] in
     ap (λ (b : List ℕ). wordAt b 0) (by-floats h samples ∙ append-assoc (wordBytes (lengthField (length samples))) start rest)
-    ∙ word-after [] (start ++ rest) (lengthField (length samples)) l
+    ∙ big .after [] (start ++ rest) (lengthField (length samples)) l
 
 pub version-told : (h : Header) (samples : List Float) → getD (recordOf h samples) 4 0 ≡ 1
 unfolding wordBytes
@@ -64,8 +67,10 @@ module _ (h : Header) (samples : List Float) (fit-measures : Fit (measuresOf h))
   float-is : (k : ℕ) → k < 5 + length samples → floatAt (recordOf h samples) (thresholdAt + 4 * k) ≡ getD (measuresOf h ++ samples) k nan
   unfolding wordBytes
   float-is k l =
-      ap (λ (b : List ℕ). floatAt b (thresholdAt + 4 * k)) (by-floats h samples)
-      ∙ floats-after (startOf h (length samples)) (measuresOf h ++ samples) k fit-all (rw length-append l)
+      let start = startOf h (length samples) in
+      let rest = each floatBytes (measuresOf h ++ samples) in
+      ap (λ (b : List ℕ). floatAt b (thresholdAt + 4 * k)) (by-floats h samples ∙ ap (λ (l : List ℕ). start ++ l) (sym (append-nil rest)))
+      ∙ floats-after big start [] (measuresOf h ++ samples) k fit-all (rw length-append l)
 
   pub header-back : headerOf (recordOf h samples) ≡ h
   unfolding headerOf wordBytes
@@ -121,15 +126,15 @@ module _ (bytes : List ℕ) (small : Bytes bytes) (a : Accepted bytes) where
       let told : lengthField (length (samplesOf bytes)) ≡ wordAt bytes 0 = rw (length-samples bytes) (omega (arith, a .told, a .counted)) in
       let three : take 3 (drop versionAt bytes) ≡ 1 ∷ headerOf bytes .block .subdivisions ∷ headerOf bytes .mask ∷ [] =
       rw (drop-cons bytes versionAt 0 (omega arith), drop-cons bytes subdivisionsAt 0 (omega arith), drop-cons bytes maskAt 0 (omega arith), a .version) in
-      ap₂ _++_ (ap wordBytes told ∙ word-back bytes small 0 (omega arith)) (sym three) ∙ sym (take-add versionAt 3 bytes)
+      ap₂ _++_ (ap wordBytes told ∙ big .back bytes small 0 (omega arith)) (sym three) ∙ sym (take-add versionAt 3 bytes)
 
   floats-are : each floatBytes (measuresOf (headerOf bytes) ++ samplesOf bytes) ≡ drop thresholdAt bytes
   unfolding headerOf samplesOf
   floats-are =
       let count = countOf bytes in
       each-append floatBytes (measuresOf (headerOf bytes)) (samplesOf bytes)
-      ∙ ap₂ _++_ (floats-back bytes small thresholdAt 5 (omega (arith, a .long)) (measured bytes a))
-      (floats-back bytes small headerLength count (omega (arith, a .counted)) (λ k l. usable-number (floatAt bytes (sampleFrom k)) (a .usable-samples k l))
+      ∙ ap₂ _++_ (floats-back big bytes small thresholdAt 5 (omega (arith, a .long)) (measured bytes a))
+      (floats-back big bytes small headerLength count (omega (arith, a .counted)) (λ k l. usable-number (floatAt bytes (sampleFrom k)) (a .usable-samples k l))
       ∙ ap (take (4 * count)) (sym (drop-drop (4 * 5) thresholdAt bytes)))
       ∙ sym (take-add (4 * 5) (4 * count) (drop thresholdAt bytes))
       ∙ take-all (4 * 5 + 4 * count) (drop thresholdAt bytes) (rw length-drop (omega (arith, a .counted)))

@@ -1,5 +1,5 @@
 pub mod Patterns
-pub mod Words
+pub mod Usable
 pub mod Accepted
 pub mod ReadingOrder
 pub mod Bytes

@@ -13,7 +13,8 @@ use Rattle.model.specs.declared.Verdict.the-variants.{Passed, Refused}
 use Rattle.model.specs.Limits.{mostSubdivisions, mostMask}
 use Rattle.model.specs.Refusals.{unless, orElse, first}
 use Rattle.model.specs.Judging.{usable, measureUsable, sampleUsable, judgeSubdivisions, judgeMask, judgeMeasures, judgeSamples, judgeBuffer}
-use Rattle.model.specs.Record.{baseAt, headerLength, sampleFrom, wordAt, floatAt, headerOf, countOf, samplesOf, judgeLength, judgeVersion, judgeCount, judgeRecord}
+use Rattle.model.specs.Words.{wordAt, floatAt}
+use Rattle.model.specs.Record.{baseAt, headerLength, sampleFrom, headerOf, countOf, samplesOf, judgeLength, judgeVersion, judgeCount, judgeRecord}
 use Rattle.judge.specs.First.{or-else-assoc, first-same, both-passed, unless-passed}
 use Rattle.judge.specs.Passing.{kind-passed}
 use Rattle.record.specs.Accepted.{length-samples, sample-is}

@@ -30,7 +30,8 @@ use Rattle.grid.specs.Shape.{Shaped}
 use Rattle.grid.specs.SideLaws.{named-below}
 use Rattle.judge.specs.First.{both-passed, passed-over}
 use Rattle.judge.specs.Passing.{star-shaped}
-use Rattle.record.specs.Words.{Bytes, Fit}
+use Rattle.words.specs.Orders.{Bytes}
+use Rattle.words.specs.Floats.{Fit}
 use Rattle.record.specs.Writable.{star-parts}
 use Rattle.record.specs.Accepted.{Accepted, passes, length-samples, sample-is, samples-pass, samples-usable}
 use Rattle.record.specs.Reading.{was-read}

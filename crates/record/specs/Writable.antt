@@ -15,7 +15,8 @@ use Rattle.model.specs.Star.{Star, star, subdivisions}
 use Rattle.model.specs.Judging.{judgeSubdivisions, judgeMask, judgeMeasures, judgeCentre, judgeMissing, judgeTooLong, judgeSamples, judgeStar}
 use Rattle.judge.specs.First.{both-passed}
 use Rattle.judge.specs.Passing.{star-shaped}
-use Rattle.record.specs.Words.{Numbers, usable-number}
+use Rattle.words.specs.Floats.{Numbers}
+use Rattle.record.specs.Usable.{usable-number}
 use Rattle.grid.specs.Counts.{mostSamples, count-small}
 use Rattle.record.specs.Accepted.{measure-number, samples-usable}
 use Rattle.record.specs.Bytes.{measuresOf}

@@ -5,11 +5,11 @@ ghost use lib.Ieee.{nan, binary32, toBits};
 ghost use lib.ListN.{length, getD};
 ghost use Rattle.model.specs.Record.{headerLength, sampleFrom, headerOf, countOf, samplesOf};
 ghost use Rattle.record.specs.Accepted.{Accepted};
-use crate::words::float_at;
-use crate::words::word_at;
 use model::Block;
 use model::Header;
 use model::Vector;
+use words::big::float_at;
+use words::big::word_at;
 
 pub const VERSION_AT: usize = 4;
 

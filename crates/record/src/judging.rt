@@ -4,7 +4,8 @@ ghost use Prim.Native.Nat.{_+_, _*_, _≤_, _<_};
 ghost use lib.ListN.{length};
 ghost use Rattle.model.specs.Refusals.{first};
 ghost use Rattle.model.specs.Judging.{usable, usableSize, measureUsable, judgeMeasures};
-ghost use Rattle.model.specs.Record.{headerLength, sampleFrom, floatAt, headerOf, judgeLength, judgeRecord};
+ghost use Rattle.model.specs.Words.{floatAt};
+ghost use Rattle.model.specs.Record.{headerLength, sampleFrom, headerOf, judgeLength, judgeRecord};
 ghost use Rattle.record.specs.ReadingOrder.{HeadPassed, sampleUsableAt, judgeHead, judgeBody};
 use crate::fields::BASE_AT;
 use crate::fields::HEADER_LENGTH;
@@ -14,13 +15,13 @@ use crate::fields::VERSION_AT;
 use crate::fields::mask_of;
 use crate::fields::sample_from;
 use crate::fields::subdivisions_of;
-use crate::words::word_at;
 use grid::transition_sides::sample_count;
 use judge::judge_mask;
 use judge::judge_subdivisions;
 use judge::unless;
 use model::Refusal;
 use model::Verdict;
+use words::big::word_at;
 
 // The bit patterns of 1,048,576 and of 1/1024, and the weight of the sign in a pattern.
 const LIMIT: u32 = 0x4980_0000;

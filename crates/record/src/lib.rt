@@ -3,5 +3,4 @@
 pub mod fields;
 pub mod judging;
 pub mod reader;
-pub mod words;
 pub mod writer;

@@ -9,8 +9,9 @@ ghost use Rattle.model.specs.Refusals.{orElse};
 ghost use Rattle.grid.specs.Counts.{mostSamples};
 ghost use Rattle.model.specs.Star.{star};
 ghost use Rattle.model.specs.Judging.{judgeBuffer, judgeStar};
-ghost use Rattle.model.specs.Record.{headerLength, sampleFrom, floatBytes, writeRecord};
-ghost use Rattle.record.specs.Words.{Numbers};
+ghost use Rattle.model.specs.Words.{floatBytes};
+ghost use Rattle.model.specs.Record.{headerLength, sampleFrom, writeRecord};
+ghost use Rattle.words.specs.Floats.{Numbers};
 ghost use Rattle.record.specs.Bytes.{measuresOf, startOf};
 use crate::fields::HEADER_LENGTH;
 use crate::fields::MASK_AT;
@@ -18,12 +19,12 @@ use crate::fields::SUBDIVISIONS_AT;
 use crate::fields::THRESHOLD_AT;
 use crate::fields::VERSION_AT;
 use crate::fields::sample_from;
-use crate::words::put_word;
 use judge::judge_buffer;
 use judge::judge_star;
 use model::Header;
 use model::RecordWritten;
 use model::Verdict;
+use words::big::put_word;
 
 // The floats from a place on, one after another.
 fn put_floats(bytes: &mut [u8], at: usize, floats: &[f32])

@@ -4,7 +4,7 @@ ghost use mathlib.Core.Path.{_≡_};
 ghost use Prim.Native.Nat.{_≤_, _<_};
 ghost use lib.ListN.{length};
 ghost use Rattle.replay.specs.Spans.{Within};
-use record::words::word_at;
+use words::big::word_at;
 
 // Where the bytes of a part begin and end.
 pub struct Span {

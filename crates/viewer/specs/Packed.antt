@@ -7,7 +7,7 @@ use lib.Dec.{eqb, lit≤}
 use lib.Ieee.{Float, nan, binary32, toBits}
 use lib.ListN.{getD}
 use Rattle.model.specs.declared.Refusal.{Refusal}
-use Rattle.model.specs.declared.Refusal.the-variants.{Subdivisions, Mask, Measure, CentreLength, MissingNeighbour, NeighboursTooLong, BadSample, FaceMismatch, IndexStoreTooShort, NoRoom, RecordLength, Version, SampleCount, BufferTooShort, PointNeverSampled}
+use Rattle.model.specs.declared.Refusal.the-variants.{Subdivisions, Mask, Measure, CentreLength, MissingNeighbour, NeighboursTooLong, BadSample, FaceMismatch, IndexStoreTooShort, NoRoom, RecordLength, Version, SampleCount, BufferTooShort, PointNeverSampled, StlLength, NoVertex}
 use Rattle.model.specs.declared.Verdict.{Verdict}
 use Rattle.model.specs.declared.Verdict.the-variants.{Passed, Refused}
 use Rattle.laws.specs.Steps.{total}
@@ -17,7 +17,8 @@ use Rattle.model.specs.Refusals.{numbersOf}
 use Rattle.model.specs.Record.{headerOf, samplesOf, judgeRecord}
 use Rattle.model.specs.Viewer.{packed, sampleBits, blankAnswer}
 
-pub number-small : (r : Refusal) → numbersOf r .number ≤ 15
+-- two digits
+pub number-small : (r : Refusal) → numbersOf r .number ≤ 99
 number-small (Subdivisions n) = lit≤ tt
 number-small (Mask mask) = lit≤ tt
 number-small (Measure which) = lit≤ tt
@@ -33,6 +34,8 @@ number-small (Version byte) = lit≤ tt
 number-small (SampleCount wanted) = lit≤ tt
 number-small (BufferTooShort wanted) = lit≤ tt
 number-small PointNeverSampled = lit≤ tt
+number-small (StlLength wanted) = lit≤ tt
+number-small (NoVertex triangle) = lit≤ tt
 
 module _ (base : ℕ) (v : Verdict) (answer : ℕ) where
   pub packed-refused : (r : Refusal) → v ≡ Refused r → base + numbersOf r .number ≡ packed base v answer

@@ -1,4 +1,4 @@
--- `packed_refusal` meets its contract: a refusal's number is at most 15, so the sum fits.
+-- `packed_refusal` meets its contract: a refusal's number is at most 99, so the sum fits.
 use Prim.Native.Nat.{ℕ, _+_}
 use mathlib.Core.Path.{_≡_, ap}
 use native.Mathlib.Omega.{arith}

@@ -1,7 +1,7 @@
 -- `sample_bits_of` meets its contract: a sample that is no NaN has the bits that it was read from.
 use mathlib.Core.Path.{ap, _∙_}
 use borrow.Author.Needs.{needs}
-use Rattle.model.specs.Record.{wordAt}
+use Rattle.model.specs.Words.{wordAt}
 use Rattle.record.specs.Accepted.{sample-bits}
 use Rattle.record.proofs.fields.sample_bits_of.Statement.{statement}
 use Rattle.record.proofs.fields.sample_bits_of.Tie as tie

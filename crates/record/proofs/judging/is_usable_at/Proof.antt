@@ -3,9 +3,9 @@ use Prim.Native.Nat.{ℕ, _%_}
 use mathlib.Core.Path.{ap, sym, _∙_}
 use lib.Dec.{leb}
 use borrow.Author.Needs.{needs}
-use Rattle.model.specs.Record.{wordAt}
+use Rattle.model.specs.Words.{wordAt}
 use Rattle.record.specs.Patterns.{usable-bits}
-use Rattle.record.specs.Words.{word-lt}
+use Rattle.words.specs.Orders.{word-lt}
 use Rattle.record.proofs.judging.is_usable_at.Statement.{statement}
 use Rattle.record.proofs.judging.is_usable_at.Tie as tie
 

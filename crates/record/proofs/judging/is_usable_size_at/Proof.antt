@@ -4,9 +4,9 @@ use mathlib.Core.Path.{ap, sym, _∙_}
 use mathlib.Core.Bool.{_&&_}
 use lib.Dec.{leb}
 use borrow.Author.Needs.{needs}
-use Rattle.model.specs.Record.{wordAt}
+use Rattle.model.specs.Words.{wordAt}
 use Rattle.record.specs.Patterns.{usable-size-bits}
-use Rattle.record.specs.Words.{word-lt}
+use Rattle.words.specs.Orders.{word-lt}
 use Rattle.record.proofs.judging.is_usable_size_at.Statement.{statement}
 use Rattle.record.proofs.judging.is_usable_size_at.Tie as tie
 

@@ -7,7 +7,8 @@ use lib.Dec.{eqb}
 use lib.ListN.{length}
 use Rattle.model.specs.declared.Refusal.the-variants.{RecordLength}
 use Rattle.model.specs.Refusals.{unless}
-use Rattle.model.specs.Record.{headerLength, wordAt, judgeLength}
+use Rattle.model.specs.Words.{wordAt}
+use Rattle.model.specs.Record.{headerLength, judgeLength}
 use Rattle.record.proofs.judging.judge_length.Statement.{statement}
 use Rattle.record.proofs.judging.judge_length.Tie as tie
 

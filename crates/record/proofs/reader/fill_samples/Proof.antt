@@ -6,7 +6,8 @@ use native.Mathlib.Omega.{arith}
 use lib.Ieee.{Float}
 use lib.ListN.{length, drop, set, length-set}
 use Rattle.laws.specs.Steps.{listed}
-use Rattle.model.specs.Record.{sampleFrom, floatAt, countOf, samplesOf}
+use Rattle.model.specs.Words.{floatAt}
+use Rattle.model.specs.Record.{sampleFrom, countOf, samplesOf}
 use Rattle.laws.specs.Lists.{length-listed, listed-more}
 use Rattle.record.specs.Accepted.{sample-is}
 use Rattle.record.proofs.reader.fill_samples.Statement.{statement}

@@ -8,8 +8,9 @@ use lib.ListN.{length, getD, take}
 use lib.Seq.{sets, take-length, length-sets}
 use borrow.Author.Needs.{needs}
 use Rattle.laws.specs.Steps.{each}
-use Rattle.model.specs.Record.{floatBytes}
-use Rattle.record.specs.Words.{put-more}
+use Rattle.model.specs.Words.{floatBytes}
+use Rattle.words.specs.Orders.{big}
+use Rattle.words.specs.Floats.{put-more}
 use Rattle.record.proofs.writer.put_floats.Statement.{statement}
 use Rattle.record.proofs.writer.put_floats.Tie as tie
 
@@ -57,7 +58,7 @@ loop-again c =
     let put : c .before .before .put-word .last .0 ≡ sets (start .bytes .now) (start .at) (each floatBytes (take (turn .k + 1) floats)) =
     c .before .before .put-word .ensures
     ∙ ap (λ (l : List ℕ). sets l (start .at + 4 * turn .k) (floatBytes (getD floats (turn .k) nan))) (turn .inv .1 .1)
-    ∙ put-more (start .bytes .now) (start .at) floats (turn .k) here in
+    ∙ put-more big (start .bytes .now) (start .at) floats (turn .k) here in
     (omega arith, (ap length put ∙ length-sets (start .bytes .now) (start .at) (each floatBytes (take (turn .k + 1) floats)), put))
 
 same-length : tie.Need-same-length Inv-loop μ-loop

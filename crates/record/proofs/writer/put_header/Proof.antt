@@ -5,7 +5,8 @@ use mathlib.Core.List.{List}
 use borrow.Author.Needs.{needs}
 use lib.Seq.{sets}
 use Rattle.laws.specs.Steps.{each}
-use Rattle.model.specs.Record.{thresholdAt, wordBytes, floatBytes}
+use Rattle.model.specs.Words.{wordBytes, floatBytes}
+use Rattle.model.specs.Record.{thresholdAt}
 use Rattle.laws.specs.Lists.{sets-append}
 use Rattle.record.specs.Bytes.{startOf, measuresOf}
 use Rattle.record.proofs.writer.put_header.Statement.{statement}

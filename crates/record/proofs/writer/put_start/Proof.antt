@@ -6,7 +6,8 @@ use native.Mathlib.Omega.{arith}
 use borrow.Author.Needs.{needs}
 use lib.ListN.{length-set}
 use lib.Seq.{sets}
-use Rattle.model.specs.Record.{versionAt, wordBytes}
+use Rattle.model.specs.Words.{wordBytes}
+use Rattle.model.specs.Record.{versionAt}
 use Rattle.laws.specs.Lists.{sets-append}
 use Rattle.record.specs.Bytes.{lengthField}
 use Rattle.record.proofs.writer.put_start.Statement.{statement}

@@ -16,7 +16,8 @@ use Rattle.laws.specs.Steps.{each, laid}
 use Rattle.model.specs.Refusals.{orElse}
 use Rattle.model.specs.Star.{star}
 use Rattle.model.specs.Judging.{judgeBuffer, judgeStar}
-use Rattle.model.specs.Record.{sampleFrom, floatBytes, recordOf, writeAnswer, writeRecord}
+use Rattle.model.specs.Words.{floatBytes}
+use Rattle.model.specs.Record.{sampleFrom, recordOf, writeAnswer, writeRecord}
 use Rattle.judge.specs.First.{both-passed}
 use Rattle.record.specs.ReadingOrder.{buffer-holds}
 use Rattle.record.specs.Bytes.{parts-laid}

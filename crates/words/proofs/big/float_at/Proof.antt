@@ -1,10 +1,10 @@
 -- `float_at` meets its contract: the word is no pattern of a NaN, so it has a float.
+use borrow.Author.Needs.{needs}
 use mathlib.Core.Path.{ap}
 use lib.Ieee.{binary32, ofBits}
 use lib.Ieee.Bits.{nanBits-is}
-use borrow.Author.Needs.{needs}
-use Rattle.record.proofs.words.float_at.Statement.{statement}
-use Rattle.record.proofs.words.float_at.Tie as tie
+use Rattle.words.proofs.big.float_at.Statement.{statement}
+use Rattle.words.proofs.big.float_at.Tie as tie
 
 word-at-requires : tie.Need-word-at-requires
 word-at-requires c κs = search needs
