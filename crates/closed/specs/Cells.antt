@@ -35,13 +35,13 @@ twice-power k (suc j) =
     rw (add-suc k (suc j), pow-suc 2 (k + suc j), twice-power k j, mul-assoc, mul-assoc) (ap (λ (c : ℕ). 2 ^ k * (2 * c)) (sym (pow-suc 2 j)))
 
 module _ (b : ℕ → ℕ) (small : (k : ℕ) → b k ≤ 1) where
-  bits-small : (m : ℕ) → total (λ k. 2 ^ k * b k) m < 2 ^ m
+  pub bits-small : (m : ℕ) → total (λ k. 2 ^ k * b k) m < 2 ^ m
   bits-small zero = omega arith
   bits-small (suc m) =
       let h : 2 ^ m * b m ≤ 2 ^ m * 1 = mul-le-mul-left (2 ^ m) (small m) in
       omega (arith, bits-small m, two-pow-succ m)
 
-  bits-are : (m k : ℕ) → k < m → bit (total (λ k. 2 ^ k * b k) m) k ≡ b k
+  pub bits-are : (m k : ℕ) → k < m → bit (total (λ k. 2 ^ k * b k) m) k ≡ b k
   unfolding bit
   bits-are zero k h = absurd (not-suc-le-zero h)
   bits-are (suc m) k h = go (decLt k m) (bits-are m k)
@@ -59,13 +59,13 @@ module _ (b : ℕ → ℕ) (small : (k : ℕ) → b k ≤ 1) where
 
 -- ---- the corners of a cell
 
+pub bit-small : (b : Bool) → cond {A = ℕ} b 1 0 ≤ 1
+bit-small true = omega arith
+bit-small false = omega arith
+
 module _ (s : Star) where
   inside-small : (p : Xyz) → insideAt s p ≤ 1
-  inside-small p = go (inside (s .threshold) (sampleOf (subdivisions s) (s .centre) p))
-    where
-      go : (b : Bool) → cond {A = ℕ} b 1 0 ≤ 1
-      go true = omega arith
-      go false = omega arith
+  inside-small p = bit-small (inside (s .threshold) (sampleOf (subdivisions s) (s .centre) p))
 
   module _ (x y z : ℕ) where
     pub case-small : regularCase s x y z < 256
@@ -86,7 +86,7 @@ codeEdge x y z code = record { low = cornerPoint x y z (pointA code); axis = axi
 abbrev pub slotEdge : ℕ → ℕ → ℕ → ℕ → Edge
 slotEdge x y z r = codeEdge x y z (regularNewCode r)
 
-byte-points : (code : ℕ) → (pointA (edgeOf code) ≡ pointA code) × (pointB (edgeOf code) ≡ pointB code)
+pub byte-points : (code : ℕ) → (pointA (edgeOf code) ≡ pointA code) × (pointB (edgeOf code) ≡ pointB code)
 byte-points code = (omega arith, omega arith)
 
 pub byte-edge : (x y z code : ℕ) → codeEdge x y z (edgeOf code) ≡ codeEdge x y z code

@@ -48,7 +48,7 @@ filled-long c base store =
     iterate-keeps (λ (f : Fill). length (f .store)) (λ i f. fillStep (c .uses i) (base + length (f .made)) f)
     (λ i f. stored-long (c .uses i .stores) (f .store) (c .uses i .place) (base + length (f .made))) _
 
-cell-added : (c : Cell) (m : Mesh) → Begins m (cellStep c m)
+pub cell-added : (c : Cell) (m : Mesh) → Begins m (cellStep c m)
 unfolding cellStep
 cell-added c m =
     record { made = _; triangles = _; made-are = refl; triangles-are = refl; store-long = filled-long c (length (m .made)) (m .store) (c .vertices) }
@@ -57,11 +57,11 @@ all-added : (f : ℕ → Mesh → Mesh) → ((k : ℕ) (m : Mesh) → Begins m (
 all-added f step zero m = none-added m
 all-added f step (suc n) m = then-added (all-added f step n m) (step n (iterate f n m))
 
-row-added : (s : Star) (side u : ℕ) (m : Mesh) → Begins m (transitionRow s side u m)
+pub row-added : (s : Star) (side u : ℕ) (m : Mesh) → Begins m (transitionRow s side u m)
 unfolding transitionRow
 row-added s side u m = all-added _ (λ v. cell-added (transitionCell s side u v)) (subdivisions s) m
 
-side-added : (s : Star) (side : ℕ) (m : Mesh) → Begins m (transitionSide s side m)
+pub side-added : (s : Star) (side : ℕ) (m : Mesh) → Begins m (transitionSide s side m)
 unfolding transitionSide
 side-added s side m = go (named (s .mask) side)
   where

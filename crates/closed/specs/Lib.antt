@@ -8,5 +8,7 @@ pub mod Counted
 pub mod Outer
 pub mod NoHole
 pub mod Front
+pub mod SideCells
+pub mod Indices
 pub mod Wrong
 pub mod Refuted

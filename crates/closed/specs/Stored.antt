@@ -81,7 +81,7 @@ lying-more s made more {i} o =
 
 -- ---- a code
 
-or-none : (a b : Bool) → a || b ≡ false → (a ≡ false) × (b ≡ false)
+pub or-none : (a b : Bool) → a || b ≡ false → (a ≡ false) × (b ≡ false)
 or-none true b e = (e, cc)
 or-none false b e = (refl, e)
 
@@ -103,7 +103,7 @@ some-step k steps h l = go (ℕ-discrete (k % 2) 1)
 back-less : (x y z a b c : ℕ) → a ≤ x → b ≤ y → c ≤ z → 0 < a + b + c → x - a + (y - b) + (z - c) < x + y + z
 back-less x y z a b c ha hb hc h = omega arith
 
-back-in : (x a n : ℕ) → x < n → (x - a < n) × (x - a ≤ x) × (0 < n)
+pub back-in : (x a n : ℕ) → x < n → (x - a < n) × (x - a ≤ x) × (0 < n)
 back-in x a n h = (omega arith, omega arith, omega arith)
 
 module _ (s : Star) (x y z : ℕ) where
