@@ -66,6 +66,11 @@ module _ (s : Star) (lent : Lent) where
     unfolding extract
     accepted = mesh-answered (meshOf s) lent verdict c e
 
+    -- 1 to 7 have passed
+    pub passed : judgeStar s ≡ Passed
+    unfolding judgeExtraction
+    passed = both-passed (judgeStar s) _ (accepted .0) .0
+
     -- 9 and 10 have passed
     record Room : Type 0 where
       store-fits : storeLength (subdivisions s) ≤ length (lent .store)

@@ -25,13 +25,14 @@ use Rattle.model.specs.Star.{Star, star, subdivisions}
 use Rattle.model.specs.Mesh.{storeLength}
 use Rattle.model.specs.Judging.{judgeStar, judgeSubdivisions, judgeMask, measureUsable, judgeMeasures, judgeCentre, sideThere, judgeMissing, judgeBuffer, usable, sampleUsable, judgeSamples, facesAgree, faceSpot, faceRow, judgeFaces}
 use Rattle.model.specs.Extraction.{judgeExtraction}
-use Rattle.model.specs.Record.{versionAt, headerLength, wordAt, headerOf, countOf, samplesOf, judgeRecord}
+use Rattle.model.specs.Words.{wordAt}
+use Rattle.model.specs.Record.{versionAt, headerLength, headerOf, countOf, samplesOf, judgeRecord}
 use Rattle.judge.specs.First.{or-else-assoc, or-else-passed}
 use Rattle.promises.specs.Left.{Lent, counts}
 use Rattle.promises.specs.Orders.{Judge, inOrder, Numbered, Judged, blockJudges, extractionJudges, writingJudges, recordJudges, readingJudges, pointJudge, pointJudges, sampleJudges}
 
 infixr 4 _&_
-_&_ : {A B : Type 0} → A → B → A × B
+pub _&_ : {A B : Type 0} → A → B → A × B
 a & b = (a, b)
 
 -- ---- orders
@@ -101,24 +102,24 @@ module _ {A : Type 0} (refuse : Refusal → A) (accept : A) (answer : Verdict �
       }
 
 -- the refusal of two judges is the one's or the other's
-one-or-other : (v w : Verdict) (r : Refusal) → orElse v w ≡ Refused r → (v ≡ Refused r) ⊎ (w ≡ Refused r)
+pub one-or-other : (v w : Verdict) (r : Refusal) → orElse v w ≡ Refused r → (v ≡ Refused r) ⊎ (w ≡ Refused r)
 one-or-other (Refused q) w r e = inl e
 one-or-other Passed w r e = inr e
 
 -- ---- numbers
 
 -- it refuses with the number k alone
-abbrev Refuses : ℕ → Verdict → Type 0
+abbrev pub Refuses : ℕ → Verdict → Type 0
 Refuses k v = (r : Refusal) → v ≡ Refused r → numbersOf r .number ≡ k
 
-by-unless : (b : Bool) (q : Refusal) → Refuses (numbersOf q .number) (unless b q)
+pub by-unless : (b : Bool) (q : Refusal) → Refuses (numbersOf q .number) (unless b q)
 by-unless true q r e = cc
 by-unless false q r e = let same : q ≡ r = cc in ap (λ (p : Refusal). numbersOf p .number) (sym same)
 
 passing : (k : ℕ) → Refuses k Passed
 passing k r e = cc
 
-by-first : (k : ℕ) (f : ℕ → Verdict) → ((j : ℕ) → Refuses k (f j)) → (n : ℕ) → Refuses k (first f n)
+pub by-first : (k : ℕ) (f : ℕ → Verdict) → ((j : ℕ) → Refuses k (f j)) → (n : ℕ) → Refuses k (first f n)
 by-first k f each zero r e = passing k r e
 by-first k f each (suc n) r e = ⊎-elim (by-first k f each n r) (each n r) (one-or-other (first f n) (f n) r e)
 
@@ -161,7 +162,7 @@ mask-number mask = by-unless (leb mask mostMask) (Mask mask)
 centre-number : (n held : ℕ) → Refuses 4 (judgeCentre n held)
 centre-number n held = by-unless (eqb held (sampleLength n)) (CentreLength (sampleLength n))
 
-buffer-number : (wanted held : ℕ) → Refuses 14 (judgeBuffer wanted held)
+pub buffer-number : (wanted held : ℕ) → Refuses 14 (judgeBuffer wanted held)
 buffer-number wanted held = by-unless (leb wanted held) (BufferTooShort wanted)
 
 block-numbered : (s : Star) → Numbered (blockJudges s)

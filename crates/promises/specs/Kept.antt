@@ -8,6 +8,7 @@ use Rattle.promises.specs.Promises.{Promises}
 use Rattle.promises.specs.Extracted.{extraction, extraction-untouched, wanted, equal-mesh, no-hole-is-left}
 use Rattle.promises.specs.Records.{reading, reading-untouched, samples-laid, writing, writing-untouched, bytes-laid}
 use Rattle.promises.specs.Room.{enough}
+use Rattle.promises.specs.StlKept.{stl-kept}
 use Rattle.promises.specs.Views.{point, packed-record, subdivisions-apart, blank-apart, viewer-sample}
 
 pub kept : Promises
@@ -33,5 +34,6 @@ kept =
       no-hole = no-hole-is-left;
       round-trips = record { read-write = read-write; write-read = write-read };
       room = enough;
+      stl = stl-kept;
       starred = figures-agree;
     }

@@ -1,5 +1,6 @@
 -- what is promised, and the words that it is said in
 pub mod Promises
+pub mod Stl
 pub mod Orders
 pub mod Left
 -- that it holds
@@ -12,3 +13,4 @@ pub mod Extracted
 pub mod Records
 pub mod Room
 pub mod Views
+pub mod StlKept

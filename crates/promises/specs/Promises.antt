@@ -1,7 +1,7 @@
--- What the buyer was promised, in six parts, for every input; `Kept.kept` is the theorem that all of it holds. It speaks of what the public calls
+-- What the buyer was promised, in seven parts, for every input; `Kept.kept` is the theorem that all of it holds. It speaks of what the public calls
 -- answer and leave in the buffers lent to them: the model's `extract`, `readRecord`, `writeRecord`, `readPoint` and the viewer's three answers, to each of
--- which the `ensures` of the call says that the code is equal. The words are set down in Orders (judging), Left (buffers) and closed's Clauses (no hole).
--- Definitions only.
+-- which the `ensures` of the call says that the code is equal. The words are set down in Orders (judging), Left (buffers) and closed's Clauses (no hole);
+-- what was promised of STL stands in Stl. Definitions only.
 use Prim.Native.Nat.{ℕ, _+_, _*_, _^_, _≤_, _<_}
 use mathlib.Core.Path.{_≡_}
 use mathlib.Core.List.{List, [], _∷_, _++_, map}
@@ -20,10 +20,12 @@ use Rattle.model.specs.declared.Extraction.the-variants as Extraction
 use Rattle.model.specs.declared.PointRead.the-variants as PointRead
 use Rattle.model.specs.declared.RecordRead.the-variants as RecordRead
 use Rattle.model.specs.declared.RecordWritten.the-variants as RecordWritten
+use Rattle.model.specs.declared.Verdict.the-variants.{Passed}
 use Rattle.model.specs.Limits.{mostMask}
 use Rattle.model.specs.Samples.{sampleLength, valueAt, oneUp}
 use Rattle.model.specs.Sides.{neighboursLength}
 use Rattle.model.specs.Star.{Star, subdivisions}
+use Rattle.model.specs.Judging.{judgeBuffer}
 use Rattle.model.specs.Mesh.{storeLength, regularMesh, meshOf}
 use Rattle.model.specs.Extraction.{vertexFloats, triangleIndices, readPoint}
 use Rattle.model.specs.Record.{headerLength, headerOf, countOf, samplesOf, recordOf, readRecord, writeRecord}
@@ -32,6 +34,7 @@ use Rattle.model.specs.Figures.{Figure, figures}
 use Rattle.closed.specs.Clauses.{NoHole}
 use Rattle.promises.specs.Left.{Laid, Lent, answered, left, counts, regularPart}
 use Rattle.promises.specs.Orders.{Judged, Packed, extractionJudges, writingJudges, recordJudges, readingJudges, pointJudges, sampleJudges}
+use Rattle.promises.specs.Stl.{StlPromises}
 
 -- ---- 1. every call is answered
 
@@ -151,7 +154,7 @@ pub record Enough (s : Star) : Type 0 where
   pub vertices : counts s .vertices ≤ mostOfCell * cellCount (subdivisions s) (s .mask)
   pub triangles : counts s .triangles ≤ mostOfCell * cellCount (subdivisions s) (s .mask)
 
--- ---- all, with 6: the starred figures of document 01
+-- ---- all, with 6: the starred figures of document 01, and 7: STL
 
 pub record Promises : Type 0 where
   pub every-call : EveryCallIsAnswered
@@ -161,5 +164,6 @@ pub record Promises : Type 0 where
   pub round-trips : RecordsRoundTrip
   -- whatever the samples are
   pub room : (s : Star) → s .mask ≤ mostMask → Enough s
+  pub stl : StlPromises
   -- what the definitions work out is what document 01 states
   pub starred : map (λ (f : Figure). f .worked) figures ≡ map (λ (f : Figure). f .stated) figures

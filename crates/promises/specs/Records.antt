@@ -17,7 +17,8 @@ use Rattle.model.specs.declared.RecordWritten.the-variants as RecordWritten
 use Rattle.model.specs.Refusals.{orElse}
 use Rattle.model.specs.Star.{star}
 use Rattle.model.specs.Judging.{judgeStar, judgeBuffer}
-use Rattle.model.specs.Record.{headerLength, wordBytes, floatBytes, headerOf, countOf, samplesOf, judgeRecord, ReadOutcome, readAnswer, readRecord, recordOf, WriteOutcome, writeAnswer, writeRecord}
+use Rattle.model.specs.Words.{wordBytes, floatBytes}
+use Rattle.model.specs.Record.{headerLength, headerOf, countOf, samplesOf, judgeRecord, ReadOutcome, readAnswer, readRecord, recordOf, WriteOutcome, writeAnswer, writeRecord}
 use Rattle.judge.specs.First.{both-passed, unless-passed}
 use Rattle.promises.specs.Left.{Laid}
 use Rattle.promises.specs.Orders.{Judged, writingJudges, readingJudges}

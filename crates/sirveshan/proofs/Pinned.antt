@@ -7,6 +7,8 @@ use Rattle.model.specs.Pinned.{pinned}
 use Rattle.sirveshan.proofs.sirveshan_extract.Reads as extract
 use Rattle.sirveshan.proofs.sirveshan_read.Reads as read
 use Rattle.sirveshan.proofs.sirveshan_write.Reads as write
+use Rattle.sirveshan.proofs.sirveshan_write_stl.Reads as write-stl
+use Rattle.sirveshan.proofs.sirveshan_read_stl.Reads as read-stl
 use Rattle.sirveshan.proofs.sirveshan_subdivisions.Reads as subdivisions
 use Rattle.sirveshan.proofs.sirveshan_blank.Reads as blank
 use Rattle.sirveshan.proofs.sirveshan_sample.Reads as sample
@@ -25,6 +27,14 @@ sirveshan-read-pinned κs a r r′ e e′ h k = (λ i. pinned h k i .answer, λ 
 pub sirveshan-write-pinned : (κs : Lfts 3) (a : _) (r r′ : _) (e e′ : _) → write.Learnt κs a r e → write.Learnt κs a r′ e′
     → (r ≡ r′) × (now (e .1 .1 .1 .0) ≡ now (e′ .1 .1 .1 .0))
 sirveshan-write-pinned κs a r r′ e e′ h k = (λ i. pinned h k i .answer, λ i. pinned h k i .bytes)
+
+pub sirveshan-write-stl-pinned : (κs : Lfts 3) (a : _) (r r′ : _) (e e′ : _) → write-stl.Learnt κs a r e → write-stl.Learnt κs a r′ e′
+    → (r ≡ r′) × (now (e .1 .1 .0) ≡ now (e′ .1 .1 .0))
+sirveshan-write-stl-pinned κs a r r′ e e′ h k = (λ i. pinned h k i .answer, λ i. pinned h k i .bytes)
+
+pub sirveshan-read-stl-pinned : (κs : Lfts 2) (a : _) (r r′ : _) (e e′ : _) → read-stl.Learnt κs a r e → read-stl.Learnt κs a r′ e′
+    → (r ≡ r′) × (now (e .1 .0) ≡ now (e′ .1 .0))
+sirveshan-read-stl-pinned κs a r r′ e e′ h k = (λ i. pinned h k i .answer, λ i. pinned h k i .positions)
 
 pub sirveshan-subdivisions-pinned : (κs : Lfts 1) (a : _) (r r′ : _) (e e′ : _) → subdivisions.Learnt κs a r e → subdivisions.Learnt κs a r′ e′ → r ≡ r′
 sirveshan-subdivisions-pinned κs a r r′ e e′ h k = pinned h k

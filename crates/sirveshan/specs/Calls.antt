@@ -11,13 +11,19 @@ use Rattle.model.specs.declared.RecordRead.{RecordRead}
 use Rattle.model.specs.declared.RecordRead.the-variants as RecordRead
 use Rattle.model.specs.declared.RecordWritten.{RecordWritten}
 use Rattle.model.specs.declared.RecordWritten.the-variants as RecordWritten
+use Rattle.stl.specs.declared.StlWritten.{StlWritten}
+use Rattle.stl.specs.declared.StlWritten.the-variants as StlWritten
+use Rattle.stl.specs.declared.StlRead.{StlRead}
+use Rattle.stl.specs.declared.StlRead.the-variants as StlRead
 use Rattle.model.specs.Formulas.{vector}
 use Rattle.model.specs.Refusals.{numbers, numbersOf}
 use Rattle.model.specs.Extraction.{Outcome}
 use Rattle.model.specs.Record.{ReadOutcome, WriteOutcome}
+use Rattle.stl.specs.Definition as Stl
 use Rattle.sirveshan.specs.declared.Extracted.{Extracted}
 use Rattle.sirveshan.specs.declared.HeaderRead.{HeaderRead}
 use Rattle.sirveshan.specs.declared.Written.{Written}
+use Rattle.sirveshan.specs.declared.TrianglesRead.{TrianglesRead}
 
 abbrev pub notRefused : Numbers
 notRefused = numbers 0 0 0 0
@@ -46,6 +52,14 @@ abbrev pub asWritten : RecordWritten → Written
 asWritten (RecordWritten.Bytes length) = record { refused = notRefused; length = length }
 asWritten (RecordWritten.Refused r) = record { refused = numbersOf r; length = 0 }
 
+abbrev pub asStlWritten : StlWritten → Written
+asStlWritten (StlWritten.Bytes length) = record { refused = notRefused; length = length }
+asStlWritten (StlWritten.Refused r) = record { refused = numbersOf r; length = 0 }
+
+abbrev pub asTrianglesRead : StlRead → TrianglesRead
+asTrianglesRead (StlRead.Triangles triangles) = record { refused = notRefused; triangles = triangles }
+asTrianglesRead (StlRead.Refused r) = record { refused = numbersOf r; triangles = 0 }
+
 -- ---- the answer, and every buffer that is lent to be written
 
 pub record ExtractCall : Type 0 where
@@ -70,3 +84,13 @@ pub record WriteCall : Type 0 where
 
 abbrev pub writeCall : WriteOutcome → WriteCall
 writeCall o = record { answer = asWritten (o .answer); bytes = o .bytes }
+
+abbrev pub writeStlCall : Stl.WriteOutcome → WriteCall
+writeStlCall o = record { answer = asStlWritten (o .answer); bytes = o .bytes }
+
+pub record ReadStlCall : Type 0 where
+  pub answer : TrianglesRead
+  pub positions : List Float
+
+abbrev pub readStlCall : Stl.ReadOutcome → ReadStlCall
+readStlCall o = record { answer = asTrianglesRead (o .answer); positions = o .positions }

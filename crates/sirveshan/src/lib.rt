@@ -5,7 +5,9 @@ ghost use Rattle.model.specs.Star.{star};
 ghost use Rattle.model.specs.Extraction.{extract};
 ghost use Rattle.model.specs.Record.{readRecord, writeRecord};
 ghost use Rattle.model.specs.Viewer.{subdivisionsAnswer, blankAnswer, sampleAnswer};
-ghost use Rattle.sirveshan.specs.Calls.{asExtracted, asHeaderRead, asWritten, extractCall, readCall, writeCall};
+ghost use Rattle.stl.specs.Definition.{writeStl, readStl};
+ghost use Rattle.sirveshan.specs.Calls.{asExtracted, asHeaderRead, asWritten, asStlWritten, asTrianglesRead};
+ghost use Rattle.sirveshan.specs.Calls.{extractCall, readCall, writeCall, writeStlCall, readStlCall};
 use judge::numbers_of;
 use model::Block;
 use model::Counts;
@@ -17,6 +19,10 @@ use model::RecordWritten;
 use model::Vector;
 use record::reader::read_record;
 use record::writer::write_record;
+use stl::StlRead;
+use stl::StlWritten;
+use stl::reader::read_stl;
+use stl::writer::write_stl;
 
 // In each answer the refusal's number is 0 where nothing is refused, and what stands beside it is 0 where something is.
 #[repr(C)]
@@ -35,6 +41,12 @@ pub struct HeaderRead {
 pub struct Written {
     pub refused: Numbers,
     pub length: usize,
+}
+
+#[repr(C)]
+pub struct TrianglesRead {
+    pub refused: Numbers,
+    pub triangles: usize,
 }
 
 const NOT_REFUSED: Numbers = Numbers {
@@ -106,6 +118,36 @@ fn as_written(answer: RecordWritten) -> Written
     }
 }
 
+fn as_stl_written(answer: StlWritten) -> Written
+    ensures { λ r. ⌜ r ≡ asStlWritten answer ⌝ }
+{
+    match answer {
+        StlWritten::Bytes(length) => Written {
+            refused: NOT_REFUSED,
+            length,
+        },
+        StlWritten::Refused(refusal) => Written {
+            refused: numbers_of(refusal),
+            length: 0,
+        },
+    }
+}
+
+fn as_triangles_read(answer: StlRead) -> TrianglesRead
+    ensures { λ r. ⌜ r ≡ asTrianglesRead answer ⌝ }
+{
+    match answer {
+        StlRead::Triangles(triangles) => TrianglesRead {
+            refused: NOT_REFUSED,
+            triangles,
+        },
+        StlRead::Refused(refusal) => TrianglesRead {
+            refused: numbers_of(refusal),
+            triangles: 0,
+        },
+    }
+}
+
 // The mesh of a block and its finer neighbours.
 #[no_mangle]
 pub extern "C" fn sirveshan_extract(
@@ -141,6 +183,26 @@ pub extern "C" fn sirveshan_write(
     ensures { λ r. ⌜ record { answer = r; bytes = now (bytes .exit) } ≡ writeCall (writeRecord header (now (centre .entry)) (now (neighbours .entry)) (now (bytes .entry))) ⌝ }
 {
     as_written(write_record(header, centre, neighbours, bytes))
+}
+
+// A mesh as a binary STL file, in the first places of a lent buffer.
+#[no_mangle]
+pub extern "C" fn sirveshan_write_stl(
+    vertices: &[f32],
+    triangles: &[u32],
+    bytes: &mut [u8],
+) -> Written
+    ensures { λ r. ⌜ record { answer = r; bytes = now (bytes .exit) } ≡ writeStlCall (writeStl (now (vertices .entry)) (now (triangles .entry)) (now (bytes .entry))) ⌝ }
+{
+    as_stl_written(write_stl(vertices, triangles, bytes))
+}
+
+// The corners of a binary STL file's triangles, nine numbers a triangle, in the first places of a lent list.
+#[no_mangle]
+pub extern "C" fn sirveshan_read_stl(src: &[u8], positions: &mut [f32]) -> TrianglesRead
+    ensures { λ r. ⌜ record { answer = r; positions = now (positions .exit) } ≡ readStlCall (readStl (now (src .entry)) (now (positions .entry))) ⌝ }
+{
+    as_triangles_read(read_stl(src, positions))
 }
 
 // The viewer's three calls.
