@@ -75,6 +75,8 @@
  *   13  record's samples not the count wanted               samples wanted
  *   14  a lent buffer too short                             places wanted
  *   15  grid point never sampled
+ *   16  STL length not its count's, or too many triangles   length wanted, 0 in writing
+ *   17  a triangle names no vertex                          triangle
  * [end of refusals]
  *
  * The u and v of 8 run 0 to n over the face's grid points. The point is, by side: 0 (0, v, n-u), 1 (n, v, u), 2 (u, 0, n-v),
@@ -93,6 +95,18 @@
  *          11  12   base x, y, z
  *          23   4   size
  *          27  4k   the k samples: the centre's, then those of the neighbours
+ *
+ *
+ * THE STL FILE
+ *
+ * A mesh's triangles for design packages. All little-endian; floats as their IEEE 754 bits.
+ *
+ *     byte  0  80   header: written as zeros, and not looked at
+ *          80   4   the count of triangles
+ *          84  50   the first triangle, and so on:
+ *                     0  12   its normal: written as zeros, and not looked at
+ *                    12  36   its three corners, x y z each
+ *                    48   2   its attribute: written as zeros, and not looked at
  */
 #ifndef SIRVESHAN_H
 #define SIRVESHAN_H
@@ -113,7 +127,7 @@ extern "C" {
 #define SIRVESHAN_LOW_Z 16
 #define SIRVESHAN_HIGH_Z 32
 
-/* Bytes of stack that are enough for any call: about 35 KiB were measured (bindings/c/stack.c), and this is rounded up. */
+/* Bytes of stack that are enough for any call: about 40 KiB were measured (bindings/c/stack.c), and this is rounded up. */
 #define SIRVESHAN_STACK 65536
 
 /*
@@ -132,6 +146,9 @@ extern "C" {
 
 /* Bytes of a record. */
 #define SIRVESHAN_RECORD_LENGTH(n, mask) ((size_t)27 + 4 * SIRVESHAN_SAMPLES_LENGTH(n, mask))
+
+/* Bytes of an STL file. */
+#define SIRVESHAN_STL_LENGTH(triangles) ((size_t)84 + 50 * (size_t)(triangles))
 
 /* Places of the index store: 4 n^3 + 60 n^2. */
 #define SIRVESHAN_STORE_LENGTH(n) ((size_t)(n) * (size_t)(n) * (4 * (size_t)(n) + 60))
@@ -211,6 +228,29 @@ typedef struct sirveshan_written {
 
 sirveshan_written sirveshan_write(sirveshan_header header, const float *centre, size_t centre_length, const float *neighbours,
                                   size_t neighbours_length, uint8_t *bytes, size_t bytes_length);
+
+/*
+ * Writes a mesh, as extraction leaves it, as an STL file to the first bytes of bytes and answers its length,
+ * SIRVESHAN_STL_LENGTH(triangles); all beyond stays. vertices has six floats a vertex, of which the first three are its position;
+ * vertices_length counts floats and triangles_length indices. A last part vertex or triangle is not read. A position that is a
+ * NaN is written as 0x7fc00000. Judged are 16 (more than 4,294,967,295 triangles), 17 (the first triangle that names no vertex)
+ * and 14, in that order: 14 tells how many bytes need room. On a refusal the length is 0 and no lent place is altered.
+ */
+sirveshan_written sirveshan_write_stl(const float *vertices, size_t vertices_length, const uint32_t *triangles,
+                                      size_t triangles_length, uint8_t *bytes, size_t bytes_length);
+
+/*
+ * Reads an STL file: its count of triangles is answered, and their corners fill the first places of positions, nine floats a
+ * triangle; all beyond stays. Reading what was written gives the same bits, corner by corner; the bits of a NaN are not fixed.
+ * Judged are 16 (under 84 bytes, or not as long as its count says) and 14, in that order: 14 tells how many floats need room. On
+ * a refusal the count is 0 and no lent place is altered.
+ */
+typedef struct sirveshan_triangles_read {
+    sirveshan_refusal refused;
+    size_t triangles;
+} sirveshan_triangles_read;
+
+sirveshan_triangles_read sirveshan_read_stl(const uint8_t *src, size_t length, float *positions, size_t positions_length);
 
 /*
  * Three calls for a viewer. Each takes the bytes of one record, judges it whole (11, 12, 1, 2, 3, 13, 7) and answers one number:

@@ -12,9 +12,9 @@
 
 enum { STACK = 1 << 20, PAINT = 0xc7, SAMPLES = 300000 };
 
-static float samples[SAMPLES], vertices[6 * SIRVESHAN_MOST_VERTICES(16, 63)];
+static float samples[SAMPLES], vertices[6 * SIRVESHAN_MOST_VERTICES(16, 63)], positions[9 * SIRVESHAN_MOST_TRIANGLES(16, 63)];
 static uint32_t store[SIRVESHAN_STORE_LENGTH(16)], triangles[3 * SIRVESHAN_MOST_TRIANGLES(16, 63)];
-static uint8_t bytes[SIRVESHAN_RECORD_LENGTH(16, 63)];
+static uint8_t bytes[SIRVESHAN_RECORD_LENGTH(16, 63)], file[SIRVESHAN_STL_LENGTH(SIRVESHAN_MOST_TRIANGLES(16, 63))];
 static size_t subdivisions;
 static uint8_t mask;
 static uint8_t *painted;
@@ -32,6 +32,7 @@ static void *calls(void *unused)
     sirveshan_header h = {1, 2, 3, 4, 0, 0, 0.5f};
     size_t centre = SIRVESHAN_CENTRE_LENGTH(subdivisions), rest = SIRVESHAN_NEIGHBOURS_LENGTH(subdivisions, mask), k;
     sirveshan_written written;
+    sirveshan_triangles_read read;
     volatile uint8_t here = 0;
     uint8_t *low = painted;
     sirveshan_extracted meshed;
@@ -40,6 +41,10 @@ static void *calls(void *unused)
     meshed = sirveshan_extract(h, samples, centre, samples + centre, rest, store, sizeof store / 4, vertices, sizeof vertices / 4,
                                triangles, sizeof triangles / 4);
     if (meshed.refused.number != 0 || meshed.triangles == 0)
+        abort();
+    written = sirveshan_write_stl(vertices, 6 * meshed.vertices, triangles, 3 * meshed.triangles, file, sizeof file);
+    read = sirveshan_read_stl(file, written.length, positions, sizeof positions / 4);
+    if (written.refused.number != 0 || read.refused.number != 0 || read.triangles != meshed.triangles)
         abort();
     written = sirveshan_write(h, samples, centre, samples + centre, rest, bytes, sizeof bytes);
     if (written.refused.number != 0 || sirveshan_read(bytes, written.length, samples, SAMPLES).refused.number != 0)

@@ -12,6 +12,8 @@ import os
 import pty
 import random
 import re
+import resource
+import signal
 import struct
 import subprocess
 import sys
@@ -181,7 +183,7 @@ def check_bad_usage():
 
 
 def check_help_and_version():
-    for words in (["--help"], ["-h"], ["help"], ["mesh", "--help"], ["info", "--help"], ["sample", "--help"]):
+    for words in (["--help"], ["-h"], ["help"], ["mesh", "--help"], ["stl", "--help"], ["info", "--help"], ["sample", "--help"]):
         done = run(*words)
         same("status", (done.returncode, done.stderr), (0, b""))
         assert b"sirveshan" in done.stdout and b"RECORD" in done.stdout, done.stdout
@@ -192,7 +194,7 @@ def check_help_and_version():
 
 def check_full_disk():
     record = EXAMPLES / "face.record"
-    for words in (["mesh", record], ["mesh", record, "--summary"], ["info", record], ["info", record, "--plain"],
+    for words in (["mesh", record], ["mesh", record, "--summary"], ["stl", record, "-o", "-"], ["info", record], ["info", record, "--plain"],
                   ["sample", record, 0, 0, 0], ["--help"], ["--version"]):
         with open("/dev/full", "wb") as full:
             done = subprocess.run([*COMMAND, *map(str, words)], stdout=full, stderr=subprocess.PIPE, timeout=DEADLINE)
@@ -435,29 +437,190 @@ def check_samples():
     assert never > 10 and sampled > 30
 
 
+# STL files
+
+def stl_of(*records_of_a_run):
+    """The file of a run's meshes: the facets of each after those before it."""
+    files = [reference.mesh_stl(reference.accepted_mesh(record)) for record in records_of_a_run]
+    facets = b"".join(file[84:] for file in files)
+    return bytes(80) + struct.pack("<I", len(facets) // 50) + facets
+
+
+def some_records():
+    """Without and with finer sides, one with no surface among them."""
+    chance = random.Random(11)
+    blocks = [records.case_a(), noise(chance, 3, 0), noise(chance, 2, 0b010010), noise(chance, 2, 0, pick=(1.0,)), sphere(6, 0, 3.0)]
+    return [reference.record_of(block) for block in blocks]
+
+
+def silent(done, status=0):
+    same("exit status", (done.returncode, done.stdout, done.stderr), (status, b"", b""))
+
+
+def names_in(folder):
+    return sorted(os.listdir(folder))
+
+
+def check_stl_files():
+    with tempfile.TemporaryDirectory() as folder:
+        for k, record in enumerate([path.read_bytes() for path in sorted(EXAMPLES.glob("*.record"))] + some_records()):
+            file = Path(folder) / ("%d.stl" % k)
+            silent(run("stl", "-", "-o", file, given=record))
+            same("file", file.read_bytes(), stl_of(record))
+            same("standard output", run("stl", "-", "-o", "-", given=record).stdout, stl_of(record))
+        same("files", len(names_in(folder)), k + 1)
+
+
+def check_stl_of_a_run():
+    parts = some_records() * 40
+    with tempfile.TemporaryDirectory() as folder:
+        for jobs in (1, 3):
+            silent(run("stl", "-", "-o", Path(folder) / "run.stl", "--force", "--jobs", jobs, given=b"".join(parts)))
+            same("file", (Path(folder) / "run.stl").read_bytes(), stl_of(*parts))
+        same("standard output", run("stl", "-", "-o", "-", given=b"".join(parts)).stdout, stl_of(*parts))
+
+
+def check_stl_overwrites_only_when_told():
+    record = EXAMPLES / "case-a.record"
+    with tempfile.TemporaryDirectory() as folder:
+        file, link = Path(folder) / "a.stl", Path(folder) / "link.stl"
+        file.write_bytes(b"kept")
+        link.symlink_to(file)
+        for path in (file, link):
+            bad_usage(run("stl", record, "-o", path))
+            same("what was there", file.read_bytes(), b"kept")
+        silent(run("stl", record, "-o", link, "--force"))
+        same("through the link", (link.is_symlink(), file.read_bytes()), (True, stl_of(record.read_bytes())))
+        for path in (folder, "/dev/null"):
+            bad_usage(run("stl", record, "-o", path, "--force"))
+        same("files", names_in(folder), ["a.stl", "link.stl"])
+
+
+def check_stl_refusals():
+    with tempfile.TemporaryDirectory() as folder:
+        file = Path(folder) / "a.stl"
+        for record in damaged_records() + [mismatch()]:
+            refusal = reference.accepted_mesh(record)
+            for target in (file, "-"):
+                refused(run("stl", "-", "-o", target, given=record), refusal)
+        same("files", names_in(folder), [])
+
+
+def check_stl_of_a_run_with_refused_records():
+    good, bad = some_records()[:3], mismatch()
+    parts = [good[0], bad, good[1], bad, good[2]]
+    lines = ["refused 8 0 1 0: side low x disagrees with its neighbour at u 1, v 0 (record %d)" % k for k in (2, 4)]
+    with tempfile.TemporaryDirectory() as folder:
+        file = Path(folder) / "a.stl"
+        for words, files in (([], []), (["--skip-refused"], ["a.stl"])):
+            done = run("stl", "-", "-o", file, *words, given=b"".join(parts))
+            same("status and output", (done.returncode, done.stdout), (1, b""))
+            same("words", done.stderr.decode().splitlines(), lines)
+            same("files", names_in(folder), files)
+        same("what is not refused", file.read_bytes(), stl_of(*good))
+
+
+def limited():
+    """No file may grow beyond 1,000 bytes: writing fails, as on a full disk."""
+    signal.signal(signal.SIGXFSZ, signal.SIG_IGN)
+    resource.setrlimit(resource.RLIMIT_FSIZE, (1000, 1000))
+
+
+def not_written(done):
+    same("status and output", (done.returncode, done.stdout), (3, b""))
+    assert done.stderr.startswith(b"sirveshan: cannot write: "), done.stderr
+
+
+def check_stl_that_cannot_be_written():
+    record = EXAMPLES / "face.record"
+    with tempfile.TemporaryDirectory() as folder:
+        file = Path(folder) / "a.stl"
+        not_written(run("stl", record, "-o", file, preexec_fn=limited))
+        same("files", names_in(folder), [])
+        file.write_bytes(b"kept")
+        not_written(run("stl", record, "-o", file, "--force", preexec_fn=limited))
+        same("files", (names_in(folder), file.read_bytes()), (["a.stl"], b"kept"))
+        for path in (Path(folder) / "none" / "a.stl", file / "a.stl", "/proc/a.stl", ""):
+            not_written(run("stl", record, "-o", path))
+
+
+def check_stl_bad_usage():
+    record = EXAMPLES / "case-a.record"
+    with tempfile.TemporaryDirectory() as folder:
+        file = Path(folder) / "a.stl"
+        for words in ([record], ["-o", file], [record, "-o"], [record, record, "-o", file], [record, "-o", file, "--jobs", 0],
+                      [record, "-o", file, "--plain"], [Path(folder) / "none", "-o", file], ["--check"], ["--check", record, "-o", file],
+                      ["--check", Path(folder) / "none"], ["--check", folder]):
+            bad_usage(run("stl", *words))
+        same("files", names_in(folder), [])
+
+
+def stl_file(*facets):
+    return bytes(80) + struct.pack("<I", len(facets)) + b"".join(struct.pack("<12x9f2x", *facet) for facet in facets)
+
+
+def check_stl_check():
+    record = (EXAMPLES / "face.record").read_bytes()
+    mesh, _, _, _, box = figures(record)
+    done = run("stl", "--check", "-", given=stl_of(record))
+    same("status", (done.returncode, done.stderr), (0, b""))
+    lines = dict(line.split(" ", 1) for line in done.stdout.decode().splitlines())
+    low, high = ([float(word) for word in part.split()] for part in lines.pop("box").split(" to "))
+    same("box", [(reference.f32(a), reference.f32(b)) for a, b in zip(low, high)], box)
+    same("counts", lines, {"triangles": str(len(mesh.triangles)), "degenerate": "0", "not-finite": "0"})
+    told = [
+        (stl_file(), "triangles 0\nbox none\ndegenerate 0\nnot-finite 0\n"),
+        (stl_file([0, 0, 0, 1, 0, 0, 0, 2, 0], [1, 1, 1, 3, 3, 3, 1, 1, 1], [-0.0, 5, 5, 4, 4, 4, 0.0, 5, 5]),
+         "triangles 3\nbox 0 0 0 to 4 5 5\ndegenerate 2\nnot-finite 0\n"),
+        (stl_file([math.nan, 0, 0, math.nan, 0, 0, 7, 8, 9], [math.inf, 0, 0, math.inf, 0, 0, 0, 0, 0]),
+         "triangles 2\nbox 0 0 0 to 7 8 9\ndegenerate 1\nnot-finite 2\n"),
+        (stl_file([math.inf] * 9), "triangles 1\nbox none\ndegenerate 1\nnot-finite 1\n"),
+    ]
+    for file, text in told:
+        accepted(run("stl", "--check", "-", given=file), text)
+    exact = outside_but({(2, 2, 2): 0.5})
+    assert b"\ndegenerate 8\n" in run("stl", "--check", "-", given=stl_of(exact)).stdout
+
+
+def check_stl_check_refusals():
+    file = stl_of((EXAMPLES / "case-a.record").read_bytes())
+    for damaged in (b"", file[:83], file[:84], file[:-1], file + b"\0", changed(file, 80, b"\xff" * 4)):
+        refused(run("stl", "--check", "-", given=damaged), reference.refuse_stl_file(damaged))
+
+
 # Progress
+
+def on_a_terminal(*words, given):
+    """The command with a terminal as its standard error, and what it said there."""
+    ours, theirs = pty.openpty()
+    done = subprocess.run([*COMMAND, *words], input=given, stdout=subprocess.PIPE, stderr=theirs, timeout=DEADLINE)
+    os.close(theirs)
+    said = b""
+    while True:
+        try:
+            part = os.read(ours, 65536)
+        except OSError:
+            break
+        if not part:
+            break
+        said += part
+    os.close(ours)
+    same("status", done.returncode, 0)
+    return done.stdout, said
+
 
 def check_progress_on_a_terminal():
     record = reference.record_of(records.case_a())
+    text, file = reference.mesh_text(record).encode(), stl_of(record)
     for count, shown in ((1, False), (500, True)):
-        ours, theirs = pty.openpty()
-        done = subprocess.run([*COMMAND, "mesh", "-"], input=record * count, stdout=subprocess.PIPE, stderr=theirs, timeout=DEADLINE)
-        os.close(theirs)
-        said = b""
-        while True:
-            try:
-                part = os.read(ours, 65536)
-            except OSError:
-                break
-            if not part:
-                break
-            said += part
-        os.close(ours)
-        same("status", done.returncode, 0)
-        same("output", done.stdout.decode(), reference.mesh_text(record) * count)
-        same("progress for %d" % count, b" records" in said, shown)
-        if shown:
-            assert said.endswith(b"\r\x1b[K"), said[-40:]
+        listed, said_of_listing = on_a_terminal("mesh", "-", given=record * count)
+        written, said_of_file = on_a_terminal("stl", "-", "-o", "-", given=record * count)
+        same("listing", listed, text * count)
+        same("file", written, file[:80] + struct.pack("<I", count) + file[84:] * count)
+        for said in (said_of_listing, said_of_file):
+            same("progress for %d" % count, b" records" in said, shown)
+            if shown:
+                assert said.endswith(b"\r\x1b[K"), said[-40:]
 
 
 def main():

@@ -9,6 +9,9 @@ pub const MOST_SUBDIVISIONS: usize = 16;
 /// The bytes of a record before its samples.
 pub const RECORD_HEADER: usize = 27;
 
+/// The bytes of an STL file before its triangles.
+pub const STL_HEADER: usize = 84;
+
 /// How many samples a block of `subdivisions` has: the points of its grid, and one more layer at
 /// each of its six faces.
 ///
@@ -37,6 +40,11 @@ pub fn store_length(subdivisions: usize) -> usize {
 pub fn record_length(subdivisions: usize, mask: u8) -> usize {
     let samples = sample_length(subdivisions).saturating_add(neighbours_length(subdivisions, mask));
     samples.saturating_mul(4).saturating_add(RECORD_HEADER)
+}
+
+/// How many bytes the STL file of so many triangles has.
+pub fn stl_length(triangles: usize) -> usize {
+    triangles.saturating_mul(50).saturating_add(STL_HEADER)
 }
 
 /// The cells of a block: regular ones, and transition cells at the sides of `mask`.

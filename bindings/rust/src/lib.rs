@@ -3,7 +3,8 @@
 //! [`extract()`] is one call with lent buffers: it allocates nothing, keeps nothing and refuses by
 //! number what it cannot use, with no buffer altered. [`Mesher`] keeps buffers of the right sizes
 //! for a stage that meshes block after block. [`Record`] is a block with its samples, read from and
-//! written to the bytes of a block record. [`viewer`] has the calls over record bytes alone.
+//! written to the bytes of a block record. [`viewer`] has the calls over record bytes alone. [`Stl`]
+//! writes a mesh as an STL file and reads one.
 //!
 //! What is proved is the library below: this crate hands its slices over and names its answers.
 //!
@@ -34,17 +35,19 @@ mod mesher;
 mod record;
 mod refusal;
 mod refusals;
+mod stl;
 pub mod viewer;
 
 pub use block::{Block, Header, Side};
 pub use extract::{extract, Counts};
 pub use lengths::{
     most_triangles, most_vertices, neighbours_length, record_length, sample_length, sample_place,
-    store_length, MOST_SUBDIVISIONS, RECORD_HEADER,
+    stl_length, store_length, MOST_SUBDIVISIONS, RECORD_HEADER, STL_HEADER,
 };
 pub use mesher::{Mesh, Mesher};
 pub use record::{read_record, write_record, Record};
 pub use refusal::Refusal;
+pub use stl::{read_stl, write_stl, Facet, Stl};
 
 /// The examples of docs/API.md are tests too.
 #[cfg(doctest)]

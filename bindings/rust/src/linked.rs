@@ -37,6 +37,12 @@ pub struct Written {
     pub length: usize,
 }
 
+#[repr(C)]
+pub struct TrianglesRead {
+    pub refused: CRefusal,
+    pub triangles: usize,
+}
+
 extern "C" {
     pub fn sirveshan_subdivisions(src: *const u8, length: usize) -> u64;
     pub fn sirveshan_blank(src: *const u8, length: usize) -> u64;
@@ -69,6 +75,20 @@ extern "C" {
         bytes: *mut u8,
         bytes_length: usize,
     ) -> Written;
+    pub fn sirveshan_write_stl(
+        vertices: *const f32,
+        vertices_length: usize,
+        triangles: *const u32,
+        triangles_length: usize,
+        bytes: *mut u8,
+        bytes_length: usize,
+    ) -> Written;
+    pub fn sirveshan_read_stl(
+        src: *const u8,
+        length: usize,
+        positions: *mut f32,
+        positions_length: usize,
+    ) -> TrianglesRead;
 }
 
 impl From<&Header> for CHeader {

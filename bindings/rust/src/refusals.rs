@@ -27,6 +27,8 @@ pub(crate) fn words(number: u32, [first, second, third]: [usize; 3]) -> Option<S
         13 => format!("the record needs {first} samples"),
         14 => format!("the lent buffer needs {first} places"),
         15 => "that grid point was never sampled".to_string(),
+        16 => format!("STL: the file needs {first} bytes (0: more triangles than 32 bits hold)"),
+        17 => format!("triangle {first} names no vertex"),
         _ => return None,
     })
 }

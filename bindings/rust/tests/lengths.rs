@@ -2,7 +2,7 @@
 
 use sirveshan::{
     most_triangles, most_vertices, neighbours_length, record_length, sample_length, sample_place,
-    store_length, Side,
+    stl_length, store_length, Side,
 };
 
 #[test]
@@ -12,6 +12,7 @@ fn lengths_of_real_blocks() {
     assert_eq!(neighbours_length(16, 0b100), 42471);
     assert_eq!([1, 12, 16].map(store_length), [64, 15552, 31744]);
     assert_eq!(record_length(1, 0), 155);
+    assert_eq!([0, 1, 226].map(stl_length), [84, 134, 11384]);
     assert_eq!(most_vertices(1, 0), 12);
     assert_eq!(most_vertices(16, 63), 12 * (4096 + 6 * 256));
     assert!(most_triangles(16, 63) >= 5 * 4096 + 12 * 6 * 256);

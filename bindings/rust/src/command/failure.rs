@@ -61,3 +61,9 @@ pub fn refusal_numbers(refusal: &Refusal) -> String {
 pub fn refusal_line(refusal: &Refusal) -> String {
     format!("{}: {refusal}", refusal_numbers(refusal))
 }
+
+/// Tells of a refused record, by its number where it is one of a run.
+pub fn tell_refusal(refusal: &Refusal, number: usize, alone: bool) {
+    let line = refusal_line(refusal);
+    tell(&if alone { line } else { format!("{line} (record {number})") });
+}

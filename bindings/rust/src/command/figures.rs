@@ -5,10 +5,15 @@ use sirveshan::Mesh;
 use std::collections::HashMap;
 
 type Position = [f32; 3];
+pub type Bounds = (Position, Position);
 
 /// The lowest and the highest corner of all vertices, if there are any.
-pub fn bounding_box(mesh: &Mesh) -> Option<(Position, Position)> {
-    let mut positions = mesh.vertices.iter().map(position);
+pub fn bounding_box(mesh: &Mesh) -> Option<Bounds> {
+    box_of(mesh.vertices.iter().map(position))
+}
+
+/// The lowest and the highest corner of positions.
+pub fn box_of(mut positions: impl Iterator<Item = Position>) -> Option<Bounds> {
     let first = positions.next()?;
     Some(positions.fold((first, first), |(low, high), at| {
         let least = std::array::from_fn(|k| low[k].min(at[k]));

@@ -12,7 +12,10 @@ mod mesh;
 mod output;
 mod progress;
 mod sample;
+mod stl;
+mod stl_check;
 mod summary;
+mod whole_file;
 
 use arguments::Arguments;
 use failure::Failure;
@@ -28,7 +31,7 @@ struct Command {
     run: fn(Arguments) -> Result<(), Failure>,
 }
 
-const COMMANDS: &[&Command] = &[&mesh::COMMAND, &info::COMMAND, &sample::COMMAND];
+const COMMANDS: &[&Command] = &[&mesh::COMMAND, &stl::COMMAND, &info::COMMAND, &sample::COMMAND];
 
 const ABOUT: &str = "\
 RECORD is the file of a block record, or - for standard input.

@@ -1,7 +1,7 @@
 //! `sirveshan mesh`: the mesh of a record, or of each record of a run.
 
 use crate::arguments::Arguments;
-use crate::failure::{refusal_line, refusal_numbers, tell, Failure};
+use crate::failure::{refusal_numbers, tell_refusal, Failure};
 use crate::input::{Piece, Run};
 use crate::jobs::in_order;
 use crate::progress::Progress;
@@ -91,12 +91,10 @@ impl Answers {
         alone: bool,
     ) -> Result<(), Failure> {
         self.refused = true;
-        let line = refusal_line(refusal);
+        tell_refusal(refusal, number, alone);
         if alone {
-            tell(&line);
             return Ok(());
         }
-        tell(&format!("{line} (record {number})"));
         output::put(format!("{}\n", refusal_numbers(refusal)).as_bytes())
     }
 }

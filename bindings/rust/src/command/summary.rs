@@ -1,18 +1,22 @@
 //! A mesh in a few lines, a word and its figures each.
 
-use crate::figures::{bounding_box, enclosed_volume, open_sides, surface_area};
+use crate::figures::{bounding_box, enclosed_volume, open_sides, surface_area, Bounds};
 use sirveshan::Mesh;
 
 pub fn summary(mesh: &Mesh) -> Vec<u8> {
     let mut text =
         format!("vertices {}\ntriangles {}\n", mesh.vertices.len(), mesh.triangles.len());
-    text += &match bounding_box(mesh) {
-        Some(([x, y, z], [x1, y1, z1])) => format!("box {x} {y} {z} to {x1} {y1} {z1}\n"),
-        None => "box none\n".to_string(),
-    };
+    text += &box_line(bounding_box(mesh));
     text += &format!("area {}\n", figure(surface_area(mesh)));
     text += &volume_line(mesh);
     text.into_bytes()
+}
+
+pub fn box_line(bounds: Option<Bounds>) -> String {
+    match bounds {
+        Some(([x, y, z], [x1, y1, z1])) => format!("box {x} {y} {z} to {x1} {y1} {z1}\n"),
+        None => "box none\n".to_string(),
+    }
 }
 
 fn volume_line(mesh: &Mesh) -> String {
