@@ -18,28 +18,40 @@ def missing(what):
     sys.exit(77)
 
 
-class Ours:
-    """Answers calls; a program that cannot be built or that ends early ends the comparison with a plain line."""
+class Program:
+    """One of ours/, running; one that cannot be built or that ends early ends the comparison with a plain line."""
 
-    def __init__(self):
-        built = subprocess.run([HERE / "ours" / "run", "--build"])
+    def __init__(self, name):
+        run = HERE / "ours" / "run"
+        built = subprocess.run([run, "--build", name])
         if built.returncode:
             sys.exit(built.returncode)
-        self.process = subprocess.Popen([HERE / "ours" / "run"], stdin=subprocess.PIPE, stdout=subprocess.PIPE)
+        self.process = subprocess.Popen([run, name], stdin=subprocess.PIPE, stdout=subprocess.PIPE)
+
+    def ask(self, call, length):
+        """The bytes of its answer to the bytes of a call."""
+        try:
+            self.process.stdin.write(call)
+            self.process.stdin.flush()
+            answer = self.process.stdout.read(length)
+        except BrokenPipeError:
+            answer = b""
+        if len(answer) != length:
+            sys.exit("our program ended before its answer (status %s)" % self.process.wait())
+        return answer
+
+
+class Ours(Program):
+    """Our mesher: it answers calls of extraction."""
+
+    def __init__(self):
+        super().__init__("answers")
 
     def call(self, head, lengths, centre, neighbours):
         """The answer's four numbers, and all places of the three buffers, of the lengths given (store, vertices, triangles)."""
         words = [*head, len(centre), len(neighbours), *lengths, *centre, *neighbours]
         places = 4 + sum(lengths)
-        try:
-            self.process.stdin.write(struct.pack("<%dI" % len(words), *words))
-            self.process.stdin.flush()
-            answer = self.process.stdout.read(4 * places)
-        except BrokenPipeError:
-            answer = b""
-        if len(answer) != 4 * places:
-            sys.exit("our mesher ended before its answer (status %s)" % self.process.wait())
-        numbers = struct.unpack("<%dI" % places, answer)
+        numbers = struct.unpack("<%dI" % places, self.ask(struct.pack("<%dI" % len(words), *words), 4 * places))
         return numbers[:4], numbers[4:]
 
 

@@ -1,9 +1,10 @@
 #!/usr/bin/env python3
-"""A picture of a listing: its triangles, lit by their own slope, with their edges drawn.
+"""A picture of a listing, or of a binary STL file: its triangles, lit by their own slope, with their edges drawn.
 
     ./mesh examples/face-finer.record | python3 tools/picture.py docs/face.png
+    ./sirveshan stl examples/face-run.records -o - | python3 tools/picture.py docs/stl.png --stl
 
-Plain Python: the listing comes in on standard input, a PNG goes to the file named.
+Plain Python: the listing or the file comes in on standard input, a PNG goes to the file named.
 """
 
 import math
@@ -29,6 +30,16 @@ def read_listing(lines):
         elif kind == "refused":
             sys.exit(line.strip())
     return vertices, triangles
+
+
+def read_stl(file):
+    """The corners of a file's triangles, three a triangle."""
+    if len(file) < 84 or len(file) != 84 + 50 * int.from_bytes(file[80:84], "little"):
+        sys.exit("this is no binary STL file")
+    vertices = []
+    for nine in struct.iter_unpack("<12x9f2x", file[84:]):
+        vertices += [nine[0:3], nine[3:6], nine[6:9]]
+    return vertices, [range(k, k + 3) for k in range(0, len(vertices), 3)]
 
 
 def turned(point):
@@ -94,9 +105,9 @@ def png(pixels):
 
 
 def main():
-    if len(sys.argv) != 2:
-        sys.exit("usage: picture.py FILE.png < LISTING")
-    vertices, triangles = read_listing(sys.stdin)
+    if len(sys.argv) not in (2, 3) or sys.argv[2:] not in ([], ["--stl"]):
+        sys.exit("usage: picture.py FILE.png < LISTING, or picture.py FILE.png --stl < STL")
+    vertices, triangles = read_stl(sys.stdin.buffer.read()) if sys.argv[2:] else read_listing(sys.stdin)
     if not triangles:
         sys.exit("no triangle to draw")
     points = on_screen([turned(vertex) for vertex in vertices])

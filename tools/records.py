@@ -7,7 +7,8 @@ case-a is document 01's case A.  face is a bumpy rock face in a block of 8
 subdivisions.  face-finer is the same face with finer neighbours on three sides,
 where a knob shows that the coarse samples miss; it has 7 subdivisions, the most
 that leaves a record with three neighbours below the listing program's 65,536
-bytes.
+bytes.  face-run is a run: the face in four blocks side by side, two along x and
+two along z.
 """
 
 from pathlib import Path
@@ -77,9 +78,21 @@ def examples():
     }
 
 
+def face_block(x, z):
+    """The block so many blocks farther along x and z."""
+    block = sampled_block(lambda *point: depth_in_rock(point[0] + SIZE * x, point[1], point[2] + SIZE * z), 8, 0)
+    return block._replace(base=(bits(BASE[0] + SIZE * x), bits(BASE[1]), bits(BASE[2] + SIZE * z)))
+
+
+def runs():
+    """The runs of records by file name."""
+    blocks = [face_block(x, z) for z in (-1, 0) for x in (0, 1)]
+    return {"face-run.records": b"".join(map(record_of, blocks))}
+
+
 def main():
     EXAMPLES.mkdir(exist_ok=True)
-    for name, record in examples().items():
+    for name, record in {**examples(), **runs()}.items():
         (EXAMPLES / name).write_bytes(record)
 
 

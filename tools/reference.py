@@ -1,7 +1,7 @@
 #!/usr/bin/env python3
-"""A second reading of document 01, in plain Python.
+"""A second reading of document 01, and of what has landed of document 02, in plain Python.
 
-Written from its text and the numbers in tools/tables alone, so that its
+Written from their text and the numbers in tools/tables alone, so that its
 answers can stand against the proved code and against the Rust mesher.  Nothing
 here is fast; everything is meant to be held beside the text.
 
@@ -15,6 +15,7 @@ As a command, one record on standard input:
     python3 tools/reference.py mesh              the same with room for any mesh
     python3 tools/reference.py store             the index store, a place a line
     python3 tools/reference.py viewer [X Y Z]    subdivisions, blank, sample
+    python3 tools/reference.py stl               the mesh as an STL file
 """
 
 import math
@@ -29,6 +30,11 @@ LIMIT = 1048576.0
 LEAST_SIZE = 1 / 1024
 HEADER = 27
 VERSION = 1
+
+STL_MOST_TRIANGLES = 4294967295
+STL_START = 84
+STL_TRIANGLE = 50
+NAN = 0x7FC00000
 
 LISTING_BYTES = 65536
 LISTING_STORE = 15552
@@ -617,6 +623,78 @@ def write(block, buffer):
     return len(record)
 
 
+# STL: document 02, [1].  Flat lists, six f32 patterns a vertex and three indices a triangle
+
+def stl_length(count):
+    return STL_START + STL_TRIANGLE * count
+
+
+def stl_pattern(pattern):
+    """As it is written: every NaN alike."""
+    return NAN if math.isnan(value(pattern)) else pattern
+
+
+def stl_positions(vertices, triangles):
+    """For each whole triangle the nine patterns of its corners' positions, as they are written."""
+    return [[stl_pattern(vertices[6 * triangles[3 * t + corner] + axis])
+             for corner in range(3) for axis in range(3)]
+            for t in range(len(triangles) // 3)]
+
+
+def stl_of(vertices, triangles):
+    """The file of lists that writing does not refuse."""
+    positions = stl_positions(vertices, triangles)
+    facets = [struct.pack("<12x9I2x", *nine) for nine in positions]
+    return struct.pack("<80xI", len(positions)) + b"".join(facets)
+
+
+def refuse_stl_writing(vertices, triangles):
+    """16, 17."""
+    count, held = len(triangles) // 3, len(vertices) // 6
+    if count > STL_MOST_TRIANGLES:
+        return Refusal(16, 0)
+    for t in range(count):
+        if max(triangles[3 * t:3 * t + 3]) >= held:
+            return Refusal(17, t)
+    return None
+
+
+def write_stl(vertices, triangles, buffer):
+    """The bytes written or a refusal, 16, 17, 14; fills a lent bytearray."""
+    refusal = (refuse_stl_writing(vertices, triangles)
+               or refuse_buffer(len(buffer), stl_length(len(triangles) // 3)))
+    if refusal:
+        return refusal
+    file = stl_of(vertices, triangles)
+    lay(buffer, file)
+    return len(file)
+
+
+def refuse_stl_file(file):
+    if len(file) < STL_START:
+        return Refusal(16, STL_START)
+    wanted = stl_length(int.from_bytes(file[80:84], "little"))
+    return None if len(file) == wanted else Refusal(16, wanted)
+
+
+def read_stl(file, positions):
+    """The count of triangles or a refusal, 16, 14; fills the first places of the lent list."""
+    refusal = refuse_stl_file(file)
+    if refusal:
+        return refusal
+    facets = list(struct.iter_unpack("<12x9I2x", file[STL_START:]))
+    refusal = refuse_buffer(len(positions), 9 * len(facets))
+    if refusal:
+        return refusal
+    lay(positions, [pattern for nine in facets for pattern in nine])
+    return len(facets)
+
+
+def mesh_stl(mesh):
+    return stl_of([number for vertex in mesh.vertices for number in vertex],
+                  [index for triangle in mesh.triangles for index in triangle])
+
+
 # The viewer's three calls
 
 def viewer_subdivisions(record):
@@ -710,9 +788,19 @@ def viewer_text(record, point):
     return "\n".join(lines) + "\n"
 
 
+def put_stl(record):
+    mesh = accepted_mesh(record)
+    if isinstance(mesh, Refusal):
+        sys.exit(listing_text(mesh, [], []).strip())
+    sys.stdout.buffer.write(mesh_stl(mesh))
+
+
 def main(arguments):
     texts = {"listing": listing, "mesh": mesh_text, "store": store_text}
     command, *point = arguments or [""]
+    if arguments == ["stl"]:
+        put_stl(sys.stdin.buffer.read())
+        return
     if command in texts and not point:
         text = texts[command](sys.stdin.buffer.read())
     elif command == "viewer" and len(point) in (0, 3):

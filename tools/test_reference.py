@@ -1,5 +1,5 @@
 #!/usr/bin/env python3
-"""Document 01's figures, case A and refusals, asked of tools/reference.py; the example records.
+"""Document 01's figures, case A and refusals, document 02's STL, asked of tools/reference.py; the example records.
 
     python3 tools/test_reference.py
 """
@@ -220,6 +220,62 @@ class Records(unittest.TestCase):
         self.assertEqual(reference.listing(reference.record_of(block)), "refused 8 0 0 0\n")
 
 
+class Stl(unittest.TestCase):
+    # Three vertices, a part of one more, a triangle and a part of one more.
+    VERTICES = [bits(k / 4) for k in range(6 * 3 + 4)]
+    TRIANGLES = [2, 0, 1, 0, 0]
+
+    def written(self, vertices, triangles):
+        buffer = bytearray(b"\7" * 200)
+        length = reference.write_stl(vertices, triangles, buffer)
+        self.assertEqual(buffer[length:], b"\7" * (200 - length))
+        return bytes(buffer[:length])
+
+    def not_written(self, refusal, triangles, room=200):
+        buffer = bytearray(b"\7" * room)
+        self.assertEqual(reference.write_stl(self.VERTICES, triangles, buffer), refusal)
+        self.assertEqual(buffer, b"\7" * room)
+
+    def not_read(self, refusal, file, room=40):
+        positions = [7] * room
+        self.assertEqual(reference.read_stl(file, positions), refusal)
+        self.assertEqual(positions, [7] * room)
+
+    def test_form(self):
+        file = self.written(self.VERTICES, self.TRIANGLES)
+        corners = struct.pack("<9f", 3, 3.25, 3.5, 0, 0.25, 0.5, 1.5, 1.75, 2)
+        self.assertEqual(file, bytes(80) + b"\1\0\0\0" + bytes(12) + corners + bytes(2))
+        self.assertEqual(self.written([], [9, 9]), bytes(84))
+
+    def test_round_trip(self):
+        vertices = list(self.VERTICES)
+        vertices[0], vertices[7], vertices[14] = NEGATIVE_ZERO, INFINITY, 0xFFA00001
+        positions = [7] * 11
+        self.assertEqual(reference.read_stl(self.written(vertices, [0, 1, 2]), positions), 1)
+        wanted = vertices[0:3] + vertices[6:9] + vertices[12:14] + [NAN]
+        self.assertEqual(positions, wanted + [7, 7])
+
+    def test_dropped(self):
+        file = bytearray(self.written(self.VERTICES, self.TRIANGLES))
+        plain, marked = [7] * 9, [7] * 9
+        reference.read_stl(bytes(file), plain)
+        file[:80], file[84:96], file[132:] = b"\1" * 80, b"\1" * 12, b"\1" * 2
+        self.assertEqual(reference.read_stl(bytes(file), marked), 1)
+        self.assertEqual(marked, plain)
+
+    def test_writing_refuses(self):
+        self.not_written(Refusal(16, 0), range(3 << 32), room=0)
+        self.not_written(Refusal(17, 1), [0, 1, 2, 0, 3, 3, 9, 9, 9], room=0)
+        self.not_written(Refusal(14, 184), [0, 1, 2, 2, 1, 0, 9], room=183)
+
+    def test_reading_refuses(self):
+        file = self.written(self.VERTICES, self.TRIANGLES)
+        for damaged, wanted in ((b"", 84), (file[:83], 84), (file[:84], 134), (file[:-1], 134), (file + b"\0", 134)):
+            self.not_read(Refusal(16, wanted), damaged)
+        self.not_read(Refusal(16, 84 + 50 * 4294967295), file[:80] + b"\xff" * 4 + file[84:], room=0)
+        self.not_read(Refusal(14, 9), file, room=8)
+
+
 class Viewer(unittest.TestCase):
     def test_answers(self):
         record = reference.record_of(case_a())
@@ -263,7 +319,7 @@ class Listing(unittest.TestCase):
 
 class Examples(unittest.TestCase):
     def test_stored_as_made(self):
-        for name, record in records.examples().items():
+        for name, record in {**records.examples(), **records.runs()}.items():
             self.assertEqual((records.EXAMPLES / name).read_bytes(), record)
 
     def test_all_are_meshed(self):

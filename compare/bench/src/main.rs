@@ -3,6 +3,7 @@
 mod before;
 mod faces;
 mod ours;
+mod stl;
 
 use faces::{block, NOISY, SMOOTH, WAVY};
 use oracle::record::Block;
@@ -15,6 +16,7 @@ use std::time::{Duration, Instant};
 const USAGE: &str = "\
 bench [N..]                               a table of times, for n = 4, 8 and 16 or those named
 bench parts [N]                           where our time goes, at n = 16 or the one named
+bench stl                                 STL files: writing and reading against a copy of the same bytes
 bench ours|before|rust TIMES N MASK FACE  meshes one block that often and prints nothing
                                           (FACE: smooth, wavy, noisy); compare/instructions counts it";
 const SIZES: [usize; 3] = [4, 8, 16];
@@ -155,6 +157,7 @@ fn run(words: &[&str]) -> Outcome {
             println!("{USAGE}");
             Ok(())
         }
+        ["stl"] => stl::table(),
         ["parts"] => parts(16),
         ["parts", n] => parts(number(n)?),
         ["ours" | "before" | "rust", times, n, mask, face @ ("smooth" | "wavy" | "noisy")] => {
