@@ -1,20 +1,21 @@
 -- Document 01, 'Answers by number': 7 for samples whose places are counted on from another place, and that two lists lent one after
 -- the other are judged one after the other. Samples that can all be used pass, wherever they are counted from.
-use Prim.Native.Nat.{ℕ, zero, suc, _+_}
+use Prim.Native.Nat.{ℕ, _+_, zero-le}
 use mathlib.Core.Path.{_≡_, refl, sym, ap, _∙_}
 use mathlib.Core.Bool.{Bool, true, false, _&&_, and-eq-true-iff}
 use mathlib.Core.List.{List, _++_}
-use native.Mathlib.Nat.{zero-add, add-zero, add-suc}
+use native.Mathlib.Nat.{zero-add}
 use native.Mathlib.Numerals.{add-one}
 use lib.Ieee.{Float, nan}
 use lib.ListN.{length, getD, length-append, List·getD-append}
 use lib.Seq.{getD-append-add}
+use Rattle.laws.specs.Below.{allBelow, each-below}
 use Rattle.model.specs.declared.Refusal.the-variants.{BadSample}
 use Rattle.model.specs.declared.Verdict.{Verdict}
 use Rattle.model.specs.declared.Verdict.the-variants.{Passed}
 use Rattle.model.specs.Refusals.{unless, orElse, first}
 use Rattle.model.specs.Judging.{usable, sampleUsable, judgeSamples}
-use Rattle.judge.specs.First.{first-append, first-same}
+use Rattle.judge.specs.First.{first-append, first-same, passed-over}
 
 abbrev pub usableFrom : ℕ → List Float → ℕ → Verdict
 usableFrom from samples place = unless (usable (getD samples place nan)) (BadSample (from + place))
@@ -24,27 +25,11 @@ judgeFrom from samples = first (usableFrom from samples) (length samples)
 
 -- the first k samples can be used
 abbrev pub allUsable : List Float → ℕ → Bool
-allUsable samples zero = true
-allUsable samples (suc k) = allUsable samples k && usable (getD samples k nan)
+allUsable samples = allBelow (λ k. usable (getD samples k nan))
 
 -- and so can k samples from a place on
 abbrev pub usableAfter : List Float → ℕ → ℕ → Bool
-usableAfter samples from zero = true
-usableAfter samples from (suc k) = usableAfter samples from k && usable (getD samples (from + k) nan)
-
--- two parts that lie one after the other
-pub two-parts : (samples : List Float) (from k : ℕ) → allUsable samples from && usableAfter samples from k ≡ allUsable samples (from + k)
-two-parts samples from zero = rw add-zero (and-true _)
-  where
-    and-true : (b : Bool) → b && true ≡ b
-    and-true true = refl
-    and-true false = refl
-two-parts samples from (suc k) =
-    rw add-suc (sym (and-assoc (allUsable samples from) (usableAfter samples from k) _) ∙ ap (λ (b : Bool). b && usable (getD samples (from + k) nan)) (two-parts samples from k))
-  where
-    and-assoc : (a b c : Bool) → (a && b) && c ≡ a && (b && c)
-    and-assoc true b c = refl
-    and-assoc false b c = refl
+usableAfter samples from = allBelow (λ k. usable (getD samples (from + k) nan))
 
 pub last-one : (samples : List Float) (k : ℕ) → length samples ≡ k + 1 → allUsable samples k && usable (getD samples k nan) ≡ allUsable samples (length samples)
 last-one samples k e = rw (e, add-one)
@@ -57,10 +42,8 @@ one-more-each true false false y = refl
 one-more-each false b x y = refl
 
 all-pass : (from : ℕ) (samples : List Float) (k : ℕ) → allUsable samples k ≡ true → first (usableFrom from samples) k ≡ Passed
-all-pass from samples zero h = refl
-all-pass from samples (suc k) h =
-    let parts = and-eq-true-iff (allUsable samples k) (usable (getD samples k nan)) .0 h in
-    rw (all-pass from samples k (parts .0), parts .1)
+all-pass from samples k h =
+    passed-over (usableFrom from samples) 0 k refl (λ i _ l. rw (each-below (λ k. usable (getD samples k nan)) k i h l)) zero-le
 
 module _ (centre neighbours : List Float) where
   pub one-after-the-other :

@@ -8,4 +8,5 @@ pub mod Gathered
 pub mod Sums
 -- tests as Bools, and counting what passes one
 pub mod Tests
+pub mod Below
 pub mod Counting

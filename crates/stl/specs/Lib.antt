@@ -3,6 +3,7 @@ pub mod Definition
 pub mod Files
 -- what the code is proved by
 pub mod Named
+pub mod Numbers
 pub mod Parts
 pub mod Passing
 -- what holds of files

@@ -1,8 +1,8 @@
 -- Document 02, [1]: refusal 17. A look at all corners finds whether there is a triangle that names no vertex; what passes names one with
 -- each corner.
 use Prim.Native.Nat.{ℕ, zero, suc, _+_, _*_, _<_, zero-le}
-use native.Mathlib.Nat.{add-zero, mul-suc, not-suc-le-zero, le-of-suc-le-suc, eq-or-lt-of-le}
-use native.Mathlib.Numerals.{add-one, add-two, add-three}
+use native.Mathlib.Nat.{add-zero, not-suc-le-zero, le-of-suc-le-suc, eq-or-lt-of-le}
+use native.Mathlib.Omega.{arith}
 use mathlib.Core.Path.{_≡_, refl, ap, _∙_}
 use mathlib.Core.Bool.{Bool, true, _&&_, and-eq-true-iff}
 use mathlib.Core.List.{List}
@@ -11,6 +11,7 @@ use borrow.Author.Tests.{ltb-true, lt-ltb}
 use lib.Dec.{ltb}
 use lib.Ieee.{Float}
 use lib.ListN.{getD}
+use Rattle.laws.specs.Below.{allBelow, each-below}
 use Rattle.model.specs.declared.Refusal.the-variants.{NoVertex}
 use Rattle.model.specs.declared.Verdict.{Verdict}
 use Rattle.model.specs.declared.Verdict.the-variants.{Passed}
@@ -20,8 +21,7 @@ use Rattle.stl.specs.Definition.{vertexCount, triangleCount, cornerOf, n
 
 -- the first k corners each name a vertex
 abbrev pub allNamed : ℕ → List ℕ → ℕ → Bool
-allNamed held triangles zero = true
-allNamed held triangles (suc k) = allNamed held triangles k && ltb (getD triangles k 0) held
+allNamed held triangles = allBelow (λ k. ltb (getD triangles k 0) held)
 
 abbrev pub namedSpot : ℕ → List ℕ → ℕ → Verdict
 namedSpot held triangles t = unless (named held triangles t) (NoVertex t)
@@ -32,29 +32,14 @@ pub spot-is : (held : ℕ) (triangles : List ℕ) (t : ℕ) (one two three : Boo
     → namedSpot held triangles t ≡ unless (one && two && three) (NoVertex t)
 spot-is held triangles t one two three a b c = rw (add-zero, a, b, c)
 
--- the three corners of a triangle, after those before it
-one-more : (held : ℕ) (triangles : List ℕ) (t : ℕ) → allNamed held triangles (3 * suc t) ≡ true
-    → (allNamed held triangles (3 * t) ≡ true) × (named held triangles t ≡ true)
-one-more held triangles t h =
-    let all = allNamed held triangles (3 * t) in
-    let a = ltb (cornerOf triangles t 0) held in
-    let b = ltb (cornerOf triangles t 1) held in
-    let c = ltb (cornerOf triangles t 2) held in
-    let e : ((all && a) && b) && c ≡ true = rw (add-zero, add-one, add-two) (rw (mul-suc, add-three) at h) in
-    let third = and-eq-true-iff ((all && a) && b) c .0 e in
-    let second = and-eq-true-iff (all && a) b .0 (third .0) in
-    let first = and-eq-true-iff all a .0 (second .0) in
-    (first .0, rw (first .1, second .1, third .1))
-
-all-pass : (held : ℕ) (triangles : List ℕ) (n : ℕ) → allNamed held triangles (3 * n) ≡ true → first (namedSpot held triangles) n ≡ Passed
-all-pass held triangles zero h = refl
-all-pass held triangles (suc n) h =
-    let more = one-more held triangles n h in
-    rw (all-pass held triangles n (more .0), more .1)
-
 pub all-named : (held : ℕ) (triangles : List ℕ) → allNamed held triangles (3 * triangleCount triangles) ≡ true → judgeNamed held triangles ≡ Passed
 unfolding judgeNamed
-all-named held triangles h = all-pass held triangles (triangleCount triangles) h
+all-named held triangles h =
+    let count = triangleCount triangles in
+    let corner : (t k : ℕ) → t < count → k < 3 → ltb (cornerOf triangles t k) held ≡ true =
+    λ t k l below. each-below (λ i. ltb (getD triangles i 0) held) (3 * count) (3 * t + k) h (omega arith) in
+    passed-over (namedSpot held triangles) 0 count refl
+    (λ t _ l. rw (corner t 0 l (omega arith), corner t 1 l (omega arith), corner t 2 l (omega arith))) zero-le
 
 -- ---- what passes
 

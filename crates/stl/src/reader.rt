@@ -6,6 +6,7 @@ ghost use lib.Seq.{sets};
 ghost use Rattle.laws.specs.Steps.{listed, laid};
 ghost use Rattle.model.specs.Words.{littleFloatAt};
 ghost use Rattle.stl.specs.Definition.{startLength, cornersLength, fileLength, countIn, floatCount, positionsIn, judgeFile, judgeReading, readStl};
+ghost use Rattle.stl.specs.Numbers.{allNumbers};
 use crate::StlRead;
 use crate::layout::FLOATS;
 use crate::layout::HEADER;
@@ -16,7 +17,8 @@ use judge::judge_buffer;
 use judge::unless;
 use model::Refusal;
 use model::Verdict;
-use words::floats::float_of;
+use words::floats::float_known;
+use words::floats::is_number;
 use words::little::word_at;
 
 fn count_in(bytes: &[u8]) -> usize
@@ -26,12 +28,24 @@ fn count_in(bytes: &[u8]) -> usize
     word_at(bytes, HEADER) as usize
 }
 
-fn fill_corners(bytes: &[u8], from: usize, positions: &mut [f32], at: usize)
-    requires { ⌜ (from + cornersLength ≤ length (now bytes)) × (at + floatCount ≤ length (now positions)) ⌝ }
+// Whether no word of a triangle's corners is a pattern of a NaN. Looked at once here, they are then copied with no further look.
+fn all_numbers(bytes: &[u8], from: usize) -> bool
+    requires { ⌜ from + cornersLength ≤ length (now bytes) ⌝ }
+    ensures { λ r. ⌜ r ≡ allNumbers (now (bytes .entry)) from floatCount ⌝ }
+{
+    let mut numbers = true;
+    for k in 0..FLOATS {
+        numbers = numbers & is_number(word_at(bytes, from + 4 * k));
+    }
+    numbers
+}
+
+fn fill_corners(bytes: &[u8], from: usize, positions: &mut [f32], at: usize, numbers: bool)
+    requires { ⌜ (from + cornersLength ≤ length (now bytes)) × ((at + floatCount ≤ length (now positions)) × (numbers ≡ allNumbers (now bytes) from floatCount)) ⌝ }
     ensures { λ _. ⌜ now (positions .exit) ≡ sets (now (positions .entry)) at (listed (λ k. littleFloatAt (now (bytes .entry)) (from + 4 * k)) floatCount) ⌝ }
 {
     for k in 0..FLOATS {
-        positions[at + k] = float_of(word_at(bytes, from + 4 * k));
+        positions[at + k] = float_known(word_at(bytes, from + 4 * k), numbers);
     }
 }
 
@@ -40,7 +54,9 @@ fn fill_positions(bytes: &[u8], positions: &mut [f32], count: usize)
     ensures { λ _. ⌜ now (positions .exit) ≡ laid (positionsIn (now (bytes .entry))) (now (positions .entry)) ⌝ }
 {
     for t in 0..count {
-        fill_corners(bytes, file_length(t) + NORMAL, positions, FLOATS * t);
+        let from = file_length(t) + NORMAL;
+        let numbers = all_numbers(bytes, from);
+        fill_corners(bytes, from, positions, FLOATS * t, numbers);
     }
 }
 

@@ -11,6 +11,8 @@ use Rattle.words.proofs.little.word_at.Reads as little-word-at
 use Rattle.words.proofs.little.put_word.Reads as little-put-word
 use Rattle.words.proofs.floats.bits_of.Reads as bits-of
 use Rattle.words.proofs.floats.float_of.Reads as float-of
+use Rattle.words.proofs.floats.is_number.Reads as is-number
+use Rattle.words.proofs.floats.float_known.Reads as float-known
 
 pub big-word-at-pinned : (κs : Lfts 1) (a : _) (r r′ : _) (e e′ : _) → big-word-at.Learnt κs a r e → big-word-at.Learnt κs a r′ e′ → r ≡ r′
 big-word-at-pinned κs a r r′ e e′ h k = pinned h k
@@ -32,3 +34,9 @@ bits-of-pinned κs a r r′ e e′ h k = pinned h k
 
 pub float-of-pinned : (κs : Lfts 0) (a : _) (r r′ : _) (e e′ : _) → float-of.Learnt κs a r e → float-of.Learnt κs a r′ e′ → r ≡ r′
 float-of-pinned κs a r r′ e e′ h k = pinned h k
+
+pub is-number-pinned : (κs : Lfts 0) (a : _) (r r′ : _) (e e′ : _) → is-number.Learnt κs a r e → is-number.Learnt κs a r′ e′ → r ≡ r′
+is-number-pinned κs a r r′ e e′ h k = pinned h k
+
+pub float-known-pinned : (κs : Lfts 0) (a : _) (r r′ : _) (e e′ : _) → float-known.Learnt κs a r e → float-known.Learnt κs a r′ e′ → r ≡ r′
+float-known-pinned κs a r r′ e e′ h k = pinned h k

@@ -5,10 +5,10 @@ use native.Mathlib.Nat.{add-zero, mul-suc, not-suc-le-zero, le-of-suc-le-suc, le
 use native.Mathlib.Numerals.{add-one}
 use native.Mathlib.Omega.{arith}
 use mathlib.Core.Path.{_≡_, refl, sym, ap, ap₂, _∙_, subst}
-use mathlib.Core.Bool.{true, false, not}
+use mathlib.Core.Bool.{Bool, true, false, not}
 use mathlib.Core.List.{List, [], _∷_, _++_, append-assoc, append-nil}
-use borrow.Author.Tests.{lt-ltb, le-ltb}
-use lib.Dec.{T}
+use borrow.Author.Tests.{ltb-true, ltb-false, le-leb, lt-leb}
+use lib.Dec.{T, leb, ltb}
 use lib.Ieee.{Float, nan, inf, fin, binary32, isNan, fits, ne, nanBits, ofBits, toBits}
 use lib.Ieee.Bits.{ofBits-toBits, toBits-ofBits, toBits-lt, nanBits-is, nanBits-above}
 use lib.ListN.{length, getD, take, drop, length-append}
@@ -102,8 +102,13 @@ is-nan nan e = refl
 is-nan (inf s) e = absurd (subst T (sym e) tt)
 is-nan (fin s m k) e = absurd (subst T (sym e) tt)
 
-pub pattern-nan : (n : ℕ) → 0x7f80_0000 < n % 0x8000_0000 → ofBits binary32 n ≡ nan
-pattern-nan n h = is-nan (ofBits binary32 n) (sym (nanBits-is binary32 n) ∙ nanBits-above binary32 n ∙ lt-ltb 0x7f80_0000 (n % 0x8000_0000) h)
+at-most : (a b : ℕ) (above : Bool) → ltb b a ≡ above → leb a b ≡ not above
+at-most a b true e = lt-leb a b (ltb-true b a e)
+at-most a b false e = le-leb a b (ltb-false b a e)
 
-pub pattern-number : (n : ℕ) → n % 0x8000_0000 ≤ 0x7f80_0000 → nanBits binary32 n ≡ false
-pattern-number n h = nanBits-above binary32 n ∙ le-ltb 0x7f80_0000 (n % 0x8000_0000) h
+-- a pattern is a NaN's where it is, without its sign, above that of infinity
+pub pattern-number : (n : ℕ) → leb (n % 0x8000_0000) 0x7f80_0000 ≡ not (nanBits binary32 n)
+pattern-number n = at-most (n % 0x8000_0000) 0x7f80_0000 (nanBits binary32 n) (sym (nanBits-above binary32 n))
+
+pub pattern-nan : (n : ℕ) → nanBits binary32 n ≡ true → ofBits binary32 n ≡ nan
+pattern-nan n e = is-nan (ofBits binary32 n) (sym (nanBits-is binary32 n) ∙ e)

@@ -8,7 +8,8 @@ use native.Mathlib.Numerals.{add-one}
 use lib.Ieee.{nan}
 use lib.ListN.{getD}
 use Rattle.model.specs.Judging.{usable}
-use Rattle.judge.specs.Counted.{allUsable, usableAfter, two-parts, one-more-each}
+use Rattle.laws.specs.Below.{two-parts}
+use Rattle.judge.specs.Counted.{allUsable, usableAfter, one-more-each}
 use Rattle.judge.proofs.samples.halves_usable.Statement.{statement}
 use Rattle.judge.proofs.samples.halves_usable.Tie as tie
 
@@ -64,7 +65,7 @@ returns c =
     let a = c .before .before .before .args in
     let l = c .before .loop in
     let end : l .place ≡ a .half = omega arith in
-    rw end at (l .inv .1) ∙ two-parts (a .samples .now) (a .half) (a .half)
+    rw end at (l .inv .1) ∙ two-parts (λ k. usable (getD (a .samples .now) k nan)) (a .half) (a .half)
 
 pub halves-usable-spec : {M : Type 1} → statement M
 halves-usable-spec =

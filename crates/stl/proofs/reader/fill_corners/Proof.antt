@@ -1,7 +1,7 @@
 -- `fill_corners` meets its contract. The invariant: the floats passed stand from `at` on.
 use Prim.Native.Nat.{ℕ, _+_, _-_, _*_, _≤_}
 use native.Mathlib.Omega.{arith}
-use mathlib.Core.Path.{_≡_, refl, ap, _∙_, ap₂}
+use mathlib.Core.Path.{_≡_, refl, sym, ap, ap₂, _∙_}
 use mathlib.Core.List.{List}
 use borrow.Author.Needs.{needs}
 use lib.Ieee.{Float, binary32, ofBits}
@@ -10,6 +10,7 @@ use lib.Seq.{sets, length-sets}
 use Rattle.laws.specs.Steps.{listed}
 use Rattle.laws.specs.Gathered.{sets-listed}
 use Rattle.stl.specs.Definition.{floatCount}
+use Rattle.stl.specs.Numbers.{number-at}
 use Rattle.model.specs.Words.{littleFloatAt}
 use Rattle.stl.proofs.reader.fill_corners.Statement.{statement}
 use Rattle.stl.proofs.reader.fill_corners.Tie as tie
@@ -18,11 +19,11 @@ abbrev floatFrom : List ℕ → ℕ → ℕ → Float
 floatFrom bytes from k = littleFloatAt bytes (from + 4 * k)
 
 abbrev Inv-loop : tie.InvT-loop
-Inv-loop bytes from positions₀ at k₀ positions k =
+Inv-loop bytes from positions₀ at numbers k₀ positions k =
     (k ≤ floatCount) × (length positions ≡ length positions₀) × (positions ≡ sets positions₀ at (listed (floatFrom bytes from) k))
 
 abbrev μ-loop : tie.MeasureT-loop
-μ-loop bytes from positions₀ at k₀ positions k = floatCount - k
+μ-loop bytes from positions₀ at numbers k₀ positions k = floatCount - k
 
 loop-holds : tie.Need-loop-holds Inv-loop μ-loop
 loop-holds c = (omega arith, refl, refl)
@@ -36,8 +37,12 @@ add-word-at c = omega arith
 word-at-requires : tie.Need-word-at-requires Inv-loop μ-loop
 word-at-requires c κs = omega arith
 
-float-of-requires : tie.Need-float-of-requires Inv-loop μ-loop
-float-of-requires c κs = search needs
+float-known-requires : tie.Need-float-known-requires Inv-loop μ-loop
+float-known-requires c κs known =
+    let begun = c .before .before .before .before .before in
+    let start = begun .args in
+    let all = sym (begun .pre .1 .1) ∙ known in
+    rw (c .word-at .ensures) (number-at (start .bytes .now) (start .from) floatCount (c .before .before .loop .k) all (omega arith))
 
 add-positions : tie.Need-add-positions Inv-loop μ-loop
 add-positions c = omega arith
@@ -59,8 +64,8 @@ loop-again c =
     let start = c .before .before .before .before .before .before .args in
     let turn = c .before .before .before .loop in
     let float = floatFrom (start .bytes .now) (start .from) in
-    let x = c .float-of .result in
-    let is : x ≡ float (turn .k) = c .float-of .ensures ∙ ap (ofBits binary32) (c .before .word-at .ensures) in
+    let x = c .float-known .result in
+    let is : x ≡ float (turn .k) = c .float-known .ensures ∙ ap (ofBits binary32) (c .before .word-at .ensures) in
     let put : set (turn .positions) (start .at + turn .k) x ≡ sets (start .positions .now) (start .at) (listed float (turn .k + 1)) =
     ap₂ (λ (l : List Float) (x : Float). set l (start .at + turn .k) x) (turn .inv .2) is ∙ sets-listed float (start .positions .now) (start .at) (turn .k) in
     (omega arith, ap length put ∙ length-sets (start .positions .now) (start .at) (listed float (turn .k + 1)), put)
@@ -84,7 +89,7 @@ fill-corners-spec =
     mul-word-at
     add-word-at
     word-at-requires
-    float-of-requires
+    float-known-requires
     add-positions
     mul-positions
     slice-write-positions

@@ -29,16 +29,22 @@ loop-holds c = (omega arith, refl, refl)
 file-length-requires : tie.Need-file-length-requires Inv-loop μ-loop
 file-length-requires c κs = omega arith
 
-add-fill-corners : tie.Need-add-fill-corners Inv-loop μ-loop
-add-fill-corners c = omega arith
+add-from : tie.Need-add-from Inv-loop μ-loop
+add-from c = omega arith
+
+all-numbers-requires : tie.Need-all-numbers-requires Inv-loop μ-loop
+all-numbers-requires c κs =
+    let pre = c .before .before .before .before .before .pre in
+    omega (arith, c .file-length .ensures, pre)
 
 mul-fill-corners : tie.Need-mul-fill-corners Inv-loop μ-loop
 mul-fill-corners c = omega arith
 
 fill-corners-requires : tie.Need-fill-corners-requires Inv-loop μ-loop
 fill-corners-requires c κs =
-    let pre = c .before .before .before .before .before .before .pre in
-    (omega (arith, c .before .file-length .ensures, pre), omega (arith, pre))
+    let placed = c .before .before in
+    let pre = placed .before .before .before .before .before .pre in
+    (omega (arith, placed .file-length .ensures, pre), (omega (arith, pre), c .before .all-numbers .ensures))
 
 add-t : tie.Need-add-t Inv-loop μ-loop
 add-t c = omega arith
@@ -48,13 +54,15 @@ loop-less c = omega arith
 
 loop-again : tie.Need-loop-again Inv-loop μ-loop
 loop-again c =
-    let begun = c .before .before .before .before .before .before in
+    let filled = c .before .before in
+    let placed = filled .before .before .before in
+    let begun = placed .before .before in
     let turn = begun .loop in
     let start = begun .before .before .before .args in
     let corners = cornersIn (start .bytes .now) in
-    let put : c .before .before .fill-corners .last .1 .1 .0 ≡ sets (start .positions .now) 0 (gather corners (turn .t + 1)) =
-    c .before .before .fill-corners .ensures
-    ∙ ap₂ (λ (l : List Float) (from : ℕ). sets l (floatCount * turn .t) (listed (λ k. littleFloatAt (start .bytes .now) (from + normalLength + 4 * k)) floatCount)) (turn .inv .2) (c .before .before .before .before .file-length .ensures)
+    let put : filled .fill-corners .last .1 .1 .0 ≡ sets (start .positions .now) 0 (gather corners (turn .t + 1)) =
+    filled .fill-corners .ensures
+    ∙ ap₂ (λ (l : List Float) (from : ℕ). sets l (floatCount * turn .t) (listed (λ k. littleFloatAt (start .bytes .now) (from + normalLength + 4 * k)) floatCount)) (turn .inv .2) (placed .file-length .ensures)
     ∙ ap (λ (i : ℕ). sets (sets (start .positions .now) 0 (gather corners (turn .t))) i (corners (turn .t))) (sym (zero-add (floatCount * turn .t)))
     ∙ sets-gather corners floatCount (λ t. refl) (start .positions .now) 0 (turn .t) in
     (omega arith, ap length put ∙ length-sets (start .positions .now) 0 (gather corners (turn .t + 1)), put)
@@ -80,7 +88,8 @@ fill-positions-spec =
     μ-loop
     loop-holds
     file-length-requires
-    add-fill-corners
+    add-from
+    all-numbers-requires
     mul-fill-corners
     fill-corners-requires
     add-t

@@ -1,22 +1,25 @@
--- `float_of` meets its contract: a NaN's pattern is, without its sign, above that of infinity.
+-- `float_of` meets its contract: a pattern that is not a NaN's has a float, and every other one is the NaN.
 use borrow.Author.Needs.{needs}
-use mathlib.Core.Path.{sym, subst}
-use mathlib.Core.Bool.{Bool, not}
+use borrow.Author.Tests.{not-false}
+use mathlib.Core.Path.{sym, subst, _∙_}
 use lib.Dec.{T}
 use lib.Ieee.{ofBits, div}
-use Rattle.words.specs.Floats.{pattern-nan, pattern-number}
+use Rattle.words.specs.Floats.{pattern-nan}
 use Rattle.words.proofs.floats.float_of.Statement.{statement}
 use Rattle.words.proofs.floats.float_of.Tie as tie
 
-returns : tie.Need-returns
-unfolding div ofBits
-returns c = sym (pattern-nan _ (c .if1 .taken))
+is-number-requires : tie.Need-is-number-requires
+is-number-requires c κs = search needs
 
 float-from-bits-result : tie.Need-float-from-bits-result
-float-from-bits-result c = subst (λ (b : Bool). T (not b)) (sym (pattern-number _ (c .if1 .left))) tt
+float-from-bits-result c = subst T (sym (c .if1 .taken) ∙ c .before .is-number .ensures) tt
+
+returns : tie.Need-returns
+returns c = search needs
 
 returns-2 : tie.Need-returns-2
-returns-2 c = search needs
+unfolding div ofBits
+returns-2 c = sym (pattern-nan _ (not-false _ (sym (c .before .is-number .ensures) ∙ c .if1 .left)))
 
 pub float-of-spec : {M : Type 1} → statement M
-float-of-spec = tie.close (tie.spec returns float-from-bits-result returns-2)
+float-of-spec = tie.close (tie.spec is-number-requires float-from-bits-result returns returns-2)
