@@ -1,10 +1,10 @@
 // Runs the vectors of data/, which tools/record_vectors.py makes and describes: the reader, the writer and the viewer's three calls on
 // records and blocks, answers and lent buffers held against what the vectors say. Writes how many of each file agreed.
 mod reading;
-mod words;
+mod vectors;
 mod writing;
 
-use words::word;
+use vectors::word;
 
 // What stands at a place of a file: a vector that agreed or did not, with the place after it; or none.
 enum Step {

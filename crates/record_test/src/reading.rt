@@ -2,8 +2,7 @@
 // header's seven, subdivisions, blank, samples filled, points asked.
 ghost use Prim.Native.Nat.{_≤_};
 ghost use lib.ListN.{length};
-use crate::words::bits_of;
-use crate::words::word;
+use crate::vectors::word;
 use judge::numbers_of;
 use model::Header;
 use model::RecordRead;
@@ -11,6 +10,7 @@ use record::reader::read_record;
 use viewer::blank;
 use viewer::sample;
 use viewer::subdivisions;
+use words::floats::bits_of;
 
 // The places lent at most.
 const ROOM: usize = 8192;

@@ -2,14 +2,14 @@
 // bytes lent, the answer's four numbers.
 ghost use Prim.Native.Nat.{_≤_};
 ghost use lib.ListN.{length};
-use crate::words::float_of;
-use crate::words::word;
+use crate::vectors::word;
 use judge::numbers_of;
 use model::Block;
 use model::Header;
 use model::RecordWritten;
 use model::Vector;
 use record::writer::write_record;
+use words::floats::float_of;
 
 // The samples lent at most, and the bytes.
 const ROOM: usize = 8192;

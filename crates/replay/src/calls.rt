@@ -13,7 +13,6 @@ ghost use lib.ListN.{length};
 use crate::agreement::MARK;
 use crate::agreement::answer_agrees;
 use crate::agreement::floats_agree;
-use crate::parts::float_of;
 use crate::parts::number;
 use crate::parts::part;
 use crate::parts::word;
@@ -24,6 +23,7 @@ use model::Numbers;
 use model::RecordRead;
 use model::Vector;
 use record::fields::HEADER_LENGTH;
+use words::floats::float_of;
 
 fn numbers_of(extraction: Extraction) -> Numbers {
     match extraction {

@@ -1,5 +1,4 @@
-// What a file of vectors is made of: words of 32 bits, big-endian; parts, each a word with its length in bytes and then the bytes; and
-// floats by their bits.
+// What a file of vectors is made of: words of 32 bits, big-endian; parts, each a word with its length in bytes and then the bytes.
 ghost use mathlib.Core.Path.{_≡_};
 ghost use Prim.Native.Nat.{_≤_, _<_};
 ghost use lib.ListN.{length};
@@ -68,14 +67,6 @@ pub fn part(bytes: &[u8], k: usize) -> &[u8] {
     let start = found.start;
     let end = found.end;
     &bytes[start..end]
-}
-
-// The float with some bits; any NaN, where they are a NaN's.
-pub fn float_of(bits: u32) -> f32 {
-    if bits % 0x8000_0000 > 0x7F80_0000 {
-        return 0.0 / 0.0;
-    }
-    f32::from_bits(bits)
 }
 
 // Whether a float has these bits, which are no NaN's.
