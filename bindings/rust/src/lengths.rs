@@ -12,6 +12,9 @@ pub const RECORD_HEADER: usize = 27;
 /// The bytes of an STL file before its triangles.
 pub const STL_HEADER: usize = 84;
 
+/// The bytes of a triangle in an STL file.
+pub const STL_TRIANGLE: usize = 50;
+
 /// How many samples a block of `subdivisions` has: the points of its grid, and one more layer at
 /// each of its six faces.
 ///
@@ -44,7 +47,7 @@ pub fn record_length(subdivisions: usize, mask: u8) -> usize {
 
 /// How many bytes the STL file of so many triangles has.
 pub fn stl_length(triangles: usize) -> usize {
-    triangles.saturating_mul(50).saturating_add(STL_HEADER)
+    triangles.saturating_mul(STL_TRIANGLE).saturating_add(STL_HEADER)
 }
 
 /// The cells of a block: regular ones, and transition cells at the sides of `mask`.

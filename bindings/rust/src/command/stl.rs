@@ -8,7 +8,7 @@ use crate::progress::Progress;
 use crate::stl_check::check;
 use crate::whole_file::WholeFile;
 use crate::{output, Command};
-use sirveshan::{Mesher, Record, Refusal, Stl, STL_HEADER};
+use sirveshan::{Mesher, Record, Refusal, Stl, STL_HEADER, STL_TRIANGLE};
 use std::ffi::OsStr;
 
 pub const COMMAND: Command = Command {
@@ -107,8 +107,7 @@ impl Target {
     }
 }
 
-const COUNT_AT: usize = 80;
-const FACET: usize = 50;
+const COUNT_AT: usize = STL_HEADER - size_of::<u32>();
 const TOO_MANY: Refusal = Refusal { number: 16, values: [0; 3] };
 
 /// The facets of all records, in order.
@@ -127,7 +126,7 @@ impl Facets {
     fn put(&mut self, answer: Answer) -> Result<(), Failure> {
         match answer.facets {
             Ok(facets) => {
-                self.count += facets.len() / FACET;
+                self.count += facets.len() / STL_TRIANGLE;
                 self.target.put(&facets)?;
             }
             Err(refusal) => {
