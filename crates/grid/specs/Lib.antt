@@ -7,3 +7,4 @@ pub mod StorePlaces
 pub mod Nesting
 pub mod Reads
 pub mod Walks
+pub mod OnTheWalk
