@@ -71,7 +71,7 @@ fn line(n: usize, centre: &[f32], x: usize, y: usize) -> &[f32]
     ensures { λ r. ⌜ Line n (now (centre .entry)) x y (now r) ⌝ }
 {
     let start = in_block(n, x, y, 0);
-    let end = in_block(n, x, y, n) + 1;
+    let end = start + n + 1;
     &centre[start..end]
 }
 

@@ -26,6 +26,7 @@ use Rattle.grid.proofs.transition_sides.neighbour.Reads as neighbour
 use Rattle.grid.proofs.voxel_blocks.inside.Reads as inside
 use Rattle.grid.proofs.voxel_blocks.sample_length.Reads as sample-length
 use Rattle.grid.proofs.voxel_blocks.in_block.Reads as in-block
+use Rattle.grid.proofs.voxel_blocks.on_face.Reads as on-face
 use Rattle.grid.proofs.voxel_blocks.sample.Reads as sample
 use Rattle.grid.proofs.voxel_blocks.outside_by.Reads as outside-by
 use Rattle.grid.proofs.voxel_blocks.place.Reads as place
@@ -101,6 +102,9 @@ sample-length-pinned κs a r r′ e e′ h k = pinned h k
 
 pub in-block-pinned : (κs : Lfts 0) (a : _) (r r′ : _) (e e′ : _) → in-block.Learnt κs a r e → in-block.Learnt κs a r′ e′ → r ≡ r′
 in-block-pinned κs a r r′ e e′ h k = pinned (h .0) (k .0)
+
+pub on-face-pinned : (κs : Lfts 0) (a : _) (r r′ : _) (e e′ : _) → on-face.Learnt κs a r e → on-face.Learnt κs a r′ e′ → r ≡ r′
+on-face-pinned κs a r r′ e e′ h k = pinned (h .0) (k .0)
 
 pub sample-pinned : (κs : Lfts 1) (a : _) (r r′ : _) (e e′ : _) → sample.Learnt κs a r e → sample.Learnt κs a r′ e′ → r ≡ r′
 sample-pinned κs a r r′ e e′ h k = pinned h k

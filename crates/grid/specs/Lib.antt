@@ -4,5 +4,7 @@ pub mod SideLaws
 pub mod Counts
 pub mod RotationLaws
 pub mod StorePlaces
+pub mod Nesting
 pub mod Reads
 pub mod Walks
+pub mod OnTheWalk

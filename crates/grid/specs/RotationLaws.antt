@@ -27,7 +27,7 @@ pub record TurnedPoint (r : Rotation) (m u v w : ℕ) : Type 0 where
   pub y : Turned (λ p. p .y) r m u v w
   pub z : Turned (λ p. p .z) r m u v w
 
-by-side : (P : ℕ → Type 0) → P 0 → P 1 → P 2 → P 3 → P 4 → P 5 → (side : ℕ) → side < sideCount → P side
+pub by-side : (P : ℕ → Type 0) → P 0 → P 1 → P 2 → P 3 → P 4 → P 5 → (side : ℕ) → side < sideCount → P side
 by-side P a b c d e f zero h = a
 by-side P a b c d e f (suc zero) h = b
 by-side P a b c d e f (suc (suc zero)) h = c

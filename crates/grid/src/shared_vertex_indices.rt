@@ -4,6 +4,7 @@ ghost use Prim.Native.Nat.{_<_, _≤_};
 ghost use Rattle.model.specs.Limits.{mostSubdivisions};
 ghost use Rattle.model.specs.Mesh.{regularStore, storeLength, regularPlace, transitionPlace};
 ghost use Rattle.grid.specs.StorePlaces.{RegularCell, TransitionCell};
+use crate::nesting::nest;
 
 // The places that the index store of a block takes.
 pub fn store_length(n: usize) -> usize
@@ -17,15 +18,13 @@ pub fn regular_place(n: usize, x: usize, y: usize, z: usize, r: usize) -> usize
     requires { ⌜ RegularCell n x y z r ⌝ }
     ensures { λ p. ⌜ (p ≡ regularPlace n x y z r) × (p < regularStore n) ⌝ }
 {
-    let square = n * n;
-    x + n * y + square * z + square * n * r
+    nest(n, n * r + z, y, x)
 }
 
-// After the regular ones.
+// After the regular ones, whose four times n * n * n places stand beside r.
 pub fn transition_place(n: usize, side: usize, u: usize, v: usize, r: usize) -> usize
     requires { ⌜ TransitionCell n side u v r ⌝ }
     ensures { λ p. ⌜ (p ≡ transitionPlace n side u v r) × (p < storeLength n) ⌝ }
 {
-    let square = n * n;
-    4 * (square * n) + (side + 6 * u + 6 * n * v + 6 * square * r)
+    nest(n, 4 * n + 6 * r, 6 * v, 6 * u + side)
 }

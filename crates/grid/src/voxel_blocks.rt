@@ -2,12 +2,13 @@
 // Where a neighbour block is read, 2n stands for n, so n is at most MOST_FINE here. A coordinate that may be outside 0..n is kept one up.
 ghost use mathlib.Core.Path.{_≡_};
 ghost use mathlib.Core.Bool.{true};
-ghost use Prim.Native.Nat.{_+_, _-_, _≤_, _<_};
+ghost use Prim.Native.Nat.{_+_, _≤_, _<_};
 ghost use lib.ListN.{length};
 ghost use Rattle.model.specs.Limits.{mostFine, sideCount};
 ghost use Rattle.model.specs.Samples.{sampleLength, inBlock, onFace, placeOf, outside, sampled, sampleOf, readingAt, oneUp};
 ghost use Rattle.model.specs.Formulas as Formulas;
 ghost use Rattle.grid.specs.Places.{Within, Inner, acrossOf};
+use crate::nesting::nest;
 use model::Reading;
 use model::Xyz;
 
@@ -32,18 +33,16 @@ pub fn in_block(n: usize, x: usize, y: usize, z: usize) -> usize
     requires { ⌜ (n ≤ mostFine) × ((x ≤ n) × ((y ≤ n) × (z ≤ n))) ⌝ }
     ensures { λ r. ⌜ (r ≡ inBlock n x y z) × (r < sampleLength n) ⌝ }
 {
-    let m = n + 1;
-    m * m * x + m * y + z
+    nest(n + 1, x, y, z)
 }
 
-// The point of an extension face at the two other coordinates, each kept one up.
-fn on_face(n: usize, face: usize, i: usize, j: usize) -> usize
-    requires { ⌜ (n ≤ mostFine) × ((face < sideCount) × (Inner n i × Inner n j)) ⌝ }
-    ensures { λ r. ⌜ (r ≡ onFace n face (i - 1) (j - 1)) × (r < sampleLength n) ⌝ }
+// The point (i, j) of an extension face: its two other coordinates.
+pub fn on_face(n: usize, face: usize, i: usize, j: usize) -> usize
+    requires { ⌜ (n ≤ mostFine) × ((face < sideCount) × ((i ≤ n) × (j ≤ n))) ⌝ }
+    ensures { λ r. ⌜ (r ≡ onFace n face i j) × (r < sampleLength n) ⌝ }
 {
     let m = n + 1;
-    let square = m * m;
-    square * m + square * face + (m * (i - 1) + (j - 1))
+    nest(m, m + face, i, j)
 }
 
 pub fn sample(n: usize, samples: &[f32], p: Xyz) -> f32
@@ -68,15 +67,16 @@ pub fn outside_by(n: usize, c: usize) -> usize
     if c == n + 2 { 1 } else { 2 }
 }
 
-// The place of a point outside across the axis of c: low is the number of the lower of the two faces, i and j are the other coordinates.
+// The place of a point outside across the axis of c: low is the number of the lower of the two faces, i and j are the other coordinates, each
+// kept one up.
 fn across(n: usize, low: usize, c: usize, i: usize, j: usize) -> usize
     requires { ⌜ (n ≤ mostFine) × ((low + 1 < sideCount) × (Inner n i × Inner n j)) ⌝ }
     ensures { λ r. ⌜ (r ≡ acrossOf n low c i j) × (r < sampleLength n) ⌝ }
 {
     if c == 0 {
-        on_face(n, low, i, j)
+        on_face(n, low, i - 1, j - 1)
     } else {
-        on_face(n, low + 1, i, j)
+        on_face(n, low + 1, i - 1, j - 1)
     }
 }
 

@@ -8,7 +8,8 @@ use native.Mathlib.Omega.{arith}
 use borrow.Author.Tests.{ltb-true, ltb-false, ne-eqb}
 use lib.Dec.{ltb}
 use Rattle.model.specs.declared.Xyz.{Xyz}
-use Rattle.model.specs.Samples.{sampleLength, onFace, placeOf, outside}
+use Rattle.model.specs.Limits.{mostFine, sideCount}
+use Rattle.model.specs.Samples.{sampleLength, inBlock, onFace, placeOf, outside}
 use Rattle.grid.specs.Places.{Within, in-block, place-in, place-in-block, steps-sampled, outside-by, here-not-outside}
 use Rattle.grid.specs.Places.{acrossOf, place-across-x, place-across-y, place-across-z}
 use Rattle.points.specs.Steps.{Reach, upFrom, downFrom}
@@ -29,6 +30,11 @@ pub record Line (n : ℕ) (f : ℕ → ℕ) (i at stride low high : ℕ) : Type 
   pub ends : f (n + 2) ≡ high
 
 module _ {n : ℕ} {f : ℕ → ℕ} {i at stride low high : ℕ} (line : Line n f i at stride low high) (h : i ≤ n) where
+  after : i < n → f (i + 2) ≡ at + stride
+  after l =
+      let e : i + 1 + 1 ≡ i + 2 = omega arith in
+      omega (arith, line .strides (i + 1) (omega arith), ap f e, mul-add stride i 1)
+
   before : 0 < i → at ≡ f i + stride
   before l =
       let e : i - 1 + 1 ≡ i = omega arith in
@@ -36,22 +42,24 @@ module _ {n : ℕ} {f : ℕ → ℕ} {i at stride low high : ℕ} (line : Line n
 
   pub up-is : f (i + 2) ≡ upFrom n i at stride high
   up-is =
-      by-less i n (f (i + 2)) (at + stride) high
-      (λ l.
-      let e : i + 1 + 1 ≡ i + 2 = omega arith in
-      omega (arith, line .strides (i + 1) (omega arith), ap f e, mul-add stride i 1))
-      (λ l. let e : i + 2 ≡ n + 2 = omega arith in ap f e ∙ line .ends)
+      by-less i n (f (i + 2)) (at + stride) high after (λ l. let e : i + 2 ≡ n + 2 = omega arith in ap f e ∙ line .ends)
 
   pub down-is : f i ≡ downFrom i at stride low
   down-is =
       by-less 0 i (f i) (at - stride) low (λ l. omega (arith, before l)) (λ l. let e : i ≡ 0 = omega arith in ap f e ∙ line .starts)
 
-  pub reach : f (i + 2) < sampleLength n → f i < sampleLength n → Reach (sampleLength n) n i at stride low high
-  reach up down =
+  -- so both steps stay among the samples, if the point stands there and the upper one was sampled
+  pub reach : (face a b : ℕ) → n ≤ mostFine → face + 1 < sideCount → a ≤ n → b ≤ n → at < sampleLength n → f (i + 2) < sampleLength n
+      → Reach n at stride face i a b
+  reach face a b few face-is a-in b-in at-in up =
       record {
-        up-in = omega (arith, up-is, up);
+        few = few;
+        low-is = face-is;
+        i-in = a-in;
+        j-in = b-in;
+        at-in = at-in;
+        up-in = λ l. omega (arith, after l, up);
         enough = λ l. omega (arith, before l);
-        down-in = omega (arith, down-is, down);
       }
 
 -- ---- the three lines through an in-block point
@@ -61,16 +69,7 @@ module _ (n : ℕ) (p : Xyz) (h : Within n p) where
   m = n + 1
 
   abbrev here : ℕ
-  here = m * m * p .x + (m * p .y + p .z)
-
-  abbrev low-x : ℕ
-  low-x = m * m * m + (m * p .y + p .z)
-
-  abbrev low-y : ℕ
-  low-y = m * m * m + m * m * 2 + (m * p .x + p .z)
-
-  abbrev low-z : ℕ
-  low-z = m * m * m + m * m * 4 + (m * p .x + p .y)
+  here = inBlock n (p .x) (p .y) (p .z)
 
   below : outside n 0 ≡ 1
   below = outside-by n 0 (λ o. o ≡ 1) (λ e. refl) (λ i. absurd (omega arith)) (λ e. refl) (λ l. absurd (omega arith))
@@ -95,66 +94,52 @@ module _ (n : ℕ) (p : Xyz) (h : Within n p) where
   at-y : outside n (p .y + 1) ≡ 0
   at-y = here-not-outside n (p .y) (h .y-in)
 
-  pub line-x : Line n (λ k. placeOf n k (p .y + 1) (p .z + 1)) (p .x) here (m * m) low-x (low-x + m * m)
+  pub line-x : Line n (λ k. placeOf n k (p .y + 1) (p .z + 1)) (p .x) here (m * m) (onFace n 0 (p .y) (p .z)) (onFace n 1 (p .y) (p .z))
   line-x =
       let y = p .y + 1 in
       let z = p .z + 1 in
       record {
         strides = λ k l. omega (arith, place-in-block n k (p .y) (p .z) l (h .y-in) (h .z-in));
-        starts = place-across-x n 0 y z below ∙ omega (arith, across-low 0 (p .y) (p .z));
-        ends = place-across-x n (n + 2) y z above ∙ omega (arith, across-high 0 (p .y) (p .z));
+        starts = place-across-x n 0 y z below ∙ across-low 0 (p .y) (p .z);
+        ends = place-across-x n (n + 2) y z above ∙ across-high 0 (p .y) (p .z);
       }
 
-  pub line-y : Line n (λ k. placeOf n (p .x + 1) k (p .z + 1)) (p .y) here m low-y (low-y + m * m)
+  pub line-y : Line n (λ k. placeOf n (p .x + 1) k (p .z + 1)) (p .y) here m (onFace n 2 (p .x) (p .z)) (onFace n 3 (p .x) (p .z))
   line-y =
       let x = p .x + 1 in
       let z = p .z + 1 in
       record {
         strides = λ k l. omega (arith, place-in-block n (p .x) k (p .z) (h .x-in) l (h .z-in));
-        starts = place-across-y n x 0 z at-x below ∙ omega (arith, across-low 2 (p .x) (p .z));
-        ends = place-across-y n x (n + 2) z at-x above ∙ omega (arith, across-high 2 (p .x) (p .z));
+        starts = place-across-y n x 0 z at-x below ∙ across-low 2 (p .x) (p .z);
+        ends = place-across-y n x (n + 2) z at-x above ∙ across-high 2 (p .x) (p .z);
       }
 
-  pub line-z : Line n (λ k. placeOf n (p .x + 1) (p .y + 1) k) (p .z) here 1 low-z (low-z + m * m)
+  pub line-z : Line n (λ k. placeOf n (p .x + 1) (p .y + 1) k) (p .z) here 1 (onFace n 4 (p .x) (p .y)) (onFace n 5 (p .x) (p .y))
   line-z =
       let x = p .x + 1 in
       let y = p .y + 1 in
       record {
         strides = λ k l. omega (arith, place-in-block n (p .x) (p .y) k (h .x-in) (h .y-in) l);
-        starts = place-across-z n x y 0 at-x at-y below ∙ omega (arith, across-low 4 (p .x) (p .y));
-        ends = place-across-z n x y (n + 2) at-x at-y above ∙ omega (arith, across-high 4 (p .x) (p .y));
+        starts = place-across-z n x y 0 at-x at-y below ∙ across-low 4 (p .x) (p .y);
+        ends = place-across-z n x y (n + 2) at-x at-y above ∙ across-high 4 (p .x) (p .y);
       }
 
-  pub reach-x : Reach (sampleLength n) n (p .x) here (m * m) low-x (low-x + m * m)
-  reach-x =
-      let steps = steps-sampled n p h in
-      reach line-x (h .x-in) (place-in n (p .x + 2) (p .y + 1) (p .z + 1) (steps .x-up)) (place-in n (p .x) (p .y + 1) (p .z + 1) (steps .x-down))
+  -- the point's own place, and the three axes
+  module _ (few : n ≤ mostFine) where
+    here-in : here < sampleLength n
+    here-in = omega (arith, in-block n (p .x) (p .y) (p .z) (h .x-in) (h .y-in) (h .z-in))
 
-  pub reach-y : Reach (sampleLength n) n (p .y) here m low-y (low-y + m * m)
-  reach-y =
-      let steps = steps-sampled n p h in
-      reach line-y (h .y-in) (place-in n (p .x + 1) (p .y + 2) (p .z + 1) (steps .y-up)) (place-in n (p .x + 1) (p .y) (p .z + 1) (steps .y-down))
+    pub reach-x : Reach n here (m * m) 0 (p .x) (p .y) (p .z)
+    reach-x =
+        reach line-x (h .x-in) 0 (p .y) (p .z) few (omega arith) (h .y-in) (h .z-in) here-in
+        (place-in n (p .x + 2) (p .y + 1) (p .z + 1) (steps-sampled n p h .x-up))
 
-  pub reach-z : Reach (sampleLength n) n (p .z) here 1 low-z (low-z + m * m)
-  reach-z =
-      let steps = steps-sampled n p h in
-      reach line-z (h .z-in) (place-in n (p .x + 1) (p .y + 1) (p .z + 2) (steps .z-up)) (place-in n (p .x + 1) (p .y + 1) (p .z) (steps .z-down))
+    pub reach-y : Reach n here m 2 (p .y) (p .x) (p .z)
+    reach-y =
+        reach line-y (h .y-in) 2 (p .x) (p .z) few (omega arith) (h .x-in) (h .z-in) here-in
+        (place-in n (p .x + 1) (p .y + 2) (p .z + 1) (steps-sampled n p h .y-up))
 
-  -- nothing on the way to these places is large
-  pub record Sizes : Type 0 where
-    pub here-in : here < m * m * m
-    pub row-in : m * p .y + p .z < m * m * m
-    pub x-and-z : m * p .x + p .z < m * m * m
-    pub x-and-y : m * p .x + p .y < m * m * m
-
-  pub sizes : Sizes
-  sizes =
-      let x = p .x in
-      let y = p .y in
-      let z = p .z in
-      record {
-        here-in = omega (arith, in-block n x y z (h .x-in) (h .y-in) (h .z-in));
-        row-in = omega (arith, in-block n 0 y z (omega arith) (h .y-in) (h .z-in));
-        x-and-z = omega (arith, in-block n 0 x z (omega arith) (h .x-in) (h .z-in));
-        x-and-y = omega (arith, in-block n 0 x y (omega arith) (h .x-in) (h .y-in));
-      }
+    pub reach-z : Reach n here 1 4 (p .z) (p .x) (p .y)
+    reach-z =
+        reach line-z (h .z-in) 4 (p .x) (p .y) few (omega arith) (h .x-in) (h .y-in) here-in
+        (place-in n (p .x + 1) (p .y + 1) (p .z + 2) (steps-sampled n p h .z-up))

@@ -1,26 +1,32 @@
 -- Document 01, 'The block and its samples': the places of the two points one step along an axis from an in-block point. In the block they are
--- one stride from its place; beyond it they are on the axis's two extension faces. Definitions only.
+-- one stride from its place; beyond it they are on the axis's two extension faces, low and low + 1. Definitions only.
 use Prim.Native.Nat.{ℕ, _+_, _-_, _≤_, _<_}
 use mathlib.Core.Bool.{cond}
 use mathlib.Core.List.{List}
 use lib.Dec.{ltb}
 use lib.Ieee.{Float, nan}
 use lib.ListN.{getD}
+use Rattle.model.specs.Limits.{mostFine, sideCount}
+use Rattle.model.specs.Samples.{sampleLength, onFace}
 use Rattle.model.specs.Formulas.{_⊖_}
 
 abbrev pub upFrom : ℕ → ℕ → ℕ → ℕ → ℕ → ℕ
-upFrom n index at stride high = cond (ltb index n) (at + stride) high
+upFrom n c at stride high = cond (ltb c n) (at + stride) high
 
 abbrev pub downFrom : ℕ → ℕ → ℕ → ℕ → ℕ
-downFrom index at stride low = cond (ltb 0 index) (at - stride) low
+downFrom c at stride low = cond (ltb 0 c) (at - stride) low
 
--- both places are below this length
-pub record Reach (length n index at stride low high : ℕ) : Type 0 where
-  pub up-in : upFrom n index at stride high < length
-  pub enough : 0 < index → stride ≤ at
-  pub down-in : downFrom index at stride low < length
+-- a point's place, the stride of an axis and its lower face, the point's coordinate on that axis and its two others: both steps stay among the samples
+pub record Reach (n at stride low c i j : ℕ) : Type 0 where
+  pub few : n ≤ mostFine
+  pub low-is : low + 1 < sideCount
+  pub i-in : i ≤ n
+  pub j-in : j ≤ n
+  pub at-in : at < sampleLength n
+  pub up-in : c < n → at + stride < sampleLength n
+  pub enough : 0 < c → stride ≤ at
 
 -- the sample one step up minus the one a step down
-abbrev pub differenceAt : List Float → ℕ → ℕ → ℕ → ℕ → ℕ → ℕ → Float
-differenceAt samples n index at stride low high =
-    getD samples (upFrom n index at stride high) nan ⊖ getD samples (downFrom index at stride low) nan
+abbrev pub differenceAt : List Float → ℕ → ℕ → ℕ → ℕ → ℕ → ℕ → ℕ → Float
+differenceAt samples n at stride low c i j =
+    getD samples (upFrom n c at stride (onFace n (low + 1) i j)) nan ⊖ getD samples (downFrom c at stride (onFace n low i j)) nan

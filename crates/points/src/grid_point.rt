@@ -7,7 +7,7 @@ ghost use mathlib.Core.List.{List};
 ghost use lib.Ieee.{Float, nan};
 ghost use lib.ListN.{length, getD};
 ghost use Rattle.model.specs.Limits.{mostFine};
-ghost use Rattle.model.specs.Samples.{sampleLength};
+ghost use Rattle.model.specs.Samples.{sampleLength, onFace};
 ghost use Rattle.model.specs.Formulas.{gradientAt, vertexBetween};
 ghost use Rattle.model.specs.Rotations.{neighbourPoint};
 ghost use Rattle.model.specs.Sides.{neighbourOf};
@@ -24,6 +24,8 @@ use crate::formulas::weight;
 use crate::fractions::FRACTIONS;
 use grid::rotation::face_point;
 use grid::rotation::fine_points;
+use grid::voxel_blocks::in_block;
+use grid::voxel_blocks::on_face;
 use grid::voxel_blocks::sample;
 use model::FacePoint;
 use model::GridPoint;
@@ -33,72 +35,79 @@ use model::Vertex;
 use model::Xyz;
 use tables::aux_tables::CellPoint;
 
-// The sample one step up on an axis: in the block one stride away, else at high, on the extension face.
+// The sample one step up on an axis from the in-block place at: one stride on, or where the point is the axis's last one on the extension face
+// low + 1. There c is the point's coordinate, and i and j are the two others.
 fn sample_above(
     samples: &[f32],
     n: usize,
-    index: usize,
     at: usize,
     stride: usize,
-    high: usize,
+    low: usize,
+    c: usize,
+    i: usize,
+    j: usize,
 ) -> f32
-    requires { ⌜ upFrom n index at stride high < length (now samples) ⌝ }
-    ensures { λ r. ⌜ r ≡ getD (now (samples .entry)) (upFrom n index at stride high) nan ⌝ }
+    requires { ⌜ (length (now samples) ≡ sampleLength n) × Reach n at stride low c i j ⌝ }
+    ensures { λ r. ⌜ r ≡ getD (now (samples .entry)) (upFrom n c at stride (onFace n (low + 1) i j)) nan ⌝ }
 {
-    if index < n {
+    if c < n {
         return samples[at + stride];
     }
+    let high = on_face(n, low + 1, i, j);
     samples[high]
 }
 
-// The same one step down, with low on the other extension face.
-fn sample_below(samples: &[f32], index: usize, at: usize, stride: usize, low: usize) -> f32
-    requires { ⌜ (0 < index → stride ≤ at) × (downFrom index at stride low < length (now samples)) ⌝ }
-    ensures { λ r. ⌜ r ≡ getD (now (samples .entry)) (downFrom index at stride low) nan ⌝ }
+// The same one step down, with the extension face low.
+fn sample_below(
+    samples: &[f32],
+    n: usize,
+    at: usize,
+    stride: usize,
+    low: usize,
+    c: usize,
+    i: usize,
+    j: usize,
+) -> f32
+    requires { ⌜ (length (now samples) ≡ sampleLength n) × Reach n at stride low c i j ⌝ }
+    ensures { λ r. ⌜ r ≡ getD (now (samples .entry)) (downFrom c at stride (onFace n low i j)) nan ⌝ }
 {
-    if 0 < index {
+    if 0 < c {
         return samples[at - stride];
     }
-    samples[low]
+    let under = on_face(n, low, i, j);
+    samples[under]
 }
 
 // The sample one step up minus the one a step down.
 fn difference(
     samples: &[f32],
     n: usize,
-    index: usize,
     at: usize,
     stride: usize,
     low: usize,
-    high: usize,
+    c: usize,
+    i: usize,
+    j: usize,
 ) -> f32
-    requires { ⌜ Reach (length (now samples)) n index at stride low high ⌝ }
-    ensures { λ r. ⌜ r ≡ differenceAt (now (samples .entry)) n index at stride low high ⌝ }
+    requires { ⌜ (length (now samples) ≡ sampleLength n) × Reach n at stride low c i j ⌝ }
+    ensures { λ r. ⌜ r ≡ differenceAt (now (samples .entry)) n at stride low c i j ⌝ }
 {
-    sample_above(samples, n, index, at, stride, high)
-        - sample_below(samples, index, at, stride, low)
+    sample_above(samples, n, at, stride, low, c, i, j)
+        - sample_below(samples, n, at, stride, low, c, i, j)
 }
 
+// Steps along x, y and z lead m * m, m and 1 places on; the faces are 0 and 1, 2 and 3, 4 and 5.
 fn gradient(n: usize, samples: &[f32], p: Xyz) -> Vector
     requires { ⌜ (n ≤ mostFine) × (length (now samples) ≡ sampleLength n) ⌝ }
     requires { ⌜ Within n p ⌝ }
     ensures { λ r. ⌜ r ≡ gradientAt n (now (samples .entry)) p ⌝ }
 {
-    let x = p.x;
-    let y = p.y;
-    let z = p.z;
     let m = n + 1;
-    let square = m * m;
-    let row = m * y + z;
-    let at = square * x + row;
-    let faces = square * m;
-    let low_x = faces + row;
-    let low_y = faces + square * 2 + (m * x + z);
-    let low_z = faces + square * 4 + (m * x + y);
+    let at = in_block(n, p.x, p.y, p.z);
     Vector {
-        x: difference(samples, n, x, at, square, low_x, low_x + square),
-        y: difference(samples, n, y, at, m, low_y, low_y + square),
-        z: difference(samples, n, z, at, 1, low_z, low_z + square),
+        x: difference(samples, n, at, m * m, 0, p.x, p.y, p.z),
+        y: difference(samples, n, at, m, 2, p.y, p.x, p.z),
+        z: difference(samples, n, at, 1, 4, p.z, p.x, p.y),
     }
 }
 

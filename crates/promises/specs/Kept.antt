@@ -9,6 +9,7 @@ use Rattle.promises.specs.Extracted.{extraction, extraction-untouched, w
 use Rattle.promises.specs.Records.{reading, reading-untouched, samples-laid, writing, writing-untouched, bytes-laid}
 use Rattle.promises.specs.Room.{enough}
 use Rattle.promises.specs.StlKept.{stl-kept}
+use Rattle.promises.specs.NestingKept.{nesting-kept}
 use Rattle.promises.specs.Views.{point, packed-record, subdivisions-apart, blank-apart, viewer-sample}
 
 pub kept : Promises
@@ -35,5 +36,6 @@ kept =
       round-trips = record { read-write = read-write; write-read = write-read };
       room = enough;
       stl = stl-kept;
+      nesting = nesting-kept;
       starred = figures-agree;
     }

@@ -1,6 +1,7 @@
 -- what is promised, and the words that it is said in
 pub mod Promises
 pub mod Stl
+pub mod Nesting
 pub mod Orders
 pub mod Left
 -- that it holds
@@ -14,3 +15,4 @@ pub mod Records
 pub mod Room
 pub mod Views
 pub mod StlKept
+pub mod NestingKept

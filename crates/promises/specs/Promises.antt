@@ -1,7 +1,7 @@
--- What the buyer was promised, in seven parts, for every input; `Kept.kept` is the theorem that all of it holds. It speaks of what the public calls
+-- What the buyer was promised, in eight parts, for every input; `Kept.kept` is the theorem that all of it holds. It speaks of what the public calls
 -- answer and leave in the buffers lent to them: the model's `extract`, `readRecord`, `writeRecord`, `readPoint` and the viewer's three answers, to each of
 -- which the `ensures` of the call says that the code is equal. The words are set down in Orders (judging), Left (buffers) and closed's Clauses (no hole);
--- what was promised of STL stands in Stl. Definitions only.
+-- what was promised of STL stands in Stl, and of places in Nesting. Definitions only.
 use Prim.Native.Nat.{ℕ, _+_, _*_, _^_, _≤_, _<_}
 use mathlib.Core.Path.{_≡_}
 use mathlib.Core.List.{List, [], _∷_, _++_, map}
@@ -35,6 +35,7 @@ use Rattle.closed.specs.Clauses.{NoHole}
 use Rattle.promises.specs.Left.{Laid, Lent, answered, left, counts, regularPart}
 use Rattle.promises.specs.Orders.{Judged, Packed, extractionJudges, writingJudges, recordJudges, readingJudges, pointJudges, sampleJudges}
 use Rattle.promises.specs.Stl.{StlPromises}
+use Rattle.promises.specs.Nesting.{NestingPromises}
 
 -- ---- 1. every call is answered
 
@@ -154,7 +155,7 @@ pub record Enough (s : Star) : Type 0 where
   pub vertices : counts s .vertices ≤ mostOfCell * cellCount (subdivisions s) (s .mask)
   pub triangles : counts s .triangles ≤ mostOfCell * cellCount (subdivisions s) (s .mask)
 
--- ---- all, with 6: the starred figures of document 01, and 7: STL
+-- ---- all, with 6: the starred figures of document 01, 7: STL, and 8: places by nesting
 
 pub record Promises : Type 0 where
   pub every-call : EveryCallIsAnswered
@@ -165,5 +166,6 @@ pub record Promises : Type 0 where
   -- whatever the samples are
   pub room : (s : Star) → s .mask ≤ mostMask → Enough s
   pub stl : StlPromises
+  pub nesting : NestingPromises
   -- what the definitions work out is what document 01 states
   pub starred : map (λ (f : Figure). f .worked) figures ≡ map (λ (f : Figure). f .stated) figures

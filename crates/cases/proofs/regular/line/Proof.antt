@@ -1,20 +1,28 @@
 -- `regular::line` meets its contract: the places from (x, y, 0) to (x, y, n) lie one after another.
-use Prim.Native.Nat.{ℕ, _+_}
-use mathlib.Core.Path.{ap}
+use Prim.Native.Nat.{_+_, _≤_}
 use native.Mathlib.Omega.{arith}
+use lib.ListN.{length}
+use Rattle.grid.specs.Places.{in-block}
 use Rattle.cases.proofs.Lines.{part-is-line}
 use borrow.Author.Needs.{needs}
 use Rattle.cases.proofs.regular.line.Statement.{statement}
 use Rattle.cases.proofs.regular.line.Tie as tie
 
+-- the last of them is one of the block's
+ends-in : (c : tie.After-in-block) → let a = c .before .before .args in c .in-block .result + a .n + 1 ≤ length (a .centre .now)
+ends-in c =
+    let start = c .before .before in
+    let a = start .args in
+    omega (arith, c .in-block .ensures .0, in-block (a .n) (a .x) (a .y) (a .n) (omega arith) (omega arith) (omega arith), start .pre .1)
+
 in-block-requires : tie.Need-in-block-requires
 in-block-requires c κs = search needs
 
-in-block-requires-2 : tie.Need-in-block-requires-2
-in-block-requires-2 c κs = search needs
-
 add-end : tie.Need-add-end
 add-end c = search needs
+
+add-end-2 : tie.Need-add-end-2
+add-end-2 c = search needs
 
 mul-result : tie.Need-mul-result
 mul-result c = search needs
@@ -26,22 +34,23 @@ part-result-start : tie.Need-part-result-start
 part-result-start c = search needs
 
 part-result-end : tie.Need-part-result-end
-part-result-end c = search needs
+part-result-end c = ends-in c
 
 returns : tie.Need-returns
 returns c =
-    let a = c .before .before .before .before .args in
-    let last = c .before .in-block2 .ensures in
-    part-is-line (a .n) (a .centre .now) (a .x) (a .y) (c .before .before .in-block .result) (c .before .in-block2 .result + 1) (omega arith) (omega arith)
-    (c .before .before .in-block .ensures .0) (ap (λ (k : ℕ). k + 1) (last .0)) (omega arith)
+    let placed = c .before in
+    let a = placed .before .before .args in
+    let first = placed .in-block in
+    part-is-line (a .n) (a .centre .now) (a .x) (a .y) (first .result) (first .result + a .n + 1) (omega arith) (omega arith) (first .ensures .0)
+    (omega (arith, first .ensures .0)) (ends-in placed)
 
 pub line-spec : {M : Type 1} → statement M
 line-spec =
     tie.close
     (tie.spec
     in-block-requires
-    in-block-requires-2
     add-end
+    add-end-2
     mul-result
     sub-result
     part-result-start

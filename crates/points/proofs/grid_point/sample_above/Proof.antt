@@ -1,16 +1,18 @@
 -- `grid_point::sample_above` meets its contract: its test is that of `upFrom`.
-use Prim.Native.Nat.{_+_, _<_}
+use Prim.Native.Nat.{ℕ, _+_, _<_}
+use mathlib.Core.Path.{ap}
 use native.Mathlib.Omega.{arith}
+use borrow.Author.Needs.{needs}
 use borrow.Author.Tests.{lt-ltb, le-ltb}
-use lib.ListN.{length}
+use lib.Ieee.{nan}
+use lib.ListN.{length, getD}
 use Rattle.points.proofs.grid_point.sample_above.Statement.{statement}
 use Rattle.points.proofs.grid_point.sample_above.Tie as tie
 
-near-in : (c : tie.Then1) → let a = c .before .args in a .at + a .stride < length (a .samples .now)
-near-in c = rw (lt-ltb (c .before .args .index) (c .before .args .n) (c .if1 .taken)) at (c .before .pre)
-
-far-in : (c : tie.Else1) → let a = c .before .args in a .high < length (a .samples .now)
-far-in c = rw (le-ltb (c .before .args .index) (c .before .args .n) (c .if1 .left)) at (c .before .pre)
+near-in : (c : tie.Then1) → let a = c .before .before .args in a .at + a .stride < length (a .samples .now)
+near-in c =
+    let start = c .before .before in
+    omega (arith, start .pre .0, start .pre .1 .up-in (c .if1 .taken))
 
 add-result : tie.Need-add-result
 add-result c = omega (arith, near-in c)
@@ -22,16 +24,28 @@ shared-slice-read-result : tie.Need-shared-slice-read-result
 shared-slice-read-result c = near-in (c .before)
 
 returns : tie.Need-returns
-returns c = rw (lt-ltb (c .before .before .args .index) (c .before .before .args .n) (c .before .if1 .taken))
+returns c =
+    let near = c .before in
+    let a = near .before .before .args in
+    rw (lt-ltb (a .c) (a .n) (near .if1 .taken))
+
+add-on-face : tie.Need-add-on-face
+add-on-face c = search needs
+
+on-face-requires : tie.Need-on-face-requires
+on-face-requires c κs = search needs
 
 mul-result-2 : tie.Need-mul-result-2
-mul-result-2 c = omega (arith, far-in c)
+mul-result-2 c = search needs
 
 shared-slice-read-result-2 : tie.Need-shared-slice-read-result-2
-shared-slice-read-result-2 c = far-in (c .before)
+shared-slice-read-result-2 c = search needs
 
 returns-2 : tie.Need-returns-2
-returns-2 c = rw (le-ltb (c .before .before .args .index) (c .before .before .args .n) (c .before .if1 .left))
+returns-2 c =
+    let beyond = c .before .before in
+    let a = beyond .before .before .args in
+    rw (le-ltb (a .c) (a .n) (beyond .if1 .left)) (ap (λ (k : ℕ). getD (a .samples .now) k nan) (c .before .on-face .ensures .0))
 
 pub sample-above-spec : {M : Type 1} → statement M
 sample-above-spec =
@@ -41,6 +55,8 @@ sample-above-spec =
     mul-result
     shared-slice-read-result
     returns
+    add-on-face
+    on-face-requires
     mul-result-2
     shared-slice-read-result-2
     returns-2)

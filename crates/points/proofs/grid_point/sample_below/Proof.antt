@@ -1,37 +1,41 @@
 -- `grid_point::sample_below` meets its contract: its test is that of `downFrom`.
-use Prim.Native.Nat.{_-_, _<_}
-use native.Mathlib.Omega.{arith}
+use Prim.Native.Nat.{ℕ}
+use mathlib.Core.Path.{ap}
+use borrow.Author.Needs.{needs}
 use borrow.Author.Tests.{lt-ltb, le-ltb}
-use lib.ListN.{length}
+use lib.Ieee.{nan}
+use lib.ListN.{getD}
 use Rattle.points.proofs.grid_point.sample_below.Statement.{statement}
 use Rattle.points.proofs.grid_point.sample_below.Tie as tie
 
-near-in : (c : tie.Then1) → let a = c .before .args in a .at - a .stride < length (a .samples .now)
-near-in c = rw (lt-ltb 0 (c .before .args .index) (c .if1 .taken)) at (c .before .pre .1)
-
-far-in : (c : tie.Else1) → let a = c .before .args in a .low < length (a .samples .now)
-far-in c = rw (le-ltb 0 (c .before .args .index) (c .if1 .left)) at (c .before .pre .1)
-
 sub-result : tie.Need-sub-result
-sub-result c = c .before .pre .0 (c .if1 .taken)
+sub-result c = c .before .before .pre .1 .enough (c .if1 .taken)
 
 mul-result : tie.Need-mul-result
-mul-result c = omega (arith, near-in c)
+mul-result c = search needs
 
 shared-slice-read-result : tie.Need-shared-slice-read-result
-shared-slice-read-result c = near-in (c .before)
+shared-slice-read-result c = search needs
 
 returns : tie.Need-returns
-returns c = rw (lt-ltb 0 (c .before .before .args .index) (c .before .if1 .taken))
+returns c =
+    let near = c .before in
+    rw (lt-ltb 0 (near .before .before .args .c) (near .if1 .taken))
+
+on-face-requires : tie.Need-on-face-requires
+on-face-requires c κs = search needs
 
 mul-result-2 : tie.Need-mul-result-2
-mul-result-2 c = omega (arith, far-in c)
+mul-result-2 c = search needs
 
 shared-slice-read-result-2 : tie.Need-shared-slice-read-result-2
-shared-slice-read-result-2 c = far-in (c .before)
+shared-slice-read-result-2 c = search needs
 
 returns-2 : tie.Need-returns-2
-returns-2 c = rw (le-ltb 0 (c .before .before .args .index) (c .before .if1 .left))
+returns-2 c =
+    let beyond = c .before .before in
+    let a = beyond .before .before .args in
+    rw (le-ltb 0 (a .c) (beyond .if1 .left)) (ap (λ (k : ℕ). getD (a .samples .now) k nan) (c .before .on-face .ensures .0))
 
 pub sample-below-spec : {M : Type 1} → statement M
 sample-below-spec =
@@ -41,6 +45,7 @@ sample-below-spec =
     mul-result
     shared-slice-read-result
     returns
+    on-face-requires
     mul-result-2
     shared-slice-read-result-2
     returns-2)
