@@ -15,7 +15,8 @@ use Rattle.laws.specs.Counting.{has}
 use Rattle.tables.specs.RegularRows as rows
 use Rattle.tables.specs.Cases as tables
 use Rattle.laws.specs.Steps.{listed}
-use Rattle.model.specs.Samples.{sampleLength, placeOf, valueAt}
+use Rattle.model.specs.Samples as Samples
+use Rattle.model.specs.Samples.{sampleLength}
 use Rattle.model.specs.Formulas.{vector}
 use Rattle.model.specs.Star.{Star, star, subdivisions}
 use Rattle.model.specs.Points.{regularCase}
@@ -30,7 +31,7 @@ whole k = fin false k (pos 0)
 
 -- a block of n subdivisions, inside at the samples with these places and outside at the others; whoever unfolds it can compute its meshes
 unfoldable pub blockOf : ℕ → List ℕ → Star
-unfolding regularTo runs sides run regularMesh regularLayer regularColumn cellStep emptyMesh regularCell regularUse regularLeaves regularEdge regularPlace triangleOf fillTo fillStep regularCase valueAt placeOf Ieee.le Ieee.lt Ieee.eq rows.classes rows.cellRows rows.vertexRows tables.regularClass tables.regularCodes tables.regularCell tables.regularCode tables.regularVertices tables.regularTriangles tables.regularCorner both
+unfolding regularTo runs sides run regularMesh regularLayer regularColumn cellStep emptyMesh regularCell regularUse regularLeaves regularEdge regularPlace triangleOf fillTo fillStep regularCase Samples.valueAt Samples.readingAt Samples.sampled Samples.outside Samples.placeOf Ieee.le Ieee.lt Ieee.eq rows.classes rows.cellRows rows.vertexRows tables.regularClass tables.regularCodes tables.regularCell tables.regularCode tables.regularVertices tables.regularTriangles tables.regularCorner both
 blockOf n places =
     star
     (record { block = record { base = vector (whole 0) (whole 0) (whole 0); size = whole 1; subdivisions = n }; mask = 0; threshold = whole 1 })

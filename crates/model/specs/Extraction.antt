@@ -64,12 +64,12 @@ extract s store vertices triangles =
     outcome (meshOf s) store vertices triangles
     (judgeExtraction s (length store) (length vertices) (length triangles))
 
--- ---- the point read: 1, 4, 15
+-- ---- the point read: 1, 4, 15, the last with how many coordinates are outside
 
 abbrev pub pointAnswer : Verdict → Reading → PointRead
 pointAnswer (Verdict.Refused r) reading = PointRead.Refused r
-pointAnswer Verdict.Passed (Reading.Value v) = PointRead.Value v
-pointAnswer Verdict.Passed Reading.NeverSampled = PointRead.Refused PointNeverSampled
+pointAnswer Verdict.Passed (Reading.Value v kind) = PointRead.Value v kind
+pointAnswer Verdict.Passed (Reading.NeverSampled count) = PointRead.Refused (PointNeverSampled count)
 
 unfoldable pub readPoint : ℕ → List Float → ℤ → ℤ → ℤ → PointRead
 readPoint n samples x y z =

@@ -1,4 +1,5 @@
--- Document 01, 'Figures to agree with': those it marks with a star, worked out by the definitions, beside what it states.
+-- Document 01, 'Figures to agree with': those it marks with a star, worked out by the definitions, beside what it states, and of a point
+-- never sampled what document 02, [4], makes of it.
 use Prim.Native.Nat.{ℕ, _+_, _*_}
 use mathlib.Core.Path.{_≡_, refl}
 use mathlib.Core.List.{List, [], _∷_, map}
@@ -11,7 +12,7 @@ use Rattle.model.specs.declared.Reading.{Reading}
 use Rattle.model.specs.declared.Reading.the-variants.{Value, NeverSampled}
 use Rattle.model.specs.declared.Verdict.{Verdict}
 use Rattle.model.specs.declared.Verdict.the-variants.{Passed, Refused}
-use Rattle.model.specs.Samples.{sampleLength, placeOf, outside, sampled, valueAt, readingAt, oneUp}
+use Rattle.model.specs.Samples.{sampleLength, placeOf, outside, sampled, kindOf, outsideCount, readingAt, oneUp}
 use Rattle.model.specs.Rotations.{rotations, rotationOf, pointFrom, neighbourPoint}
 use Rattle.model.specs.Refusals.{numbersOf}
 use Rattle.model.specs.Judging.{judgeSubdivisions, judgeMask}
@@ -32,13 +33,13 @@ numberOf (Refused r) = numbersOf r .number
 abbrev pub placeAt : ℕ → ℤ → ℤ → ℤ → ℕ
 placeAt n x y z = placeOf n (oneUp n x) (oneUp n y) (oneUp n z)
 
--- how many values reading a point of an empty list gives
-abbrev pub valuesAt : ℕ → ℤ → ℤ → ℤ → ℕ
-valuesAt n x y z = count (readingAt n [] (oneUp n x) (oneUp n y) (oneUp n z))
+-- what reading a point of an empty list says: a value is [], and never sampled the count of its coordinates outside
+abbrev pub neverAt : ℕ → ℤ → ℤ → ℤ → List ℕ
+neverAt n x y z = counts (readingAt n [] (oneUp n x) (oneUp n y) (oneUp n z))
   where
-    count : Reading → ℕ
-    count (Value v) = 1
-    count NeverSampled = 0
+    counts : Reading → List ℕ
+    counts (Value v kind) = []
+    counts (NeverSampled count) = count ∷ []
 
 abbrev pub point : Xyz → List ℕ
 point p = p .x ∷ p .y ∷ p .z ∷ []
@@ -59,7 +60,7 @@ figures =
     figure (placeAt 2 (pos 1) (pos 2) (pos 0) ∷ []) (15 ∷ []) ∷
     figure (placeAt 2 (negsuc 0) (pos 1) (pos 2) ∷ []) (32 ∷ []) ∷
     figure (placeAt 2 (pos 1) (pos 2) (pos 3) ∷ sampleLength 2 ∷ []) (77 ∷ 81 ∷ []) ∷
-    figure (valuesAt 2 (negsuc 0) (negsuc 0) (pos 0) ∷ []) (0 ∷ []) ∷
+    figure (neverAt 2 (negsuc 0) (negsuc 0) (pos 0)) (2 ∷ []) ∷
     figure (offsetPoint 4 lowX 1 2 1 0) (8 ∷ 4 ∷ 5 ∷ []) ∷
     figure (offsetPoint 4 lowX 1 2 0 0) (8 ∷ 4 ∷ 6 ∷ []) ∷
     figure
@@ -68,5 +69,5 @@ figures =
     []
 
 pub figures-agree : map (λ (f : Figure). f .worked) figures ≡ map (λ (f : Figure). f .stated) figures
-unfolding placeOf oneUp outside sampled valueAt readingAt rotations rotationOf pointFrom
+unfolding placeOf oneUp outside sampled kindOf outsideCount readingAt rotations rotationOf pointFrom
 figures-agree = refl

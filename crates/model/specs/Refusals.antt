@@ -26,7 +26,7 @@ numbersOf RecordLength = numbers 11 0 0 0
 numbersOf (Version byte) = numbers 12 byte 0 0
 numbersOf (SampleCount wanted) = numbers 13 wanted 0 0
 numbersOf (BufferTooShort wanted) = numbers 14 wanted 0 0
-numbersOf PointNeverSampled = numbers 15 0 0 0
+numbersOf (PointNeverSampled count) = numbers 15 count 0 0
 numbersOf (StlLength wanted) = numbers 16 wanted 0 0
 numbersOf (NoVertex triangle) = numbers 17 triangle 0 0
 

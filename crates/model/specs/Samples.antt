@@ -1,4 +1,4 @@
--- Document 01, 'The block and its samples': where a grid point's sample stands, and what reading it answers.
+-- Document 01, 'The block and its samples', and document 02, [4]: where a grid point's sample stands, and what reading it answers.
 -- A coordinate is kept one up, so that -1 is 0 and 0..n is 1..n+1. Definitions only.
 use Prim.Native.Nat.{ℕ, zero, suc, _+_, _-_, _*_}
 use mathlib.Core.Bool.{Bool, cond}
@@ -8,6 +8,8 @@ use lib.IntN.{ℤ, pos, negsuc}
 use lib.Ieee.{Float, nan}
 use lib.ListN.{getD}
 use Rattle.model.specs.declared.Xyz.{Xyz}
+use Rattle.model.specs.declared.PlaceKind.{PlaceKind}
+use Rattle.model.specs.declared.PlaceKind.the-variants.{InBlock, Face}
 use Rattle.model.specs.declared.Reading.{Reading}
 use Rattle.model.specs.declared.Reading.the-variants.{Value, NeverSampled}
 
@@ -41,12 +43,34 @@ outside n c = cond (eqb c 0) 1 (cond (leb c (n + 1)) 0 (cond (eqb c (n + 2)) 1 2
 unfoldable pub sampled : ℕ → ℕ → ℕ → ℕ → Bool
 sampled n x y z = leb (outside n x + outside n y + outside n z) 1
 
--- the sample of a point that was sampled, its coordinates kept one up
-unfoldable pub valueAt : ℕ → List Float → ℕ → ℕ → ℕ → Float
-valueAt n samples x y z = getD samples (placeOf n x y z) nan
+-- across an axis a point is on the low face where its coordinate is -1, and on the high one where it is n+1
+abbrev pub kindAcross : ℕ → ℕ → ℕ → ℕ → PlaceKind → PlaceKind
+kindAcross n low high c others = cond (eqb c 0) (Face low) (cond (eqb c (n + 2)) (Face high) others)
 
+-- the store that a point's sample stands in
+unfoldable pub kindOf : ℕ → ℕ → ℕ → ℕ → PlaceKind
+kindOf n x y z = kindAcross n 0 1 x (kindAcross n 2 3 y (kindAcross n 4 5 z InBlock))
+
+-- a coordinate outside 0..n counts as one, however far it is outside
+abbrev pub isOutside : ℕ → ℕ → ℕ
+isOutside n c = cond (eqb (outside n c) 0) 0 1
+
+unfoldable pub outsideCount : ℕ → ℕ → ℕ → ℕ → ℕ
+outsideCount n x y z = isOutside n x + isOutside n y + isOutside n z
+
+-- a sample's value together with its place kind, or how many coordinates of a point never sampled are outside
 unfoldable pub readingAt : ℕ → List Float → ℕ → ℕ → ℕ → Reading
-readingAt n samples x y z = cond (sampled n x y z) (Value (valueAt n samples x y z)) NeverSampled
+readingAt n samples x y z =
+    cond (sampled n x y z) (Value (getD samples (placeOf n x y z) nan) (kindOf n x y z)) (NeverSampled (outsideCount n x y z))
+
+-- the value that a reading carries: a NaN for a point never sampled, which has none
+abbrev pub valueOf : Reading → Float
+valueOf (Value v kind) = v
+valueOf (NeverSampled count) = nan
+
+-- the sample of a point, its coordinates kept one up: all that extraction reads is read so
+unfoldable pub valueAt : ℕ → List Float → ℕ → ℕ → ℕ → Float
+valueAt n samples x y z = valueOf (readingAt n samples x y z)
 
 -- the sample of an in-block point
 abbrev pub sampleOf : ℕ → List Float → Xyz → Float

@@ -1,4 +1,5 @@
--- Document 01, 'Block record': the three calls that serve the viewer, from record bytes to a packed number. Definitions only.
+-- Document 01, 'Block record': the three calls that serve the viewer, from record bytes to a packed number; and document 02, [4]: the point read of a
+-- record. Definitions only.
 use Prim.Native.Nat.{ℕ, _+_, _*_, _^_}
 use mathlib.Core.Bool.{cond, _||_}
 use mathlib.Core.List.{List}
@@ -7,15 +8,15 @@ use lib.IntN.{ℤ}
 use lib.Ieee as Ieee
 use lib.Ieee.{Float, binary32, nan}
 use lib.ListN.{getD}
-use Rattle.model.specs.declared.Reading.{Reading}
-use Rattle.model.specs.declared.Reading.the-variants.{Value, NeverSampled}
+use Rattle.model.specs.declared.PointRead.{PointRead}
+use Rattle.model.specs.declared.PointRead.the-variants as PointRead
 use Rattle.model.specs.declared.Verdict.{Verdict}
 use Rattle.model.specs.declared.Verdict.the-variants.{Passed, Refused}
-use Rattle.model.specs.declared.Refusal.the-variants.{PointNeverSampled}
 use Rattle.laws.specs.Steps.{total}
 use Rattle.model.specs.Samples.{readingAt, oneUp}
 use Rattle.model.specs.Formulas.{insideBit}
 use Rattle.model.specs.Refusals.{numbersOf}
+use Rattle.model.specs.Extraction.{pointAnswer}
 use Rattle.model.specs.Record.{headerOf, samplesOf, judgeRecord}
 
 -- the answer, or a base plus the refusal's number
@@ -37,11 +38,16 @@ blankAnswer bytes =
     let m = headerOf bytes .block .subdivisions + 1 in
     packed 100 (judgeRecord bytes) (blankOf (m * m * m) (headerOf bytes .threshold) (samplesOf bytes))
 
-abbrev pub sampleBits : Reading → ℕ
-sampleBits (Value v) = Ieee.toBits binary32 v
-sampleBits NeverSampled = 2 ^ 32 + numbersOf PointNeverSampled .number
+-- document 02, [4]: the point read of a record's centre: the record's refusals, then 15
+unfoldable pub recordPoint : List ℕ → ℤ → ℤ → ℤ → PointRead
+recordPoint bytes x y z =
+    let n = headerOf bytes .block .subdivisions in
+    pointAnswer (judgeRecord bytes) (readingAt n (samplesOf bytes) (oneUp n x) (oneUp n y) (oneUp n z))
+
+-- the sample's bits, or 2^32 plus the refusal's number
+abbrev pub pointBits : PointRead → ℕ
+pointBits (PointRead.Value v kind) = Ieee.toBits binary32 v
+pointBits (PointRead.Refused r) = 2 ^ 32 + numbersOf r .number
 
 unfoldable pub sampleAnswer : List ℕ → ℤ → ℤ → ℤ → ℕ
-sampleAnswer bytes x y z =
-    let n = headerOf bytes .block .subdivisions in
-    packed (2 ^ 32) (judgeRecord bytes) (sampleBits (readingAt n (samplesOf bytes) (oneUp n x) (oneUp n y) (oneUp n z)))
+sampleAnswer bytes x y z = pointBits (recordPoint bytes x y z)

@@ -60,10 +60,16 @@ pub struct Rotation {
     pub w: Direction,
 }
 
-// A sample's value, or that the point was never sampled.
+// Where a sample is stored: in the block, or on one of the six extension faces, by its number.
+pub enum PlaceKind {
+    InBlock,
+    Face(usize),
+}
+
+// A sample's value and where it is stored; or, of a point that was never sampled, how many of its coordinates are outside.
 pub enum Reading {
-    Value(f32),
-    NeverSampled,
+    Value(f32, PlaceKind),
+    NeverSampled(usize),
 }
 
 pub struct FacePoint {
@@ -94,7 +100,7 @@ pub enum Refusal {
     Version(usize),
     SampleCount(usize),
     BufferTooShort(usize),
-    PointNeverSampled,
+    PointNeverSampled(usize),
     StlLength(usize),
     NoVertex(usize),
 }
@@ -114,7 +120,7 @@ pub enum Verdict {
 }
 
 pub enum PointRead {
-    Value(f32),
+    Value(f32, PlaceKind),
     Refused(Refusal),
 }
 
