@@ -7,12 +7,15 @@ use native.Mathlib.Omega.{arith}
 use lib.Ieee.{Float, nan}
 use lib.ListN.{getD, length, take, drop, length-take, length-drop}
 use lib.Seq.{getD-take, getD-drop}
-use Rattle.model.specs.Samples.{inBlock, sampleOf}
+use Rattle.model.specs.declared.PlaceKind.the-variants.{InBlock}
+use Rattle.model.specs.declared.Reading.{Reading}
+use Rattle.model.specs.declared.Reading.the-variants.{Value}
+use Rattle.model.specs.Samples.{inBlock, valueOf, valueAt, sampleOf}
 use Rattle.model.specs.Rotations.{xyz}
 use Rattle.model.specs.Formulas.{insideBit}
 use Rattle.model.specs.Star.{Star, subdivisions}
 use Rattle.model.specs.Points.{regularCase}
-use Rattle.grid.specs.Places.{sample-is}
+use Rattle.grid.specs.Kinds.{in-block-reading}
 use Rattle.cases.specs.Sheets.{fourInside, lineCase, Line}
 
 -- ---- a line
@@ -24,11 +27,12 @@ module _ (n : ℕ) (centre : List Float) (x y start end : ℕ) (hx : x ≤ n) (h
       let w : end - start ≡ n + 1 = omega arith in
       record {
         long = rw w (simp (length-take, length-drop) (omega arith));
-        sample-at = λ z hz.
+        reading-at = λ z hz.
             let e : start + z ≡ inBlock n x y z = omega arith in
             let l : z < end - start = omega arith in
-            getD-take (end - start) (drop start centre) z nan l ∙ getD-drop start centre z nan ∙ ap (λ (k : ℕ). getD centre k nan) e
-            ∙ sym (sample-is n centre (xyz x y z) (record { x-in = hx; y-in = hy; z-in = hz }));
+            ap (λ (v : Float). Value v InBlock)
+            (getD-take (end - start) (drop start centre) z nan l ∙ getD-drop start centre z nan ∙ ap (λ (k : ℕ). getD centre k nan) e)
+            ∙ sym (in-block-reading n centre (xyz x y z) (record { x-in = hx; y-in = hy; z-in = hz }));
       }
 
 -- ---- the case number
@@ -49,7 +53,8 @@ module _ (s : Star) (x y : ℕ) (a b c d : List Float) (la : Line (subdivisions 
     (ld : Line (subdivisions s) (s .centre) (x + 1) (y + 1) d) where
   bit-is : (p q : ℕ) (line : List Float) → Line (subdivisions s) (s .centre) p q line → (z : ℕ) → z ≤ subdivisions s
       → insideBit (s .threshold) (getD line z nan) ≡ cornerBit s p q z
-  bit-is p q line l z hz = ap (insideBit (s .threshold)) (l .sample-at z hz)
+  unfolding valueAt
+  bit-is p q line l z hz = ap (λ (r : Reading). insideBit (s .threshold) (valueOf r)) (l .reading-at z hz)
 
   four-is : (z w : ℕ) → z ≤ subdivisions s → fourInside (s .threshold) a b c d z w ≡ fourCorners s x y z w
   four-is z w hz =

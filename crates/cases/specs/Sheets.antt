@@ -4,9 +4,9 @@ use mathlib.Core.Path.{_≡_}
 use mathlib.Core.List.{List}
 use lib.Ieee.{Float, nan}
 use lib.ListN.{getD, length}
-use Rattle.model.specs.Samples.{sampleOf}
-use Rattle.model.specs.Rotations.{xyz}
+use Rattle.model.specs.Samples.{readingAt}
 use Rattle.model.specs.Formulas.{insideBit}
+use Rattle.grid.specs.Kinds.{inBlockReading}
 
 -- the places of a row, and those of a sheet, which has as many rows
 abbrev pub rowWidth : ℕ
@@ -26,10 +26,10 @@ pub record RowPut (case : ℕ → ℕ) (start n : ℕ) (before after : List ℕ)
 
 -- ---- regular cells
 
--- the samples of the points (x, y, 0), (x, y, 1), .., (x, y, n)
+-- what is read from the line are the points (x, y, 0), (x, y, 1), .., (x, y, n), each in the block
 pub record Line (n : ℕ) (centre : List Float) (x y : ℕ) (line : List Float) : Type 0 where
   pub long : length line ≡ n + 1
-  pub sample-at : (z : ℕ) → z ≤ n → getD line z nan ≡ sampleOf n centre (xyz x y z)
+  pub reading-at : (z : ℕ) → z ≤ n → inBlockReading line z ≡ readingAt n centre (x + 1) (y + 1) (z + 1)
 
 -- what four lines add at z, as the Rust numbers the corners, the first adding w if it is inside
 abbrev pub fourInside : Float → List Float → List Float → List Float → List Float → ℕ → ℕ → ℕ

@@ -34,10 +34,10 @@ fn four(
     ensures { λ r. ⌜ (r ≡ sum + fourInside threshold (now (a .entry)) (now (b .entry)) (now (c .entry)) (now (d .entry)) z w) × (r ≤ sum + 15 * w) ⌝ }
 {
     sum
-        + weighed(threshold, a[z], w)
-        + weighed(threshold, b[z], 2 * w)
-        + weighed(threshold, c[z], 4 * w)
-        + weighed(threshold, d[z], 8 * w)
+        + weighed(threshold, a, z, w)
+        + weighed(threshold, b, z, 2 * w)
+        + weighed(threshold, c, z, 4 * w)
+        + weighed(threshold, d, z, 8 * w)
 }
 
 // The cells between four lines, their numbers from start on.

@@ -38,8 +38,7 @@ fn weighed_at(threshold: f32, fine: &[f32], first: usize, step: Stride, v2: usiz
     requires { ⌜ Spot (length (now fine)) first step v2 ⌝ }
     ensures { λ r. ⌜ (r ≡ weighedAt threshold (now (fine .entry)) first step v2 w) × (r ≤ w) ⌝ }
 {
-    let i = along(first, step, v2);
-    weighed(threshold, fine[i], w)
+    weighed(threshold, fine, along(first, step, v2), w)
 }
 
 // The three points at one v2, added to the sum.

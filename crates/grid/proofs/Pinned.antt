@@ -10,6 +10,9 @@ use Rattle.model.specs.Pinned.{pinned}
 use Rattle.grid.specs.SideLaws.{NextSide}
 use Rattle.grid.proofs.face_walk.face_walk.Reads as face-walk
 use Rattle.grid.proofs.face_walk.along.Reads as along
+use Rattle.grid.proofs.readings.reading_at.Reads as reading-at
+use Rattle.grid.proofs.readings.value_of.Reads as value-of
+use Rattle.grid.proofs.readings.value_in_block.Reads as value-in-block
 use Rattle.grid.proofs.rotation.rotation_for_side.Reads as rotation-for-side
 use Rattle.grid.proofs.rotation.side_point.Reads as side-point
 use Rattle.grid.proofs.rotation.face_point.Reads as face-point
@@ -30,6 +33,9 @@ use Rattle.grid.proofs.voxel_blocks.on_face.Reads as on-face
 use Rattle.grid.proofs.voxel_blocks.sample.Reads as sample
 use Rattle.grid.proofs.voxel_blocks.outside_by.Reads as outside-by
 use Rattle.grid.proofs.voxel_blocks.place.Reads as place
+use Rattle.grid.proofs.voxel_blocks.kind.Reads as kind
+use Rattle.grid.proofs.voxel_blocks.outside_count.Reads as outside-count
+use Rattle.grid.proofs.voxel_blocks.is_sampled.Reads as is-sampled
 use Rattle.grid.proofs.voxel_blocks.reading.Reads as reading
 use Rattle.grid.proofs.voxel_blocks.one_up.Reads as one-up
 
@@ -53,6 +59,15 @@ face-walk-pinned κs a r r′ e e′ h k = pinned h k
 
 pub along-pinned : (κs : Lfts 0) (a : _) (r r′ : _) (e e′ : _) → along.Learnt κs a r e → along.Learnt κs a r′ e′ → r ≡ r′
 along-pinned κs a r r′ e e′ h k = pinned h k
+
+pub reading-at-pinned : (κs : Lfts 1) (a : _) (r r′ : _) (e e′ : _) → reading-at.Learnt κs a r e → reading-at.Learnt κs a r′ e′ → r ≡ r′
+reading-at-pinned κs a r r′ e e′ h k = pinned h k
+
+pub value-of-pinned : (κs : Lfts 0) (a : _) (r r′ : _) (e e′ : _) → value-of.Learnt κs a r e → value-of.Learnt κs a r′ e′ → r ≡ r′
+value-of-pinned κs a r r′ e e′ h k = pinned h k
+
+pub value-in-block-pinned : (κs : Lfts 1) (a : _) (r r′ : _) (e e′ : _) → value-in-block.Learnt κs a r e → value-in-block.Learnt κs a r′ e′ → r ≡ r′
+value-in-block-pinned κs a r r′ e e′ h k = pinned h k
 
 pub rotation-for-side-pinned : (κs : Lfts 0) (a : _) (r r′ : _) (e e′ : _) → rotation-for-side.Learnt κs a r e → rotation-for-side.Learnt κs a r′ e′ → r ≡ r′
 rotation-for-side-pinned κs a r r′ e e′ h k = pinned h k
@@ -114,6 +129,15 @@ outside-by-pinned κs a r r′ e e′ h k = pinned (h .0) (k .0)
 
 pub place-pinned : (κs : Lfts 0) (a : _) (r r′ : _) (e e′ : _) → place.Learnt κs a r e → place.Learnt κs a r′ e′ → r ≡ r′
 place-pinned κs a r r′ e e′ h k = pinned (h .0) (k .0)
+
+pub kind-pinned : (κs : Lfts 0) (a : _) (r r′ : _) (e e′ : _) → kind.Learnt κs a r e → kind.Learnt κs a r′ e′ → r ≡ r′
+kind-pinned κs a r r′ e e′ h k = pinned h k
+
+pub outside-count-pinned : (κs : Lfts 0) (a : _) (r r′ : _) (e e′ : _) → outside-count.Learnt κs a r e → outside-count.Learnt κs a r′ e′ → r ≡ r′
+outside-count-pinned κs a r r′ e e′ h k = pinned h k
+
+pub is-sampled-pinned : (κs : Lfts 0) (a : _) (r r′ : _) (e e′ : _) → is-sampled.Learnt κs a r e → is-sampled.Learnt κs a r′ e′ → r ≡ r′
+is-sampled-pinned κs a r r′ e e′ h k = pinned h k
 
 pub reading-pinned : (κs : Lfts 1) (a : _) (r r′ : _) (e e′ : _) → reading.Learnt κs a r e → reading.Learnt κs a r′ e′ → r ≡ r′
 reading-pinned κs a r r′ e e′ h k = pinned h k

@@ -1,5 +1,6 @@
 pub mod Shape
 pub mod Places
+pub mod Kinds
 pub mod SideLaws
 pub mod Counts
 pub mod RotationLaws

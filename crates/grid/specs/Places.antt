@@ -12,7 +12,7 @@ use lib.ListN.{getD}
 use borrow.Author.Tests.{le-leb, eq-eqb, ne-eqb, leb-true, leb-false, eqb-true, eqb-false}
 use Rattle.model.specs.Limits.{mostFine, sideCount}
 use Rattle.model.specs.declared.Xyz.{Xyz}
-use Rattle.model.specs.Samples.{sampleLength, inBlock, onFace, placeOf, outside, sampled, valueAt, sampleOf}
+use Rattle.model.specs.Samples.{sampleLength, inBlock, onFace, placeOf, outside, sampled, readingAt, valueAt, sampleOf}
 
 -- a point of the block
 pub record Within (n : ℕ) (p : Xyz) : Type 0 where
@@ -107,14 +107,14 @@ across-in n low c i j h hi hj =
     by-test (λ k. k < sampleLength n) (eqb c 0) (λ e. on-face n low (i - 1) (j - 1) (omega arith) (inner-le hi) (inner-le hj))
     (λ e. on-face n (low + 1) (i - 1) (j - 1) (omega arith) (inner-le hi) (inner-le hj))
 
-module _ (n c low high rest : ℕ) where
-  -- one axis of `placeOf`: a coordinate one step outside picks a face, and one that is not outside leaves the other axes
-  out-picks : outside n c ≡ 1 → cond (eqb c 0) low (cond (eqb c (n + 2)) high rest) ≡ cond (eqb c 0) low high
+module _ {A : Type 0} (n c : ℕ) (low high rest : A) where
+  -- one axis of `placeOf`, or of `kindOf`: a coordinate one step outside picks a face, and one that is not outside leaves the other axes
+  pub out-picks : outside n c ≡ 1 → cond (eqb c 0) low (cond (eqb c (n + 2)) high rest) ≡ cond (eqb c 0) low high
   out-picks =
       outside-by n c (λ o. o ≡ 1 → cond (eqb c 0) low (cond (eqb c (n + 2)) high rest) ≡ cond (eqb c 0) low high)
-      (λ e o. simp (eq-eqb c 0 e)) (λ h o. omega arith) (λ e o. simp (eq-eqb c (n + 2) e)) (λ h o. omega arith)
+      (λ e o. simp (eq-eqb c 0 e)) (λ h o. absurd (omega arith)) (λ e o. simp (eq-eqb c (n + 2) e)) (λ h o. absurd (omega arith))
 
-  in-leaves : outside n c ≡ 0 → cond (eqb c 0) low (cond (eqb c (n + 2)) high rest) ≡ rest
+  pub in-leaves : outside n c ≡ 0 → cond (eqb c 0) low (cond (eqb c (n + 2)) high rest) ≡ rest
   in-leaves e =
       let h = not-outside-inner n c e in
       simp (ne-eqb c 0 (λ z. omega arith), ne-eqb c (n + 2) (λ z. omega arith))
@@ -168,6 +168,11 @@ module _ (n x y z : ℕ) where
       by-steps zero l f g = f refl
       by-steps (suc o) l f g = g (omega arith)
 
+  -- and its place holds its value
+  pub value-is : (samples : List Float) → sampled n x y z ≡ true → valueAt n samples x y z ≡ getD samples (placeOf n x y z) nan
+  unfolding valueAt readingAt
+  value-is samples h = rw h
+
 -- ---- in-block points
 
 module _ (n x y z : ℕ) (hx : x ≤ n) (hy : y ≤ n) (hz : z ≤ n) where
@@ -179,11 +184,6 @@ module _ (n x y z : ℕ) (hx : x ≤ n) (hy : y ≤ n) (hz : z ≤ n) where
       let ez : z + 1 - 1 ≡ z = omega arith in
       place-inner n (x + 1) (y + 1) (z + 1) (here-not-outside n x hx) (here-not-outside n y hy) (here-not-outside n z hz)
       ∙ (λ i. inBlock n (ex i) (ey i) (ez i))
-
--- so a read of an in-block point is one sum and an index
-pub sample-is : (n : ℕ) (samples : List Float) (p : Xyz) → Within n p → sampleOf n samples p ≡ getD samples (inBlock n (p .x) (p .y) (p .z)) nan
-unfolding valueAt
-sample-is n samples p h = ap (λ (k : ℕ). getD samples k nan) (place-in-block n (p .x) (p .y) (p .z) (h .x-in) (h .y-in) (h .z-in))
 
 -- ---- steps
 
@@ -214,3 +214,9 @@ steps-sampled n p h =
       z-down = sum-sampled n (x + 1) (y + 1) z (omega (arith, near-outside n z (omega arith)));
       z-up = sum-sampled n (x + 1) (y + 1) (z + 2) (omega (arith, near-outside n (z + 2) (omega arith)));
     }
+
+-- so a read of an in-block point is one sum and an index
+pub sample-is : (n : ℕ) (samples : List Float) (p : Xyz) → Within n p → sampleOf n samples p ≡ getD samples (inBlock n (p .x) (p .y) (p .z)) nan
+sample-is n samples p h =
+    value-is n (p .x + 1) (p .y + 1) (p .z + 1) samples (steps-sampled n p h .here)
+    ∙ ap (λ (k : ℕ). getD samples k nan) (place-in-block n (p .x) (p .y) (p .z) (h .x-in) (h .y-in) (h .z-in))

@@ -1,30 +1,10 @@
--- Document 01, 'The block and its samples': what reading a point answers, and that extraction reads no point that was never sampled.
-use Prim.Native.Nat.{ℕ, _+_, _*_, _<_}
-use mathlib.Core.Path.{_≡_}
-use mathlib.Core.Bool.{true}
-use mathlib.Core.List.{List}
+-- Document 01, 'The block and its samples': extraction reads no point that was never sampled.
+use Prim.Native.Nat.{ℕ, _*_, _<_}
 use native.Mathlib.Omega.{arith}
-use lib.Ieee.{Float}
-use borrow.Author.Tests.{lt-leb}
-use Rattle.model.specs.declared.Reading.the-variants.{Value, NeverSampled}
-use Rattle.model.specs.Samples.{outside, sampled, valueAt, readingAt}
 use Rattle.model.specs.Rotations.{facePoint, neighbourPoint}
 use Rattle.model.specs.Points.{cornerPoint}
 use Rattle.grid.specs.Places.{StepsSampled, steps-sampled}
 use Rattle.grid.specs.RotationLaws.{OnFace, OnFineFace, face-point-in, neighbour-point-in}
-
--- ---- what reading answers
-
-module _ (n : ℕ) (samples : List Float) (x y z : ℕ) where
-  pub reading-value : sampled n x y z ≡ true → readingAt n samples x y z ≡ Value (valueAt n samples x y z)
-  unfolding readingAt
-  reading-value h = rw h
-
-  pub reading-never : 1 < outside n x + outside n y + outside n z → readingAt n samples x y z ≡ NeverSampled
-  unfolding readingAt sampled
-  reading-never h = rw (lt-leb (outside n x + outside n y + outside n z) 1 h)
-
--- ---- the reads of extraction
 
 -- a regular cell's corner, a side's grid point in the centre, and a fine point of it in the neighbour: each was sampled, and so was each
 -- point one step from it, which is all that a sample or a gradient reads

@@ -10,11 +10,12 @@ use lib.ListN.{getD}
 use Rattle.model.specs.Limits.{mostFine}
 use Rattle.model.specs.declared.Xyz.{Xyz}
 use Rattle.model.specs.declared.Direction.{Direction}
-use Rattle.model.specs.Samples.{sampleLength, inBlock, sampleOf}
+use Rattle.model.specs.Samples.{sampleLength, inBlock, readingAt, valueOf, valueAt, sampleOf}
 use Rattle.model.specs.Rotations.{rotationOf, pointFrom}
 use Rattle.grid.specs.declared.face_walk.Stride.{Stride}
 use Rattle.grid.specs.declared.face_walk.FaceWalk.{FaceWalk}
-use Rattle.grid.specs.Places.{Within, small, in-block, sample-is}
+use Rattle.grid.specs.Places.{Within, small, in-block}
+use Rattle.grid.specs.Kinds.{inBlockReading, in-block-reading}
 use Rattle.grid.specs.RotationLaws.{OnSide, UnitVector, turned, units, point-in}
 
 abbrev pub among : ℕ → Xyz → ℕ
@@ -149,7 +150,7 @@ module _ (m side w : ℕ) where
     unfolding sidePlace
     spot-is = steps-along m v (rotationOf side .v) (point u v) (point u 0) v-steps (on .few) (on .v-in) unit-v (point-in side m u v w on)
 
-    -- its place is one of the block's, and holds its sample
+    -- its place is one of the block's, and reads as the point
     pub spot-in : sidePlace m side w u v < sampleLength m
     unfolding sidePlace
     spot-in =
@@ -157,6 +158,11 @@ module _ (m side w : ℕ) where
         let h = point-in side m u v w on in
         omega (arith, in-block m (p .x) (p .y) (p .z) (h .x-in) (h .y-in) (h .z-in))
 
-    pub spot-read : (samples : List Float) → getD samples (sidePlace m side w u v) nan ≡ sampleOf m samples (point u v)
+    pub spot-reading : (samples : List Float)
+        → let p = point u v in inBlockReading samples (sidePlace m side w u v) ≡ readingAt m samples (p .x + 1) (p .y + 1) (p .z + 1)
     unfolding sidePlace
-    spot-read samples = sym (sample-is m samples (point u v) (point-in side m u v w on))
+    spot-reading samples = sym (in-block-reading m samples (point u v) (point-in side m u v w on))
+
+    pub spot-read : (samples : List Float) → getD samples (sidePlace m side w u v) nan ≡ sampleOf m samples (point u v)
+    unfolding valueAt
+    spot-read samples = ap valueOf (spot-reading samples)

@@ -2,6 +2,7 @@
 // equal to its definition in the model. The modules carry the Rust's names.
 pub mod face_walk;
 mod nesting;
+pub mod readings;
 pub mod rotation;
 pub mod shared_vertex_indices;
 pub mod transition_sides;

@@ -5,10 +5,13 @@ ghost use mathlib.Core.Bool.{true};
 ghost use Prim.Native.Nat.{_+_, _≤_, _<_};
 ghost use lib.ListN.{length};
 ghost use Rattle.model.specs.Limits.{mostFine, sideCount};
-ghost use Rattle.model.specs.Samples.{sampleLength, inBlock, onFace, placeOf, outside, sampled, sampleOf, readingAt, oneUp};
+ghost use Rattle.model.specs.Samples.{sampleLength, inBlock, onFace, placeOf, outside, sampled, kindAcross, kindOf, isOutside, outsideCount, sampleOf, readingAt, oneUp};
 ghost use Rattle.model.specs.Formulas as Formulas;
 ghost use Rattle.grid.specs.Places.{Within, Inner, acrossOf};
 use crate::nesting::nest;
+use crate::readings::reading_at;
+use crate::readings::value_in_block;
+use model::PlaceKind;
 use model::Reading;
 use model::Xyz;
 
@@ -49,8 +52,7 @@ pub fn sample(n: usize, samples: &[f32], p: Xyz) -> f32
     requires { ⌜ (n ≤ mostFine) × ((length (now samples) ≡ sampleLength n) × Within n p) ⌝ }
     ensures { λ r. ⌜ r ≡ sampleOf n (now (samples .entry)) p ⌝ }
 {
-    let at = in_block(n, p.x, p.y, p.z);
-    samples[at]
+    value_in_block(samples, in_block(n, p.x, p.y, p.z))
 }
 
 // How far a coordinate is outside 0..n: not, by one step, or by more.
@@ -97,18 +99,63 @@ pub fn place(n: usize, x: usize, y: usize, z: usize) -> usize
     in_block(n, x - 1, y - 1, z - 1)
 }
 
-// The value of a point, or that it was never sampled.
+// Across the axis of c: one of its two faces where the point is outside by one step, and what the other axes say where it is not outside.
+fn kind_across(n: usize, low: usize, high: usize, c: usize, others: PlaceKind) -> PlaceKind
+    requires { ⌜ n ≤ mostFine ⌝ }
+    ensures { λ r. ⌜ r ≡ kindAcross n low high c others ⌝ }
+{
+    if c == 0 {
+        return PlaceKind::Face(low);
+    }
+    if c == n + 2 {
+        return PlaceKind::Face(high);
+    }
+    others
+}
+
+// Where the sample of a point at most one step outside is stored, its coordinates kept one up.
+pub fn kind(n: usize, x: usize, y: usize, z: usize) -> PlaceKind
+    requires { ⌜ n ≤ mostFine ⌝ }
+    ensures { λ r. ⌜ r ≡ kindOf n x y z ⌝ }
+{
+    let across_z = kind_across(n, 4, 5, z, PlaceKind::InBlock);
+    let across_y = kind_across(n, 2, 3, y, across_z);
+    kind_across(n, 0, 1, x, across_y)
+}
+
+// One for a coordinate outside 0..n, however far.
+fn is_outside(n: usize, c: usize) -> usize
+    requires { ⌜ n ≤ mostFine ⌝ }
+    ensures { λ r. ⌜ (r ≡ isOutside n c) × (r ≤ 1) ⌝ }
+{
+    if outside_by(n, c) == 0 { 0 } else { 1 }
+}
+
+// How many coordinates are outside 0..n.
+pub fn outside_count(n: usize, x: usize, y: usize, z: usize) -> usize
+    requires { ⌜ n ≤ mostFine ⌝ }
+    ensures { λ r. ⌜ r ≡ outsideCount n x y z ⌝ }
+{
+    is_outside(n, x) + is_outside(n, y) + is_outside(n, z)
+}
+
+// At most one coordinate is outside, by one step.
+pub fn is_sampled(n: usize, x: usize, y: usize, z: usize) -> bool
+    requires { ⌜ n ≤ mostFine ⌝ }
+    ensures { λ r. ⌜ r ≡ sampled n x y z ⌝ }
+{
+    outside_by(n, x) + outside_by(n, y) + outside_by(n, z) <= 1
+}
+
+// The value of a point and where it is stored, or how many coordinates of one that was never sampled are outside.
 pub fn reading(n: usize, samples: &[f32], x: usize, y: usize, z: usize) -> Reading
     requires { ⌜ (n ≤ mostFine) × (length (now samples) ≡ sampleLength n) ⌝ }
     ensures { λ r. ⌜ r ≡ readingAt n (now (samples .entry)) x y z ⌝ }
 {
-    let steps = outside_by(n, x) + outside_by(n, y) + outside_by(n, z);
-    if steps <= 1 {
-        let at = place(n, x, y, z);
-        Reading::Value(samples[at])
-    } else {
-        Reading::NeverSampled
+    if is_sampled(n, x, y, z) {
+        return reading_at(samples, place(n, x, y, z), kind(n, x, y, z));
     }
+    Reading::NeverSampled(outside_count(n, x, y, z))
 }
 
 // A signed coordinate, kept one up: the one function that reads a signed number.

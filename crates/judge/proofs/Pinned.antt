@@ -11,6 +11,7 @@ use Rattle.judge.proofs.judge_room.Reads as judge-room
 use Rattle.judge.proofs.judge_store.Reads as judge-store
 use Rattle.judge.proofs.judge_star.Reads as judge-star
 use Rattle.judge.proofs.faces.judge_faces.Reads as judge-faces
+use Rattle.judge.proofs.point_read.answered.Reads as answered
 use Rattle.judge.proofs.point_read.read_point.Reads as read-point
 
 pub numbers-of-pinned : (κs : Lfts 0) (a : _) (r r′ : _) (e e′ : _) → numbers-of.Learnt κs a r e → numbers-of.Learnt κs a r′ e′ → r ≡ r′
@@ -39,6 +40,9 @@ judge-star-pinned κs a r r′ e e′ h k = pinned h k
 
 pub judge-faces-pinned : (κs : Lfts 2) (a : _) (r r′ : _) (e e′ : _) → judge-faces.Learnt κs a r e → judge-faces.Learnt κs a r′ e′ → r ≡ r′
 judge-faces-pinned κs a r r′ e e′ h k = pinned h k
+
+pub answered-pinned : (κs : Lfts 0) (a : _) (r r′ : _) (e e′ : _) → answered.Learnt κs a r e → answered.Learnt κs a r′ e′ → r ≡ r′
+answered-pinned κs a r r′ e e′ h k = pinned h k
 
 pub read-point-pinned : (κs : Lfts 1) (a : _) (r r′ : _) (e e′ : _) → read-point.Learnt κs a r e → read-point.Learnt κs a r′ e′ → r ≡ r′
 read-point-pinned κs a r r′ e e′ h k = pinned h k

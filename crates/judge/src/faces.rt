@@ -10,6 +10,7 @@ ghost use Rattle.model.specs.Judging.{judgeFaces};
 ghost use Rattle.grid.specs.Shape.{Shaped};
 use grid::face_walk::along;
 use grid::face_walk::face_walk;
+use grid::readings::value_in_block;
 use grid::transition_sides::SIDES;
 use grid::transition_sides::neighbour;
 use grid::transition_sides::next_side;
@@ -24,7 +25,8 @@ fn samples_agree(threshold: f32, centre: &[f32], here: usize, fine: &[f32], ther
     requires { ⌜ (here < length (now centre)) × (there < length (now fine)) ⌝ }
     ensures { λ r. ⌜ r ≡ Bool·beq (Formulas.inside threshold (getD (now (centre .entry)) here nan)) (Formulas.inside threshold (getD (now (fine .entry)) there nan)) ⌝ }
 {
-    inside(threshold, centre[here]) == inside(threshold, fine[there])
+    inside(threshold, value_in_block(centre, here))
+        == inside(threshold, value_in_block(fine, there))
 }
 
 // Each of the centre's points coincides with every second one of the neighbour's, along u and along v.

@@ -59,7 +59,7 @@ pub fn numbers_of(refusal: Refusal) -> Numbers
         Refusal::Version(byte) => numbers(12, byte, 0, 0),
         Refusal::SampleCount(wanted) => numbers(13, wanted, 0, 0),
         Refusal::BufferTooShort(wanted) => numbers(14, wanted, 0, 0),
-        Refusal::PointNeverSampled => numbers(15, 0, 0, 0),
+        Refusal::PointNeverSampled(count) => numbers(15, count, 0, 0),
         Refusal::StlLength(wanted) => numbers(16, wanted, 0, 0),
         Refusal::NoVertex(triangle) => numbers(17, triangle, 0, 0),
     }

@@ -1,4 +1,4 @@
-// The point read (document 01, 'Answers by number'): it judges 1, 4 and 15, in that order.
+// The point read (document 01, 'Answers by number', and document 02, [4]): it judges 1, 4 and 15, in that order.
 ghost use mathlib.Core.Path.{_≡_};
 ghost use Rattle.model.specs.declared.Verdict.the-variants.{Passed};
 ghost use Rattle.model.specs.Refusals.{orElse};
@@ -25,12 +25,13 @@ fn judge_block(n: usize, held: usize) -> Verdict
     or_else(subdivisions, judge_centre(n, held))
 }
 
-fn answered(read: Reading) -> PointRead
+// What is answered where nothing before 15 is met.
+pub fn answered(read: Reading) -> PointRead
     ensures { λ r. ⌜ r ≡ pointAnswer Passed read ⌝ }
 {
     match read {
-        Reading::Value(v) => PointRead::Value(v),
-        Reading::NeverSampled => PointRead::Refused(Refusal::PointNeverSampled),
+        Reading::Value(value, kind) => PointRead::Value(value, kind),
+        Reading::NeverSampled(count) => PointRead::Refused(Refusal::PointNeverSampled(count)),
     }
 }
 

@@ -1,4 +1,5 @@
 pub mod Literals
 pub mod Shrinking
 pub mod Steps
+pub mod StepReads
 pub mod Pinned

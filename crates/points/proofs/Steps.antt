@@ -1,27 +1,19 @@
 -- Document 01, 'The block and its samples': one step along an axis from an in-block point leads to the place one stride from its own, or to
 -- one of the axis's extension faces.
 use Prim.Native.Nat.{ℕ, _+_, _-_, _*_, _≤_, _<_}
-use mathlib.Core.Path.{_≡_, refl, ap, _∙_}
-use mathlib.Core.Bool.{Bool, true, false, cond}
+use mathlib.Core.Path.{_≡_, ap, _∙_}
 use native.Mathlib.Nat.{mul-add}
 use native.Mathlib.Omega.{arith}
-use borrow.Author.Tests.{ltb-true, ltb-false, ne-eqb}
-use lib.Dec.{ltb}
+use borrow.Author.Tests.{ne-eqb}
 use Rattle.model.specs.declared.Xyz.{Xyz}
 use Rattle.model.specs.Limits.{mostFine, sideCount}
 use Rattle.model.specs.Samples.{sampleLength, inBlock, onFace, placeOf, outside}
-use Rattle.grid.specs.Places.{Within, in-block, place-in, place-in-block, steps-sampled, outside-by, here-not-outside}
+use Rattle.grid.specs.Places.{Within, in-block, place-in, place-in-block, steps-sampled, here-not-outside}
 use Rattle.grid.specs.Places.{acrossOf, place-across-x, place-across-y, place-across-z}
 use Rattle.points.specs.Steps.{Reach, upFrom, downFrom}
+use Rattle.points.specs.StepKinds.{by-less, below, above}
 
 -- ---- a line of places along an axis
-
-by-less : (a b x p q : ℕ) → (a < b → x ≡ p) → (b ≤ a → x ≡ q) → x ≡ cond (ltb a b) p q
-by-less a b x p q f g = go (ltb a b) (λ e. f (ltb-true a b e)) (λ e. g (ltb-false a b e))
-  where
-    go : (t : Bool) → (t ≡ true → x ≡ p) → (t ≡ false → x ≡ q) → x ≡ cond t p q
-    go true f g = f refl
-    go false f g = g refl
 
 -- f takes a coordinate kept one up; the point i of the line is at this place, and the ends of the line are low and high
 pub record Line (n : ℕ) (f : ℕ → ℕ) (i at stride low high : ℕ) : Type 0 where
@@ -71,12 +63,6 @@ module _ (n : ℕ) (p : Xyz) (h : Within n p) where
   abbrev here : ℕ
   here = inBlock n (p .x) (p .y) (p .z)
 
-  below : outside n 0 ≡ 1
-  below = outside-by n 0 (λ o. o ≡ 1) (λ e. refl) (λ i. absurd (omega arith)) (λ e. refl) (λ l. absurd (omega arith))
-
-  above : outside n (n + 2) ≡ 1
-  above = outside-by n (n + 2) (λ o. o ≡ 1) (λ e. refl) (λ i. absurd (omega arith)) (λ e. refl) (λ l. absurd (omega arith))
-
   one-up : (i j : ℕ) → m * (i + 1 - 1) + (j + 1 - 1) ≡ m * i + j
   one-up i j =
       let e : i + 1 - 1 ≡ i = omega arith in
@@ -100,8 +86,8 @@ module _ (n : ℕ) (p : Xyz) (h : Within n p) where
       let z = p .z + 1 in
       record {
         strides = λ k l. omega (arith, place-in-block n k (p .y) (p .z) l (h .y-in) (h .z-in));
-        starts = place-across-x n 0 y z below ∙ across-low 0 (p .y) (p .z);
-        ends = place-across-x n (n + 2) y z above ∙ across-high 0 (p .y) (p .z);
+        starts = place-across-x n 0 y z (below n) ∙ across-low 0 (p .y) (p .z);
+        ends = place-across-x n (n + 2) y z (above n) ∙ across-high 0 (p .y) (p .z);
       }
 
   pub line-y : Line n (λ k. placeOf n (p .x + 1) k (p .z + 1)) (p .y) here m (onFace n 2 (p .x) (p .z)) (onFace n 3 (p .x) (p .z))
@@ -110,8 +96,8 @@ module _ (n : ℕ) (p : Xyz) (h : Within n p) where
       let z = p .z + 1 in
       record {
         strides = λ k l. omega (arith, place-in-block n (p .x) k (p .z) (h .x-in) l (h .z-in));
-        starts = place-across-y n x 0 z at-x below ∙ across-low 2 (p .x) (p .z);
-        ends = place-across-y n x (n + 2) z at-x above ∙ across-high 2 (p .x) (p .z);
+        starts = place-across-y n x 0 z at-x (below n) ∙ across-low 2 (p .x) (p .z);
+        ends = place-across-y n x (n + 2) z at-x (above n) ∙ across-high 2 (p .x) (p .z);
       }
 
   pub line-z : Line n (λ k. placeOf n (p .x + 1) (p .y + 1) k) (p .z) here 1 (onFace n 4 (p .x) (p .y)) (onFace n 5 (p .x) (p .y))
@@ -120,8 +106,8 @@ module _ (n : ℕ) (p : Xyz) (h : Within n p) where
       let y = p .y + 1 in
       record {
         strides = λ k l. omega (arith, place-in-block n (p .x) (p .y) k (h .x-in) (h .y-in) l);
-        starts = place-across-z n x y 0 at-x at-y below ∙ across-low 4 (p .x) (p .y);
-        ends = place-across-z n x y (n + 2) at-x at-y above ∙ across-high 4 (p .x) (p .y);
+        starts = place-across-z n x y 0 at-x at-y (below n) ∙ across-low 4 (p .x) (p .y);
+        ends = place-across-z n x y (n + 2) at-x at-y (above n) ∙ across-high 4 (p .x) (p .y);
       }
 
   -- the point's own place, and the three axes

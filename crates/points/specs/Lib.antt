@@ -1,4 +1,5 @@
 pub mod Fractions
 pub mod Positions
 pub mod Steps
+pub mod StepKinds
 pub mod CellPoints

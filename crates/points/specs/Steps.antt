@@ -1,13 +1,17 @@
--- Document 01, 'The block and its samples': the places of the two points one step along an axis from an in-block point. In the block they are
--- one stride from its place; beyond it they are on the axis's two extension faces, low and low + 1. Definitions only.
+-- Document 01, 'The block and its samples': the places of the two points one step along an axis from an in-block point, and what they read as.
+-- In the block they are one stride from its place; beyond it they are on the axis's two extension faces, low and low + 1. Definitions only.
 use Prim.Native.Nat.{ℕ, _+_, _-_, _≤_, _<_}
 use mathlib.Core.Bool.{cond}
 use mathlib.Core.List.{List}
 use lib.Dec.{ltb}
 use lib.Ieee.{Float, nan}
 use lib.ListN.{getD}
+use Rattle.model.specs.declared.PlaceKind.{PlaceKind}
+use Rattle.model.specs.declared.PlaceKind.the-variants.{InBlock, Face}
+use Rattle.model.specs.declared.Reading.{Reading}
+use Rattle.model.specs.declared.Reading.the-variants.{Value}
 use Rattle.model.specs.Limits.{mostFine, sideCount}
-use Rattle.model.specs.Samples.{sampleLength, onFace}
+use Rattle.model.specs.Samples.{sampleLength, onFace, valueOf}
 use Rattle.model.specs.Formulas.{_⊖_}
 
 abbrev pub upFrom : ℕ → ℕ → ℕ → ℕ → ℕ → ℕ
@@ -26,7 +30,21 @@ pub record Reach (n at stride low c i j : ℕ) : Type 0 where
   pub up-in : c < n → at + stride < sampleLength n
   pub enough : 0 < c → stride ≤ at
 
+-- the stores that they stand in
+abbrev pub upKind : ℕ → ℕ → ℕ → PlaceKind
+upKind n c high = cond (ltb c n) InBlock (Face high)
+
+abbrev pub downKind : ℕ → ℕ → PlaceKind
+downKind c low = cond (ltb 0 c) InBlock (Face low)
+
+-- what they read as
+abbrev pub upReading : List Float → ℕ → ℕ → ℕ → ℕ → ℕ → ℕ → ℕ → Reading
+upReading samples n at stride low c i j = Value (getD samples (upFrom n c at stride (onFace n (low + 1) i j)) nan) (upKind n c (low + 1))
+
+abbrev pub downReading : List Float → ℕ → ℕ → ℕ → ℕ → ℕ → ℕ → ℕ → Reading
+downReading samples n at stride low c i j = Value (getD samples (downFrom c at stride (onFace n low i j)) nan) (downKind c low)
+
 -- the sample one step up minus the one a step down
 abbrev pub differenceAt : List Float → ℕ → ℕ → ℕ → ℕ → ℕ → ℕ → ℕ → Float
 differenceAt samples n at stride low c i j =
-    getD samples (upFrom n c at stride (onFace n (low + 1) i j)) nan ⊖ getD samples (downFrom c at stride (onFace n low i j)) nan
+    valueOf (upReading samples n at stride low c i j) ⊖ valueOf (downReading samples n at stride low c i j)

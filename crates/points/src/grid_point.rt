@@ -4,10 +4,10 @@
 ghost use mathlib.Core.Path.{_≡_};
 ghost use Prim.Native.Nat.{_+_, _*_, _≤_, _<_};
 ghost use mathlib.Core.List.{List};
-ghost use lib.Ieee.{Float, nan};
-ghost use lib.ListN.{length, getD};
+ghost use lib.Ieee.{Float};
+ghost use lib.ListN.{length};
 ghost use Rattle.model.specs.Limits.{mostFine};
-ghost use Rattle.model.specs.Samples.{sampleLength, onFace};
+ghost use Rattle.model.specs.Samples.{sampleLength};
 ghost use Rattle.model.specs.Formulas.{gradientAt, vertexBetween};
 ghost use Rattle.model.specs.Rotations.{neighbourPoint};
 ghost use Rattle.model.specs.Sides.{neighbourOf};
@@ -16,12 +16,14 @@ ghost use Rattle.model.specs.Points.{regularPoint, fineGridPoint, transitionPoi
 ghost use Rattle.grid.specs.Places.{Within};
 ghost use Rattle.grid.specs.RotationLaws.{OnFineFace};
 ghost use Rattle.points.specs.CellPoints.{Centred, Bordered, InCell, fineGradient};
-ghost use Rattle.points.specs.Steps.{Reach, upFrom, downFrom, differenceAt};
+ghost use Rattle.points.specs.Steps.{Reach, upReading, downReading, differenceAt};
 use crate::block::fine_position;
 use crate::block::regular_position;
 use crate::formulas::between_vectors;
 use crate::formulas::weight;
 use crate::fractions::FRACTIONS;
+use grid::readings::reading_at;
+use grid::readings::value_of;
 use grid::rotation::face_point;
 use grid::rotation::fine_points;
 use grid::voxel_blocks::in_block;
@@ -30,14 +32,16 @@ use grid::voxel_blocks::sample;
 use model::FacePoint;
 use model::GridPoint;
 use model::Header;
+use model::PlaceKind;
+use model::Reading;
 use model::Vector;
 use model::Vertex;
 use model::Xyz;
 use tables::aux_tables::CellPoint;
 
-// The sample one step up on an axis from the in-block place at: one stride on, or where the point is the axis's last one on the extension face
-// low + 1. There c is the point's coordinate, and i and j are the two others.
-fn sample_above(
+// What the point one step up on an axis from the in-block place at reads as: one stride on, or where the point is the axis's last one on the
+// extension face low + 1. There c is the point's coordinate, and i and j are the two others.
+fn reading_above(
     samples: &[f32],
     n: usize,
     at: usize,
@@ -46,19 +50,19 @@ fn sample_above(
     c: usize,
     i: usize,
     j: usize,
-) -> f32
+) -> Reading
     requires { ⌜ (length (now samples) ≡ sampleLength n) × Reach n at stride low c i j ⌝ }
-    ensures { λ r. ⌜ r ≡ getD (now (samples .entry)) (upFrom n c at stride (onFace n (low + 1) i j)) nan ⌝ }
+    ensures { λ r. ⌜ r ≡ upReading (now (samples .entry)) n at stride low c i j ⌝ }
 {
     if c < n {
-        return samples[at + stride];
+        return reading_at(samples, at + stride, PlaceKind::InBlock);
     }
-    let high = on_face(n, low + 1, i, j);
-    samples[high]
+    let high = low + 1;
+    reading_at(samples, on_face(n, high, i, j), PlaceKind::Face(high))
 }
 
 // The same one step down, with the extension face low.
-fn sample_below(
+fn reading_below(
     samples: &[f32],
     n: usize,
     at: usize,
@@ -67,15 +71,14 @@ fn sample_below(
     c: usize,
     i: usize,
     j: usize,
-) -> f32
+) -> Reading
     requires { ⌜ (length (now samples) ≡ sampleLength n) × Reach n at stride low c i j ⌝ }
-    ensures { λ r. ⌜ r ≡ getD (now (samples .entry)) (downFrom c at stride (onFace n low i j)) nan ⌝ }
+    ensures { λ r. ⌜ r ≡ downReading (now (samples .entry)) n at stride low c i j ⌝ }
 {
     if 0 < c {
-        return samples[at - stride];
+        return reading_at(samples, at - stride, PlaceKind::InBlock);
     }
-    let under = on_face(n, low, i, j);
-    samples[under]
+    reading_at(samples, on_face(n, low, i, j), PlaceKind::Face(low))
 }
 
 // The sample one step up minus the one a step down.
@@ -92,8 +95,8 @@ fn difference(
     requires { ⌜ (length (now samples) ≡ sampleLength n) × Reach n at stride low c i j ⌝ }
     ensures { λ r. ⌜ r ≡ differenceAt (now (samples .entry)) n at stride low c i j ⌝ }
 {
-    sample_above(samples, n, at, stride, low, c, i, j)
-        - sample_below(samples, n, at, stride, low, c, i, j)
+    value_of(reading_above(samples, n, at, stride, low, c, i, j))
+        - value_of(reading_below(samples, n, at, stride, low, c, i, j))
 }
 
 // Steps along x, y and z lead m * m, m and 1 places on; the faces are 0 and 1, 2 and 3, 4 and 5.

@@ -6,18 +6,11 @@ use Rattle.cases.proofs.transition.weighed_at.Tie as tie
 along-requires : tie.Need-along-requires
 along-requires c κs = search needs
 
-mul-weighed : tie.Need-mul-weighed
-mul-weighed c = search needs
-
-shared-slice-read-weighed : tie.Need-shared-slice-read-weighed
-shared-slice-read-weighed c = search needs
-
 weighed-requires : tie.Need-weighed-requires
 weighed-requires c κs = search needs
 
 returns : tie.Need-returns
-returns c = (rw (← c .before .before .along .ensures) (c .weighed .ensures .0), c .weighed .ensures .1)
+returns c = (rw (← c .before .along .ensures) (c .weighed .ensures .0), c .weighed .ensures .1)
 
 pub weighed-at-spec : {M : Type 1} → statement M
-weighed-at-spec =
-    tie.close (tie.spec along-requires mul-weighed shared-slice-read-weighed weighed-requires returns)
+weighed-at-spec = tie.close (tie.spec along-requires weighed-requires returns)

@@ -3,35 +3,30 @@ use borrow.Author.Needs.{needs}
 use Rattle.judge.proofs.faces.samples_agree.Statement.{statement}
 use Rattle.judge.proofs.faces.samples_agree.Tie as tie
 
-mul-inside : tie.Need-mul-inside
-mul-inside c = search needs
-
-shared-slice-read-inside : tie.Need-shared-slice-read-inside
-shared-slice-read-inside c = search needs
+value-in-block-requires : tie.Need-value-in-block-requires
+value-in-block-requires c κs = search needs
 
 inside-requires : tie.Need-inside-requires
 inside-requires c κs = search needs
 
-mul-inside-2 : tie.Need-mul-inside-2
-mul-inside-2 c = search needs
-
-shared-slice-read-inside-2 : tie.Need-shared-slice-read-inside-2
-shared-slice-read-inside-2 c = search needs
+value-in-block-requires-2 : tie.Need-value-in-block-requires-2
+value-in-block-requires-2 c κs = search needs
 
 inside-requires-2 : tie.Need-inside-requires-2
 inside-requires-2 c κs = search needs
 
 returns : tie.Need-returns
-returns c = rw (c .before .before .inside .ensures, c .inside2 .ensures)
+returns c =
+    let there = c .before in
+    let here = there .before .before in
+    rw (there .before .inside .ensures, c .inside2 .ensures, here .value-in-block .ensures, there .value-in-block2 .ensures)
 
 pub samples-agree-spec : {M : Type 1} → statement M
 samples-agree-spec =
     tie.close
     (tie.spec
-    mul-inside
-    shared-slice-read-inside
+    value-in-block-requires
     inside-requires
-    mul-inside-2
-    shared-slice-read-inside-2
+    value-in-block-requires-2
     inside-requires-2
     returns)

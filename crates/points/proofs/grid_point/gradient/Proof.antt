@@ -2,7 +2,8 @@
 use borrow.Author.Needs.{needs}
 use Rattle.model.specs.Samples.{valueAt}
 use Rattle.model.specs.Formulas.{gradientAt}
-use Rattle.points.proofs.Steps.{reach-x, reach-y, reach-z, line-x, line-y, line-z, up-is, down-is}
+use Rattle.points.proofs.Steps.{reach-x, reach-y, reach-z}
+use Rattle.points.proofs.StepReads.{x-up-reads, x-down-reads, y-up-reads, y-down-reads, z-up-reads, z-down-reads}
 use Rattle.points.proofs.grid_point.gradient.Statement.{statement}
 use Rattle.points.proofs.grid_point.gradient.Tie as tie
 
@@ -40,17 +41,18 @@ returns c =
     let n = start .args .n in
     let p = start .args .p in
     let h = start .pre .1 in
+    let samples = start .args .samples .now in
     rw (
       c .before .before .difference .ensures,
       c .before .difference2 .ensures,
       c .difference3 .ensures,
       placed .in-block .ensures .0,
-      up-is (line-x n p h) (h .x-in),
-      down-is (line-x n p h) (h .x-in),
-      up-is (line-y n p h) (h .y-in),
-      down-is (line-y n p h) (h .y-in),
-      up-is (line-z n p h) (h .z-in),
-      down-is (line-z n p h) (h .z-in),
+      x-up-reads n p h samples,
+      x-down-reads n p h samples,
+      y-up-reads n p h samples,
+      y-down-reads n p h samples,
+      z-up-reads n p h samples,
+      z-down-reads n p h samples,
     )
 
 pub gradient-spec : {M : Type 1} → statement M
