@@ -74,7 +74,7 @@
  *   12  record version not 1                                the byte
  *   13  record's samples not the count wanted               samples wanted
  *   14  a lent buffer too short                             places wanted
- *   15  grid point never sampled
+ *   15  grid point never sampled                            coordinates outside, 1 to 3
  *   16  STL length not its count's, or too many triangles   length wanted, 0 in writing
  *   17  a triangle names no vertex                          triangle
  * [end of refusals]
@@ -253,9 +253,9 @@ typedef struct sirveshan_triangles_read {
 sirveshan_triangles_read sirveshan_read_stl(const uint8_t *src, size_t length, float *positions, size_t positions_length);
 
 /*
- * Three calls for a viewer. Each takes the bytes of one record, judges it whole (11, 12, 1, 2, 3, 13, 7) and answers one number:
- * what is asked, or a refusal's number plus what makes it no answer: 100 in the first two calls, 2^32 in the third. They write
- * nowhere.
+ * Four calls for a viewer. Each takes the bytes of one record, judges it whole (11, 12, 1, 2, 3, 13, 7) and writes nowhere. The
+ * first three answer one number: what is asked, or a refusal's number plus what makes it no answer: 100 in the first two calls,
+ * 2^32 in the third. The fourth answers by value.
  */
 #define SIRVESHAN_REFUSED UINT64_C(100)
 #define SIRVESHAN_SAMPLE_REFUSED (UINT64_C(1) << 32)
@@ -274,6 +274,22 @@ uint64_t sirveshan_blank(const uint8_t *src, size_t length);
  * was never sampled: 15, judged after the record.
  */
 uint64_t sirveshan_sample(const uint8_t *src, size_t length, int32_t x, int32_t y, int32_t z);
+
+/*
+ * The same sample with the store that it came from, by value: kind is the face, 0 to 5 in the order above, for a point one step
+ * outside, or SIRVESHAN_IN_BLOCK for a point of the block itself. Judged as by sirveshan_sample; refused.first of 15 is how many
+ * coordinates are outside, 1 to 3, however far each is. On a refusal value and kind are 0. A gradient at a point of the block is
+ * made of the six points one step away: which of them came from a face is told by asking for each.
+ */
+#define SIRVESHAN_IN_BLOCK 6
+
+typedef struct sirveshan_sampled {
+    sirveshan_refusal refused;
+    float value;
+    size_t kind;
+} sirveshan_sampled;
+
+sirveshan_sampled sirveshan_sample_kind(const uint8_t *src, size_t length, int32_t x, int32_t y, int32_t z);
 
 #ifdef __cplusplus
 }

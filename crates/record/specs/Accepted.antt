@@ -8,8 +8,7 @@ use mathlib.Core.Logic.{⊎-elim}
 use mathlib.Core.List.{List}
 use borrow.Author.Tests.{leb-true, eqb-true, le-leb, eq-eqb}
 use lib.Dec.{T, leb, eqb}
-use lib.Ieee.{Float, nan, isNan, binary32, toBits}
-use lib.Ieee.Bits.{toBits-ofBits}
+use lib.Ieee.{Float, nan, isNan}
 use lib.ListN.{length, getD}
 use Rattle.model.specs.declared.Block.{Block}
 use Rattle.model.specs.declared.Refusal.the-variants.{Subdivisions, Mask, Measure, BadSample, RecordLength, Version, SampleCount}
@@ -22,7 +21,6 @@ use Rattle.model.specs.Words.{wordAt, floatAt}
 use Rattle.model.specs.Record.{versionAt, thresholdAt, headerLength, sampleFrom, headerOf, countOf, samplesOf, judgeRecord}
 use Rattle.laws.specs.Lists.{length-listed, getD-listed}
 use Rattle.judge.specs.First.{unless-passed, both-passed, passed-over}
-use Rattle.words.specs.Orders.{Bytes, word-lt}
 use Rattle.record.specs.Usable.{usable-number, size-number}
 
 each-passed : (f : ℕ → Verdict) (n k : ℕ) → first f n ≡ Passed → k < n → f k ≡ Passed
@@ -95,14 +93,6 @@ module _ (bytes : List ℕ) (a : Accepted bytes) where
   measured (suc (suc (suc zero))) l = measure-number (headerOf bytes .block) (headerOf bytes .threshold) 3 (a .measures)
   measured (suc (suc (suc (suc zero)))) l = measure-number (headerOf bytes .block) (headerOf bytes .threshold) 4 (a .measures)
   measured (suc (suc (suc (suc (suc k))))) l = absurd (omega arith)
-
-  -- a sample's bits are those that the record holds
-  pub sample-bits : Bytes bytes → (k : ℕ) → k < countOf bytes → wordAt bytes (sampleFrom k) ≡ toBits binary32 (getD (samplesOf bytes) k nan)
-  sample-bits small k l =
-      sym
-      (ap (toBits binary32) (sample-is bytes k l)
-      ∙ toBits-ofBits binary32 (wordAt bytes (sampleFrom k)) (word-lt bytes small (sampleFrom k))
-      (usable-number (floatAt bytes (sampleFrom k)) (a .usable-samples k l)))
 
   pub count-by-length : (length bytes - headerLength) / 4 ≡ countOf bytes
   count-by-length = rw (a .counted) (omega arith)

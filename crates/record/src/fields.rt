@@ -1,7 +1,7 @@
 // Where the fields of a record stand, as the model names the places, and what stands there in a record that passed.
 ghost use mathlib.Core.Path.{_≡_};
 ghost use Prim.Native.Nat.{_^_, _≤_, _<_};
-ghost use lib.Ieee.{nan, binary32, toBits};
+ghost use lib.Ieee.{nan};
 ghost use lib.ListN.{length, getD};
 ghost use Rattle.model.specs.Record.{headerLength, sampleFrom, headerOf, countOf, samplesOf};
 ghost use Rattle.record.specs.Accepted.{Accepted};
@@ -9,7 +9,6 @@ use model::Block;
 use model::Header;
 use model::Vector;
 use words::big::float_at;
-use words::big::word_at;
 
 pub const VERSION_AT: usize = 4;
 
@@ -82,12 +81,4 @@ pub fn sample_of(bytes: &[u8], k: usize) -> f32
     ensures { λ r. ⌜ r ≡ getD (samplesOf (now (bytes .entry))) k nan ⌝ }
 {
     float_at(bytes, sample_from(k))
-}
-
-// The bits of a sample, as they stand.
-pub fn sample_bits_of(bytes: &[u8], k: usize) -> u32
-    requires { ⌜ Accepted (now bytes) × (k < countOf (now bytes)) ⌝ }
-    ensures { λ r. ⌜ r ≡ toBits binary32 (getD (samplesOf (now (bytes .entry))) k nan) ⌝ }
-{
-    word_at(bytes, sample_from(k))
 }

@@ -12,6 +12,7 @@ use Rattle.sirveshan.proofs.sirveshan_read_stl.Reads as read-stl
 use Rattle.sirveshan.proofs.sirveshan_subdivisions.Reads as subdivisions
 use Rattle.sirveshan.proofs.sirveshan_blank.Reads as blank
 use Rattle.sirveshan.proofs.sirveshan_sample.Reads as sample
+use Rattle.sirveshan.proofs.sirveshan_sample_kind.Reads as sample-kind
 
 pub sirveshan-extract-pinned : (κs : Lfts 5) (a : _) (r r′ : _) (e e′ : _) → extract.Learnt κs a r e → extract.Learnt κs a r′ e′
     → (r ≡ r′)
@@ -44,3 +45,6 @@ sirveshan-blank-pinned κs a r r′ e e′ h k = pinned h k
 
 pub sirveshan-sample-pinned : (κs : Lfts 1) (a : _) (r r′ : _) (e e′ : _) → sample.Learnt κs a r e → sample.Learnt κs a r′ e′ → r ≡ r′
 sirveshan-sample-pinned κs a r r′ e e′ h k = pinned h k
+
+pub sirveshan-sample-kind-pinned : (κs : Lfts 1) (a : _) (r r′ : _) (e e′ : _) → sample-kind.Learnt κs a r e → sample-kind.Learnt κs a r′ e′ → r ≡ r′
+sirveshan-sample-kind-pinned κs a r r′ e e′ h k = pinned h k

@@ -7,6 +7,10 @@ use Rattle.model.specs.declared.Header.{Header}
 use Rattle.model.specs.declared.Numbers.{Numbers}
 use Rattle.model.specs.declared.Extraction.{Extraction}
 use Rattle.model.specs.declared.Extraction.the-variants as Extraction
+use Rattle.model.specs.declared.PlaceKind.{PlaceKind}
+use Rattle.model.specs.declared.PlaceKind.the-variants.{InBlock, Face}
+use Rattle.model.specs.declared.PointRead.{PointRead}
+use Rattle.model.specs.declared.PointRead.the-variants as PointRead
 use Rattle.model.specs.declared.RecordRead.{RecordRead}
 use Rattle.model.specs.declared.RecordRead.the-variants as RecordRead
 use Rattle.model.specs.declared.RecordWritten.{RecordWritten}
@@ -15,6 +19,7 @@ use Rattle.stl.specs.declared.StlWritten.{StlWritten}
 use Rattle.stl.specs.declared.StlWritten.the-variants as StlWritten
 use Rattle.stl.specs.declared.StlRead.{StlRead}
 use Rattle.stl.specs.declared.StlRead.the-variants as StlRead
+use Rattle.model.specs.Limits.{sideCount}
 use Rattle.model.specs.Formulas.{vector}
 use Rattle.model.specs.Refusals.{numbers, numbersOf}
 use Rattle.model.specs.Extraction.{Outcome}
@@ -24,6 +29,7 @@ use Rattle.sirveshan.specs.declared.Extracted.{Extracted}
 use Rattle.sirveshan.specs.declared.HeaderRead.{HeaderRead}
 use Rattle.sirveshan.specs.declared.Written.{Written}
 use Rattle.sirveshan.specs.declared.TrianglesRead.{TrianglesRead}
+use Rattle.sirveshan.specs.declared.Sampled.{Sampled}
 
 abbrev pub notRefused : Numbers
 notRefused = numbers 0 0 0 0
@@ -59,6 +65,15 @@ asStlWritten (StlWritten.Refused r) = record { refused = numbersOf r; length = 0
 abbrev pub asTrianglesRead : StlRead → TrianglesRead
 asTrianglesRead (StlRead.Triangles triangles) = record { refused = notRefused; triangles = triangles }
 asTrianglesRead (StlRead.Refused r) = record { refused = numbersOf r; triangles = 0 }
+
+-- a face's kind is its own number, and in-block the next one
+abbrev pub kindNumber : PlaceKind → ℕ
+kindNumber (Face face) = face
+kindNumber InBlock = sideCount
+
+abbrev pub asSampled : PointRead → Sampled
+asSampled (PointRead.Value value kind) = record { refused = notRefused; value = value; kind = kindNumber kind }
+asSampled (PointRead.Refused r) = record { refused = numbersOf r; value = zero; kind = 0 }
 
 -- ---- the answer, and every buffer that is lent to be written
 

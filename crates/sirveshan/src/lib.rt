@@ -4,16 +4,19 @@ ghost use mathlib.Core.Path.{_≡_};
 ghost use Rattle.model.specs.Star.{star};
 ghost use Rattle.model.specs.Extraction.{extract};
 ghost use Rattle.model.specs.Record.{readRecord, writeRecord};
-ghost use Rattle.model.specs.Viewer.{subdivisionsAnswer, blankAnswer, sampleAnswer};
+ghost use Rattle.model.specs.Viewer.{subdivisionsAnswer, blankAnswer, sampleAnswer, recordPoint};
 ghost use Rattle.stl.specs.Definition.{writeStl, readStl};
-ghost use Rattle.sirveshan.specs.Calls.{asExtracted, asHeaderRead, asWritten, asStlWritten, asTrianglesRead};
+ghost use Rattle.sirveshan.specs.Calls.{asExtracted, asHeaderRead, asWritten, asStlWritten, asTrianglesRead, kindNumber, asSampled};
 ghost use Rattle.sirveshan.specs.Calls.{extractCall, readCall, writeCall, writeStlCall, readStlCall};
+use grid::transition_sides::SIDES;
 use judge::numbers_of;
 use model::Block;
 use model::Counts;
 use model::Extraction;
 use model::Header;
 use model::Numbers;
+use model::PlaceKind;
+use model::PointRead;
 use model::RecordRead;
 use model::RecordWritten;
 use model::Vector;
@@ -48,6 +51,16 @@ pub struct TrianglesRead {
     pub refused: Numbers,
     pub triangles: usize,
 }
+
+#[repr(C)]
+pub struct Sampled {
+    pub refused: Numbers,
+    pub value: f32,
+    pub kind: usize,
+}
+
+// The number of the kind in-block; a face has its own.
+const IN_BLOCK: usize = SIDES;
 
 const NOT_REFUSED: Numbers = Numbers {
     number: 0,
@@ -148,6 +161,32 @@ fn as_triangles_read(answer: StlRead) -> TrianglesRead
     }
 }
 
+fn kind_number(kind: PlaceKind) -> usize
+    ensures { λ r. ⌜ r ≡ kindNumber kind ⌝ }
+{
+    match kind {
+        PlaceKind::InBlock => IN_BLOCK,
+        PlaceKind::Face(face) => face,
+    }
+}
+
+fn as_sampled(answer: PointRead) -> Sampled
+    ensures { λ r. ⌜ r ≡ asSampled answer ⌝ }
+{
+    match answer {
+        PointRead::Value(value, kind) => Sampled {
+            refused: NOT_REFUSED,
+            value,
+            kind: kind_number(kind),
+        },
+        PointRead::Refused(refusal) => Sampled {
+            refused: numbers_of(refusal),
+            value: 0.0,
+            kind: 0,
+        },
+    }
+}
+
 // The mesh of a block and its finer neighbours.
 #[no_mangle]
 pub extern "C" fn sirveshan_extract(
@@ -205,7 +244,7 @@ pub extern "C" fn sirveshan_read_stl(src: &[u8], positions: &mut [f32]) -> Trian
     as_triangles_read(read_stl(src, positions))
 }
 
-// The viewer's three calls.
+// The viewer's calls.
 #[no_mangle]
 pub extern "C" fn sirveshan_subdivisions(src: &[u8]) -> u64
     ensures { λ r. ⌜ r ≡ subdivisionsAnswer (now (src .entry)) ⌝ }
@@ -225,4 +264,12 @@ pub extern "C" fn sirveshan_sample(src: &[u8], x: i32, y: i32, z: i32) -> u64
     ensures { λ r. ⌜ r ≡ sampleAnswer (now (src .entry)) x y z ⌝ }
 {
     viewer::sample(src, x, y, z)
+}
+
+// The same sample, with where it is stored.
+#[no_mangle]
+pub extern "C" fn sirveshan_sample_kind(src: &[u8], x: i32, y: i32, z: i32) -> Sampled
+    ensures { λ r. ⌜ r ≡ asSampled (recordPoint (now (src .entry)) x y z) ⌝ }
+{
+    as_sampled(viewer::read_point(src, x, y, z))
 }

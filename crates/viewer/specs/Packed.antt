@@ -4,7 +4,7 @@ use mathlib.Core.Path.{_≡_}
 use mathlib.Core.Bool.{Bool, true, false, cond, _||_}
 use mathlib.Core.List.{List}
 use lib.Dec.{eqb, lit≤}
-use lib.Ieee.{Float, nan, binary32, toBits}
+use lib.Ieee.{nan}
 use lib.ListN.{getD}
 use Rattle.model.specs.declared.Refusal.{Refusal}
 use Rattle.model.specs.declared.Refusal.the-variants.{Subdivisions, Mask, Measure, CentreLength, MissingNeighbour, NeighboursTooLong, BadSample, FaceMismatch, IndexStoreTooShort, NoRoom, RecordLength, Version, SampleCount, BufferTooShort, PointNeverSampled, StlLength, NoVertex}
@@ -12,10 +12,9 @@ use Rattle.model.specs.declared.Verdict.{Verdict}
 use Rattle.model.specs.declared.Verdict.the-variants.{Passed, Refused}
 use Rattle.laws.specs.Steps.{total}
 use Rattle.model.specs.Formulas.{insideBit}
-use Rattle.model.specs.Samples.{placeOf, sampled, valueAt, readingAt}
 use Rattle.model.specs.Refusals.{numbersOf}
 use Rattle.model.specs.Record.{headerOf, samplesOf, judgeRecord}
-use Rattle.model.specs.Viewer.{packed, sampleBits, blankAnswer}
+use Rattle.model.specs.Viewer.{packed, blankAnswer}
 
 -- two digits
 pub number-small : (r : Refusal) → numbersOf r .number ≤ 99
@@ -33,7 +32,7 @@ number-small RecordLength = lit≤ tt
 number-small (Version byte) = lit≤ tt
 number-small (SampleCount wanted) = lit≤ tt
 number-small (BufferTooShort wanted) = lit≤ tt
-number-small PointNeverSampled = lit≤ tt
+number-small (PointNeverSampled count) = lit≤ tt
 number-small (StlLength wanted) = lit≤ tt
 number-small (NoVertex triangle) = lit≤ tt
 
@@ -51,15 +50,3 @@ pub blank-passed : (bytes : List ℕ) (n insides : ℕ) {t : Bool} → judgeReco
     → eqb insides 0 || eqb insides ((n + 1) * (n + 1) * (n + 1)) ≡ t → cond t 1 0 ≡ blankAnswer bytes
 unfolding blankAnswer
 blank-passed bytes n insides passed n-is is e = rw (passed, ← n-is, ← is, e)
-
--- ---- a sample's bits
-
-pub point-bits : (n : ℕ) (samples : List Float) (x y z : ℕ) → sampled n x y z ≡ true
-    → toBits binary32 (getD samples (placeOf n x y z) nan) ≡ sampleBits (readingAt n samples x y z)
-unfolding readingAt valueAt
-point-bits n samples x y z e = rw e
-
-pub never-bits : (n : ℕ) (samples : List Float) (x y z : ℕ) → sampled n x y z ≡ false
-    → 2 ^ 32 + numbersOf PointNeverSampled .number ≡ sampleBits (readingAt n samples x y z)
-unfolding readingAt
-never-bits n samples x y z e = rw e

@@ -1,5 +1,6 @@
 // What the viewer asks of a record's bytes (document 01, 'Block record'): its subdivisions, whether it is blank, a sample. Each judges the
-// record first and answers one number; the calls of crate sirveshan hand them on to C.
+// record first and answers one number; the point read (document 02, [4]) tells the sample with its place kind. The calls of crate sirveshan
+// hand them on to C.
 ghost use mathlib.Core.Path.{_≡_};
 ghost use Prim.Native.Nat.{_+_, _*_, _^_, _≤_};
 ghost use lib.ListN.{getD};
@@ -9,20 +10,26 @@ ghost use Rattle.model.specs.Formulas.{insideBit};
 ghost use Rattle.model.specs.Samples.{readingAt};
 ghost use Rattle.model.specs.Refusals.{numbersOf};
 ghost use Rattle.model.specs.Record.{countOf, headerOf, samplesOf};
-ghost use Rattle.model.specs.Viewer.{sampleBits, subdivisionsAnswer, blankAnswer, sampleAnswer};
+ghost use Rattle.model.specs.Viewer.{subdivisionsAnswer, blankAnswer, recordPoint, pointBits, sampleAnswer};
 ghost use Rattle.record.specs.Accepted.{Accepted};
+ghost use Rattle.viewer.specs.Points.{pointReading};
 use grid::voxel_blocks::inside;
+use grid::voxel_blocks::is_sampled;
+use grid::voxel_blocks::kind;
 use grid::voxel_blocks::one_up;
-use grid::voxel_blocks::outside_by;
+use grid::voxel_blocks::outside_count;
 use grid::voxel_blocks::place;
 use judge::numbers_of;
+use judge::point_read::answered;
+use model::PointRead;
+use model::Reading;
 use model::Refusal;
 use model::Verdict;
 use record::fields::header_of;
-use record::fields::sample_bits_of;
 use record::fields::sample_of;
 use record::fields::subdivisions_of;
 use record::judging::judge_record;
+use words::floats::bits_of;
 
 // What is added to a refusal's number, by the calls for subdivisions and blank, and by the one for a sample.
 const REFUSED: u64 = 100;
@@ -82,20 +89,48 @@ pub fn blank(src: &[u8]) -> u64
     }
 }
 
-// The bits of the sample at a point of a record that passed, its coordinates kept one up.
-fn sample_bits(src: &[u8], x: usize, y: usize, z: usize) -> u64
+// A point of a record that passed, its coordinates kept one up.
+fn reading(src: &[u8], x: usize, y: usize, z: usize) -> Reading
     requires { ⌜ Accepted (now src) ⌝ }
-    ensures { λ r. ⌜ r ≡ sampleBits (readingAt (headerOf (now (src .entry)) .block .subdivisions) (samplesOf (now (src .entry))) x y z) ⌝ }
+    ensures { λ r. ⌜ r ≡ readingAt (headerOf (now (src .entry)) .block .subdivisions) (samplesOf (now (src .entry))) x y z ⌝ }
 {
     let n = subdivisions_of(src);
-    let steps = outside_by(n, x) + outside_by(n, y) + outside_by(n, z);
-    if steps <= 1 {
-        sample_bits_of(src, place(n, x, y, z)) as u64
-    } else {
-        packed_refusal(SAMPLE_REFUSED, Refusal::PointNeverSampled)
+    if is_sampled(n, x, y, z) {
+        return Reading::Value(sample_of(src, place(n, x, y, z)), kind(n, x, y, z));
+    }
+    Reading::NeverSampled(outside_count(n, x, y, z))
+}
+
+// The same by signed coordinates.
+fn point_reading(src: &[u8], x: i32, y: i32, z: i32) -> Reading
+    requires { ⌜ Accepted (now src) ⌝ }
+    ensures { λ r. ⌜ r ≡ pointReading (now (src .entry)) x y z ⌝ }
+{
+    let n = subdivisions_of(src);
+    reading(src, one_up(n, x), one_up(n, y), one_up(n, z))
+}
+
+pub fn read_point(src: &[u8], x: i32, y: i32, z: i32) -> PointRead
+    ensures { λ r. ⌜ r ≡ recordPoint (now (src .entry)) x y z ⌝ }
+{
+    let verdict = judge_record(src);
+    if let Verdict::Refused(r) = verdict {
+        return PointRead::Refused(r);
+    }
+    answered(point_reading(src, x, y, z))
+}
+
+// A point read as one number.
+fn point_bits(read: PointRead) -> u64
+    ensures { λ r. ⌜ r ≡ pointBits read ⌝ }
+{
+    match read {
+        PointRead::Value(value, _) => bits_of(value) as u64,
+        PointRead::Refused(refusal) => packed_refusal(SAMPLE_REFUSED, refusal),
     }
 }
 
+// Not by `read_point`: a refusal goes straight into the number, and inlined the kind is gone.
 pub fn sample(src: &[u8], x: i32, y: i32, z: i32) -> u64
     ensures { λ r. ⌜ r ≡ sampleAnswer (now (src .entry)) x y z ⌝ }
 {
@@ -103,6 +138,5 @@ pub fn sample(src: &[u8], x: i32, y: i32, z: i32) -> u64
     if let Verdict::Refused(r) = verdict {
         return packed_refusal(SAMPLE_REFUSED, r);
     }
-    let n = subdivisions_of(src);
-    sample_bits(src, one_up(n, x), one_up(n, y), one_up(n, z))
+    point_bits(answered(point_reading(src, x, y, z)))
 }

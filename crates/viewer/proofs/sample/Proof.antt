@@ -1,16 +1,13 @@
--- `sample` meets its contract: the record is refused, or it passes and the bits are those at the point whose coordinates are kept one up.
-use Prim.Native.Nat.{ℕ, _^_}
-use mathlib.Core.Path.{_≡_, sym, _∙_}
-use native.Mathlib.Omega.{arith}
-use borrow.Author.Needs.{needs}
+-- `sample` meets its contract: the record is refused, or it passes and the reading of its point becomes one number.
+use mathlib.Core.Path.{_≡_, ap, sym, _∙_}
 use mir.Syntax.{w32}
 use mir.Facts.{toZ-ofZ}
 use Rattle.model.specs.declared.Verdict.the-variants.{Passed}
-use Rattle.model.specs.Samples.{readingAt, oneUp}
-use Rattle.model.specs.Record.{headerOf, samplesOf, judgeRecord}
-use Rattle.model.specs.Viewer.{sampleBits, sampleAnswer}
-use Rattle.record.specs.Accepted.{Accepted, accepted}
-use Rattle.viewer.specs.Packed.{packed-refused, packed-passed}
+use Rattle.model.specs.Record.{judgeRecord}
+use Rattle.model.specs.Viewer.{pointBits, sampleAnswer}
+use Rattle.record.specs.Accepted.{accepted}
+use Rattle.viewer.specs.Points.{point-refused, point-passed}
+use borrow.Author.Needs.{needs}
 use Rattle.viewer.proofs.sample.Statement.{statement}
 use Rattle.viewer.proofs.sample.Tie as tie
 
@@ -27,50 +24,34 @@ returns : tie.Need-returns
 unfolding sampleAnswer
 returns c =
     let verdict = c .before .before in
-    let judged = verdict .before .before in
-    c .packed-refusal .ensures ∙ packed-refused (2 ^ 32) _ _ _ (sym (judged .judge-record .ensures) ∙ verdict .verdict .given .1)
+    c .packed-refusal .ensures
+    ∙ ap pointBits (point-refused _ _ _ _ _ (sym (verdict .before .before .judge-record .ensures) ∙ verdict .verdict .given .1))
 
-module _ (c : tie.After-enum-told) where
-  passed : judgeRecord (c .before .before .before .before .args .src .now) ≡ Passed
-  passed = sym (c .before .before .judge-record .ensures) ∙ c .enum-told .given .1
-
-  is-accepted : Accepted (c .before .before .before .before .args .src .now)
-  is-accepted = accepted _ passed
+passed : (c : tie.After-enum-told) → judgeRecord (c .before .before .before .before .args .src .now) ≡ Passed
+passed c = sym (c .before .before .judge-record .ensures) ∙ c .enum-told .given .1
 
 enum-told : tie.Need-enum-told
 enum-told c = search needs
 
-subdivisions-of-requires : tie.Need-subdivisions-of-requires
-subdivisions-of-requires c κs = is-accepted c .long
+point-reading-requires : tie.Need-point-reading-requires
+point-reading-requires c κs = accepted _ (passed c)
 
-one-up-requires : tie.Need-one-up-requires
-one-up-requires c κs = omega (arith, is-accepted (c .before) .few)
+answered-requires : tie.Need-answered-requires
+answered-requires c κs = search needs
 
-one-up-requires-2 : tie.Need-one-up-requires-2
-one-up-requires-2 c κs = omega (arith, is-accepted (c .before .before) .few)
-
-one-up-requires-3 : tie.Need-one-up-requires-3
-one-up-requires-3 c κs = omega (arith, is-accepted (c .before .before .before) .few)
-
-sample-bits-requires : tie.Need-sample-bits-requires
-sample-bits-requires c κs = is-accepted (c .before .before .before .before)
+point-bits-requires : tie.Need-point-bits-requires
+point-bits-requires c κs = search needs
 
 returns-2 : tie.Need-returns-2
 unfolding sampleAnswer
 returns-2 c =
-    let ups = c .before in
-    let read = ups .before .before .before in
-    let start = read .before .before .before .before .before in
-    let args = start .args in
-    let bytes = args .src .now in
-    let n = headerOf bytes .block .subdivisions in
-    let n-is : read .subdivisions-of .result ≡ n = read .subdivisions-of .ensures in
-    let x : ups .before .before .one-up .result ≡ oneUp n (args .x) = rw (toZ-ofZ {w = w32} (start .fits .x), n-is) at (ups .before .before .one-up .ensures) in
-    let y : ups .before .one-up2 .result ≡ oneUp n (args .y) = rw (toZ-ofZ {w = w32} (start .fits .y), n-is) at (ups .before .one-up2 .ensures) in
-    let z : ups .one-up3 .result ≡ oneUp n (args .z) = rw (toZ-ofZ {w = w32} (start .fits .z), n-is) at (ups .one-up3 .ensures) in
-    c .sample-bits .ensures
-    ∙ (λ i. sampleBits (readingAt n (samplesOf bytes) (x i) (y i) (z i)))
-    ∙ packed-passed (2 ^ 32) _ _ (passed (read .before))
+    let reply = c .before in
+    let read = reply .before in
+    let told = read .before in
+    let fits = told .before .before .before .before .fits in
+    let is = rw (toZ-ofZ {w = w32} (fits .x), toZ-ofZ {w = w32} (fits .y), toZ-ofZ {w = w32} (fits .z)) at (read .point-reading .ensures) in
+    let answer = rw is at (reply .answered .ensures) in
+    c .point-bits .ensures ∙ ap pointBits (answer ∙ point-passed _ _ _ _ (passed told))
 
 pub sample-spec : {M : Type 1} → statement M
 sample-spec =
@@ -81,9 +62,7 @@ sample-spec =
     packed-refusal-requires
     returns
     enum-told
-    subdivisions-of-requires
-    one-up-requires
-    one-up-requires-2
-    one-up-requires-3
-    sample-bits-requires
+    point-reading-requires
+    answered-requires
+    point-bits-requires
     returns-2)
