@@ -19,7 +19,7 @@ use Rattle.model.specs.declared.Verdict.{Verdict}
 use Rattle.model.specs.declared.Verdict.the-variants.{Passed, Refused}
 use Rattle.model.specs.Sides.{named, namedBelow, neighbourLength, neighboursLength}
 use Rattle.model.specs.Refusals.{numbersOf, unless, orElse, first}
-use Rattle.model.specs.Samples.{sampleLength, sampled, oneUp}
+use Rattle.model.specs.Samples.{sampleLength, sampled, outsideCount, oneUp}
 use Rattle.model.specs.Limits.{mostSubdivisions, mostMask, sideCount}
 use Rattle.model.specs.Star.{Star, star, subdivisions}
 use Rattle.model.specs.Mesh.{storeLength}
@@ -41,7 +41,7 @@ numbered-append : (a b : List Judge) → Numbered a → Numbered b → Numbered 
 numbered-append [] b p q = q
 numbered-append (j ∷ a) b p q = (p .0, numbered-append a b (p .1) q)
 
-numbered-take : (k : ℕ) (a : List Judge) → Numbered a → Numbered (take k a)
+pub numbered-take : (k : ℕ) (a : List Judge) → Numbered a → Numbered (take k a)
 numbered-take zero a p = tt
 numbered-take (suc k) [] p = tt
 numbered-take (suc k) (j ∷ a) p = (p .0, numbered-take k a (p .1))
@@ -200,7 +200,8 @@ reading-numbered bytes samples =
     (buffer-number (countOf bytes) (length samples) & tt)
 
 point-number : (n : ℕ) (x y z : ℤ) → Refuses 15 (pointJudge n x y z .says)
-point-number n x y z = by-unless (sampled n (oneUp n x) (oneUp n y) (oneUp n z)) PointNeverSampled
+point-number n x y z =
+    by-unless (sampled n (oneUp n x) (oneUp n y) (oneUp n z)) (PointNeverSampled (outsideCount n (oneUp n x) (oneUp n y) (oneUp n z)))
 
 pub point-numbered : (n : ℕ) (samples : List Float) (x y z : ℤ) → Numbered (pointJudges n samples x y z)
 point-numbered n samples x y z = subdivisions-number n & centre-number n (length samples) & point-number n x y z & tt
@@ -212,7 +213,7 @@ sample-numbered bytes x y z =
 
 -- ---- a refusal with a number is that of the judge who has it
 
-others : ℕ → List Judge → Bool
+unfoldable pub others : ℕ → List Judge → Bool
 others k [] = true
 others k (j ∷ rest) = both (not (eqb (j .number) k)) (others k rest)
 
@@ -223,6 +224,18 @@ past k [] after r n p t e = e
 past k (j ∷ rest) after r n p t e =
     ⊎-elim (λ here. absurd (T-not (eqb (j .number) k) (both-left _ _ t) (eq→eqb _ _ (sym (p .0 r here) ∙ n))))
     (past k rest after r n (p .1) (both-right _ _ t)) (one-or-other (j .says) (inOrder (rest ++ after)) r e)
+
+-- 15 is that of the last judge, where no other has its number
+pub never-sampled : (before : List Judge) (n : ℕ) (x y z : ℤ) (c : ℕ) → Numbered before → T (others 15 before)
+    → inOrder (before ++ pointJudge n x y z ∷ []) ≡ Refused (PointNeverSampled c)
+    → (sampled n (oneUp n x) (oneUp n y) (oneUp n z) ≡ false) × (c ≡ outsideCount n (oneUp n x) (oneUp n y) (oneUp n z))
+never-sampled before n x y z c p t e =
+    go (sampled n (oneUp n x) (oneUp n y) (oneUp n z)) (past 15 before (pointJudge n x y z ∷ []) (PointNeverSampled c) refl p t e)
+  where
+    go : (b : Bool) → orElse (unless b (PointNeverSampled (outsideCount n (oneUp n x) (oneUp n y) (oneUp n z)))) Passed ≡ Refused (PointNeverSampled c)
+        → (b ≡ false) × (c ≡ outsideCount n (oneUp n x) (oneUp n y) (oneUp n z))
+    go true e = (cc, cc)
+    go false e = (refl, cc)
 
 pub no-room : (s : Star) (lent : Lent) (c : Counts) → inOrder (extractionJudges s lent) ≡ Refused (NoRoom c) → c ≡ counts s
 unfolding others both

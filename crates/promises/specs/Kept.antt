@@ -10,6 +10,7 @@ use Rattle.promises.specs.Records.{reading, reading-untouched, samples-l
 use Rattle.promises.specs.Room.{enough}
 use Rattle.promises.specs.StlKept.{stl-kept}
 use Rattle.promises.specs.NestingKept.{nesting-kept}
+use Rattle.promises.specs.PlaceKindsKept.{place-kinds-kept}
 use Rattle.promises.specs.Views.{point, packed-record, subdivisions-apart, blank-apart, viewer-sample}
 
 pub kept : Promises
@@ -37,5 +38,6 @@ kept =
       room = enough;
       stl = stl-kept;
       nesting = nesting-kept;
+      place-kinds = place-kinds-kept;
       starred = figures-agree;
     }

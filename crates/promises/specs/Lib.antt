@@ -2,7 +2,9 @@
 pub mod Promises
 pub mod Stl
 pub mod Nesting
+pub mod PlaceKinds
 pub mod Orders
+pub mod Points
 pub mod Left
 -- that it holds
 pub mod Kept
@@ -16,3 +18,4 @@ pub mod Room
 pub mod Views
 pub mod StlKept
 pub mod NestingKept
+pub mod PlaceKindsKept

@@ -12,7 +12,7 @@ use Rattle.model.specs.declared.Refusal.{Refusal}
 use Rattle.model.specs.declared.Refusal.the-variants.{PointNeverSampled}
 use Rattle.model.specs.declared.Verdict.{Verdict}
 use Rattle.model.specs.declared.Verdict.the-variants.{Passed, Refused}
-use Rattle.model.specs.Samples.{sampled, oneUp}
+use Rattle.model.specs.Samples.{sampled, outsideCount, oneUp}
 use Rattle.model.specs.Refusals.{numbersOf, unless, orElse}
 use Rattle.model.specs.Star.{Star, star, subdivisions}
 use Rattle.model.specs.Judging.{judgeSubdivisions, judgeMask, judgeMeasures, judgeCentre, judgeMissing, judgeTooLong, judgeSamples, judgeFaces, judgeStore, judgeRoom, judgeBuffer}
@@ -95,7 +95,9 @@ readingJudges bytes samples = recordJudges bytes ++ judge 14 (judgeBuffer (count
 
 -- 15 of a point, by its signed coordinates; 1, 4, 15 of the point read; a record's and 15 of the viewer's sample
 abbrev pub pointJudge : ℕ → ℤ → ℤ → ℤ → Judge
-pointJudge n x y z = judge 15 (unless (sampled n (oneUp n x) (oneUp n y) (oneUp n z)) PointNeverSampled)
+pointJudge n x y z =
+    judge 15
+    (unless (sampled n (oneUp n x) (oneUp n y) (oneUp n z)) (PointNeverSampled (outsideCount n (oneUp n x) (oneUp n y) (oneUp n z))))
 
 abbrev pub pointJudges : ℕ → List Float → ℤ → ℤ → ℤ → List Judge
 pointJudges n samples x y z =

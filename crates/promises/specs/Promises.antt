@@ -1,7 +1,7 @@
--- What the buyer was promised, in eight parts, for every input; `Kept.kept` is the theorem that all of it holds. It speaks of what the public calls
--- answer and leave in the buffers lent to them: the model's `extract`, `readRecord`, `writeRecord`, `readPoint` and the viewer's three answers, to each of
--- which the `ensures` of the call says that the code is equal. The words are set down in Orders (judging), Left (buffers) and closed's Clauses (no hole);
--- what was promised of STL stands in Stl, and of places in Nesting. Definitions only.
+-- What the buyer was promised, in nine parts, for every input; `Kept.kept` is the theorem that all of it holds. It speaks of what the public calls
+-- answer and leave in the buffers lent to them: the model's `extract`, `readRecord`, `writeRecord`, `readPoint`, `recordPoint` and the viewer's three answers, to
+-- each of which the `ensures` of the call says that the code is equal. The words are set down in Orders (judging), Left (buffers) and closed's Clauses (no hole);
+-- what was promised of STL stands in Stl, of places in Nesting, and of where a sample came from in PlaceKinds. Definitions only.
 use Prim.Native.Nat.{ℕ, _+_, _*_, _^_, _≤_, _<_}
 use mathlib.Core.Path.{_≡_}
 use mathlib.Core.List.{List, [], _∷_, _++_, map}
@@ -22,7 +22,7 @@ use Rattle.model.specs.declared.RecordRead.the-variants as RecordRead
 use Rattle.model.specs.declared.RecordWritten.the-variants as RecordWritten
 use Rattle.model.specs.declared.Verdict.the-variants.{Passed}
 use Rattle.model.specs.Limits.{mostMask}
-use Rattle.model.specs.Samples.{sampleLength, valueAt, oneUp}
+use Rattle.model.specs.Samples.{sampleLength}
 use Rattle.model.specs.Sides.{neighboursLength}
 use Rattle.model.specs.Star.{Star, subdivisions}
 use Rattle.model.specs.Judging.{judgeBuffer}
@@ -34,14 +34,12 @@ use Rattle.model.specs.Figures.{Figure, figures}
 use Rattle.closed.specs.Clauses.{NoHole}
 use Rattle.promises.specs.Left.{Laid, Lent, answered, left, counts, regularPart}
 use Rattle.promises.specs.Orders.{Judged, Packed, extractionJudges, writingJudges, recordJudges, readingJudges, pointJudges, sampleJudges}
+use Rattle.promises.specs.Points.{pointValue, pointKind}
 use Rattle.promises.specs.Stl.{StlPromises}
 use Rattle.promises.specs.Nesting.{NestingPromises}
+use Rattle.promises.specs.PlaceKinds.{PlaceKindPromises}
 
 -- ---- 1. every call is answered
-
--- the value of a point that was sampled, by its signed coordinates
-abbrev pub pointValue : ℕ → List Float → ℤ → ℤ → ℤ → Float
-pointValue n samples x y z = valueAt n samples (oneUp n x) (oneUp n y) (oneUp n z)
 
 pub record EveryCallIsAnswered : Type 0 where
   -- extraction is refused exactly as the first of 1 to 10 that refuses says, and otherwise accepted with the counts of the definition's mesh
@@ -63,10 +61,10 @@ pub record EveryCallIsAnswered : Type 0 where
   -- refused, it leaves the lent bytes as they were
   pub writing-untouched : (h : Header) (centre neighbours : List Float) (bytes : List ℕ) (r : Refusal)
       → writeRecord h centre neighbours bytes .answer ≡ RecordWritten.Refused r → writeRecord h centre neighbours bytes .bytes ≡ bytes
-  -- a point read is refused exactly as the first of 1, 4, 15 says, and otherwise answers the point's value
+  -- a point read is refused exactly as the first of 1, 4, 15 says, and otherwise answers the point's value and where it is stored
   pub point : (n : ℕ) (samples : List Float) (x y z : ℤ)
       → Judged (pointJudges n samples x y z) (λ r. readPoint n samples x y z ≡ PointRead.Refused r)
-      (readPoint n samples x y z ≡ PointRead.Value (pointValue n samples x y z))
+      (readPoint n samples x y z ≡ PointRead.Value (pointValue n samples x y z) (pointKind n x y z))
   -- the viewer's calls answer n, whether the block is blank, and a point's bits; or 100 and 2^32 plus the number of the first refusal
   pub viewer-subdivisions : (bytes : List ℕ) → Packed (recordJudges bytes) 100 (headerOf bytes .block .subdivisions) (subdivisionsAnswer bytes)
   pub viewer-blank : (bytes : List ℕ)
@@ -155,7 +153,7 @@ pub record Enough (s : Star) : Type 0 where
   pub vertices : counts s .vertices ≤ mostOfCell * cellCount (subdivisions s) (s .mask)
   pub triangles : counts s .triangles ≤ mostOfCell * cellCount (subdivisions s) (s .mask)
 
--- ---- all, with 6: the starred figures of document 01, 7: STL, and 8: places by nesting
+-- ---- all, with 6: the starred figures of document 01, 7: STL, 8: places by nesting, and 9: place kinds
 
 pub record Promises : Type 0 where
   pub every-call : EveryCallIsAnswered
@@ -167,5 +165,6 @@ pub record Promises : Type 0 where
   pub room : (s : Star) → s .mask ≤ mostMask → Enough s
   pub stl : StlPromises
   pub nesting : NestingPromises
+  pub place-kinds : PlaceKindPromises
   -- what the definitions work out is what document 01 states
   pub starred : map (λ (f : Figure). f .worked) figures ≡ map (λ (f : Figure). f .stated) figures

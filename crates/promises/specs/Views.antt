@@ -1,4 +1,4 @@
--- The point read and the viewer's three calls, by the two things that their judges can come to, passed and refused.
+-- The point read, of samples and of a record, and the viewer's three calls, by the two things that their judges can come to, passed and refused.
 use Prim.Native.Nat.{ℕ, _+_, _*_, _^_, _≤_, _<_}
 use native.Mathlib.Decide.{decLt}
 use native.Mathlib.Omega.{arith}
@@ -14,6 +14,7 @@ use lib.Ieee.Bits.{toBits-lt, ofBits-fits}
 use lib.ListN.{length, getD, List·getD-eq-default}
 use Rattle.laws.specs.Steps.{listed, total}
 use Rattle.laws.specs.Lists.{length-listed, getD-listed}
+use Rattle.model.specs.declared.PlaceKind.{PlaceKind}
 use Rattle.model.specs.declared.Reading.{Reading}
 use Rattle.model.specs.declared.Reading.the-variants as Reading
 use Rattle.model.specs.declared.Refusal.{Refusal}
@@ -22,46 +23,72 @@ use Rattle.model.specs.declared.Verdict.{Verdict}
 use Rattle.model.specs.declared.Verdict.the-variants.{Passed, Refused}
 use Rattle.model.specs.declared.PointRead.{PointRead}
 use Rattle.model.specs.declared.PointRead.the-variants as PointRead
-use Rattle.model.specs.Samples.{placeOf, sampled, valueAt, readingAt, oneUp}
+use Rattle.model.specs.Samples.{placeOf, sampled, outsideCount, readingAt, valueOf, valueAt, oneUp}
 use Rattle.model.specs.Formulas.{insideBit}
 use Rattle.model.specs.Limits.{mostSubdivisions}
 use Rattle.model.specs.Refusals.{numbersOf, unless, orElse}
 use Rattle.model.specs.Judging.{judgeSubdivisions, judgeCentre}
 use Rattle.model.specs.Extraction.{pointAnswer, readPoint}
 use Rattle.model.specs.Record.{headerOf, countOf, samplesOf, judgeLength, judgeVersion, judgeRecord}
-use Rattle.model.specs.Viewer.{packed, blankOf, sampleBits, sampleAnswer}
+use Rattle.model.specs.Viewer.{packed, blankOf, recordPoint, pointBits, sampleAnswer}
+use Rattle.grid.specs.Places.{value-is}
 use Rattle.judge.specs.First.{both-passed, unless-passed}
-use Rattle.promises.specs.Orders.{inOrder, Judged, Packed, recordJudges, pointJudges, sampleJudges}
-use Rattle.promises.specs.Promises.{pointValue}
+use Rattle.promises.specs.Orders.{Judge, inOrder, Numbered, Judged, Packed, recordJudges, pointJudge, pointJudges, sampleJudges}
+use Rattle.promises.specs.Points.{pointValue, pointKind}
 use Rattle.promises.specs.Judges.{judged, record-in-order, point-in-order, sample-in-order, record-numbered, point-numbered, sample-numbered}
 
-abbrev readingIf : Bool → Float → Reading
-readingIf b x = cond b (Reading.Value x) Reading.NeverSampled
+abbrev readingIf : Bool → Float → PlaceKind → ℕ → Reading
+readingIf b x kind count = cond b (Reading.Value x kind) (Reading.NeverSampled count)
 
-abbrev andPoint : Verdict → Bool → Verdict
-andPoint v b = orElse v (unless b PointNeverSampled)
+abbrev andPoint : Verdict → Bool → ℕ → Verdict
+andPoint v b count = orElse v (unless b (PointNeverSampled count))
 
 -- what a point read says of its judges' verdict, the point's own among them
-abbrev pointOf : Float → Verdict → PointRead
-pointOf x Passed = PointRead.Value x
-pointOf x (Refused r) = PointRead.Refused r
+abbrev pointOf : Float → PlaceKind → Verdict → PointRead
+pointOf x kind Passed = PointRead.Value x kind
+pointOf x kind (Refused r) = PointRead.Refused r
 
-point-of : (v : Verdict) (b : Bool) (x : Float) → pointAnswer v (readingIf b x) ≡ pointOf x (andPoint v b)
-point-of (Refused q) b x = refl
-point-of Passed true x = refl
-point-of Passed false x = refl
+point-of : (v : Verdict) (b : Bool) (x : Float) (kind : PlaceKind) (count : ℕ)
+    → let read = readingIf b x kind count in
+    pointAnswer v read ≡ pointOf (valueOf read) kind (andPoint v b count)
+point-of (Refused q) b x kind count = refl
+point-of Passed true x kind count = refl
+point-of Passed false x kind count = refl
+
+-- a point's answer by any verdict that is come to before 15
+module _ (n : ℕ) (samples : List Float) (x y z : ℤ) (v : Verdict) (judges : List Judge) (numbered : Numbered judges)
+    (order : inOrder judges ≡ orElse v (pointJudge n x y z .says)) where
+  abbrev answer : PointRead
+  answer = pointAnswer v (readingAt n samples (oneUp n x) (oneUp n y) (oneUp n z))
+
+  point-judged : Judged judges (λ r. answer ≡ PointRead.Refused r) (answer ≡ PointRead.Value (pointValue n samples x y z) (pointKind n x y z))
+  unfolding readingAt valueAt
+  point-judged =
+      let b = sampled n (oneUp n x) (oneUp n y) (oneUp n z) in
+      let count = outsideCount n (oneUp n x) (oneUp n y) (oneUp n z) in
+      let stored = getD samples (placeOf n (oneUp n x) (oneUp n y) (oneUp n z)) nan in
+      let kind = pointKind n x y z in
+      let value = pointValue n samples x y z in
+      rw (point-of v b stored kind count)
+      (judged PointRead.Refused (PointRead.Value value kind) (pointOf value kind) refl (λ r. refl) (λ q r e. cc) (λ r e. cc) judges
+      (andPoint v b count) order numbered)
 
 pub point : (n : ℕ) (samples : List Float) (x y z : ℤ)
     → Judged (pointJudges n samples x y z) (λ r. readPoint n samples x y z ≡ PointRead.Refused r)
-    (readPoint n samples x y z ≡ PointRead.Value (pointValue n samples x y z))
-unfolding readPoint readingAt
+    (readPoint n samples x y z ≡ PointRead.Value (pointValue n samples x y z) (pointKind n x y z))
+unfolding readPoint
 point n samples x y z =
-    let v = orElse (judgeSubdivisions n) (judgeCentre n (length samples)) in
-    let b = sampled n (oneUp n x) (oneUp n y) (oneUp n z) in
-    let value = pointValue n samples x y z in
-    rw (point-of v b value)
-    (judged PointRead.Refused (PointRead.Value value) (pointOf value) refl (λ r. refl) (λ q r e. cc) (λ r e. cc)
-    (pointJudges n samples x y z) (andPoint v b) (point-in-order n samples x y z) (point-numbered n samples x y z))
+    point-judged n samples x y z (orElse (judgeSubdivisions n) (judgeCentre n (length samples))) (pointJudges n samples x y z)
+    (point-numbered n samples x y z) (point-in-order n samples x y z)
+
+pub record-point : (bytes : List ℕ) (x y z : ℤ)
+    → let n = headerOf bytes .block .subdivisions in
+    Judged (sampleJudges bytes x y z) (λ r. recordPoint bytes x y z ≡ PointRead.Refused r)
+    (recordPoint bytes x y z ≡ PointRead.Value (pointValue n (samplesOf bytes) x y z) (pointKind n x y z))
+unfolding recordPoint
+record-point bytes x y z =
+    point-judged (headerOf bytes .block .subdivisions) (samplesOf bytes) x y z (judgeRecord bytes) (sampleJudges bytes x y z)
+    (sample-numbered bytes x y z) (sample-in-order bytes x y z)
 
 pub packed-record : (bytes : List ℕ) (base value : ℕ) → (inOrder (recordJudges bytes) ≡ Passed → value < base)
     → Packed (recordJudges bytes) base value (packed base (judgeRecord bytes) value)
@@ -107,29 +134,23 @@ sample-apart : (bytes : List ℕ) (k : ℕ) → Ieee.toBits binary32 (getD (samp
 unfolding samplesOf
 sample-apart bytes k = toBits-lt binary32 _ (listed-fits _ (countOf bytes) k (λ j. ofBits-fits binary32 _))
 
-sample-refused : (v : Verdict) (b : Bool) (x : Float) (r : Refusal) → andPoint v b ≡ Refused r
-    → packed (2 ^ 32) v (sampleBits (readingIf b x)) ≡ 2 ^ 32 + numbersOf r .number
-sample-refused (Refused q) b x r e = let same : q ≡ r = cc in ap (λ (p : Refusal). 2 ^ 32 + numbersOf p .number) same
-sample-refused Passed true x r e = cc
-sample-refused Passed false x r e = let same : PointNeverSampled ≡ r = cc in ap (λ (p : Refusal). 2 ^ 32 + numbersOf p .number) same
-
-sample-accepted : (v : Verdict) (b : Bool) (x : Float) → andPoint v b ≡ Passed → packed (2 ^ 32) v (sampleBits (readingIf b x)) ≡ Ieee.toBits binary32 x
-sample-accepted (Refused q) b x e = cc
-sample-accepted Passed true x e = refl
-sample-accepted Passed false x e = cc
+-- accepted, the point was sampled
+accepted-sampled : (bytes : List ℕ) (x y z : ℤ) → inOrder (sampleJudges bytes x y z) ≡ Passed
+    → let n = headerOf bytes .block .subdivisions in sampled n (oneUp n x) (oneUp n y) (oneUp n z) ≡ true
+accepted-sampled bytes x y z e = unless-passed _ _ (both-passed (judgeRecord bytes) _ (sym (sample-in-order bytes x y z) ∙ e) .1)
 
 pub viewer-sample : (bytes : List ℕ) (x y z : ℤ)
     → Packed (sampleJudges bytes x y z) (2 ^ 32)
     (Ieee.toBits binary32 (pointValue (headerOf bytes .block .subdivisions) (samplesOf bytes) x y z)) (sampleAnswer bytes x y z)
-unfolding sampleAnswer readingAt valueAt
+unfolding sampleAnswer
 viewer-sample bytes x y z =
     let n = headerOf bytes .block .subdivisions in
-    let b = sampled n (oneUp n x) (oneUp n y) (oneUp n z) in
-    let value = pointValue n (samplesOf bytes) x y z in
-    let order = sample-in-order bytes x y z in
+    let is = record-point bytes x y z in
     record {
       numbered = sample-numbered bytes x y z;
-      refused = λ r e. sample-refused (judgeRecord bytes) b value r (sym order ∙ e);
-      accepted = λ e. sample-accepted (judgeRecord bytes) b value (sym order ∙ e);
-      apart = λ e. sample-apart bytes (placeOf n (oneUp n x) (oneUp n y) (oneUp n z));
+      refused = λ r e. ap pointBits (is .refused-by-first r .1 e);
+      accepted = λ e. ap pointBits (is .accepted-by-all .1 e);
+      apart = λ e.
+          rw (value-is n (oneUp n x) (oneUp n y) (oneUp n z) (samplesOf bytes) (accepted-sampled bytes x y z e))
+          (sample-apart bytes (placeOf n (oneUp n x) (oneUp n y) (oneUp n z)));
     }
