@@ -15,7 +15,8 @@ read0, read1, ..: a record, what the reader and the viewer's calls answer
     n, mask, threshold, base x, y, z, size  0 where it is refused
     subdivisions, blank, samples filled, points asked,
     the record (padded to four bytes), the samples filled,
-    for each point: three coordinates as places in COORDINATES, the answer's low word, its high word
+    for each point: three coordinates as places in COORDINATES, the answer's low word, its high word,
+    the kind (0 to 5 a face, 6 in-block), the refusal's first number; 0 where there is none
 
 write0, ..: a block, what the writer answers
 
@@ -201,7 +202,8 @@ def read_vector(record, held):
     vector += padded(record) + words(*filled)
     for point in points:
         found = reference.viewer_sample(record, *point)
-        vector += words(*map(COORDINATES.index, point), found & 0xFFFFFFFF, found >> 32)
+        _, first, _, _, _, kind = reference.sample_kind(record, *point)
+        vector += words(*map(COORDINATES.index, point), found & 0xFFFFFFFF, found >> 32, kind, first)
     return whole(vector)
 
 

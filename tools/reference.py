@@ -171,21 +171,36 @@ def samples_length(n, mask):
     return block_length(n) + neighbours_length(n, mask)
 
 
+def axes_outside(n, point):
+    return [axis for axis in range(3) if not 0 <= point[axis] <= n]
+
+
+# The kind of a sample of the block itself; that of an extension face is its number, 0 to 5.
+IN_BLOCK = 6
+
+
+def place_kind(n, point):
+    """Document 02, [4]: the store that a grid point's sample came from; None if it was never sampled."""
+    outside = axes_outside(n, point)
+    if not outside:
+        return IN_BLOCK
+    axis = outside[0]
+    if len(outside) > 1 or point[axis] not in (-1, n + 1):
+        return None
+    return 2 * axis + (1 if point[axis] == n + 1 else 0)
+
+
 def sample_place(n, point):
     """A grid point's place in a block's samples, or None if it was never sampled."""
     m = n + 1
     x, y, z = point
-    outside = [axis for axis in range(3) if not 0 <= point[axis] <= n]
-    if not outside:
+    kind = place_kind(n, point)
+    if kind is None:
+        return None
+    if kind == IN_BLOCK:
         return m * m * x + m * y + z
-    if len(outside) > 1:
-        return None
-    axis = outside[0]
-    if point[axis] not in (-1, n + 1):
-        return None
-    face = 2 * axis + (1 if point[axis] == n + 1 else 0)
-    i, j = (point[other] for other in range(3) if other != axis)
-    return m * m * m + m * m * face + m * i + j
+    i, j = (point[other] for other in range(3) if other != kind // 2)
+    return m * m * m + m * m * kind + m * i + j
 
 
 def store_length(n):
@@ -327,7 +342,7 @@ def read_point(n, samples, x, y, z):
     if refusal:
         return refusal
     place = sample_place(n, (x, y, z))
-    return Refusal(15) if place is None else samples[place]
+    return Refusal(15, len(axes_outside(n, (x, y, z)))) if place is None else samples[place]
 
 
 # Grid points
@@ -695,7 +710,7 @@ def mesh_stl(mesh):
                   [index for triangle in mesh.triangles for index in triangle])
 
 
-# The viewer's three calls
+# The viewer's calls
 
 def viewer_subdivisions(record):
     block = parse(record)
@@ -711,10 +726,31 @@ def viewer_blank(record):
     return int(len({inside(sample, threshold) for sample in in_block}) == 1)
 
 
-def viewer_sample(record, x, y, z):
+def record_point(record, x, y, z):
+    """A sample's bit pattern, or a refusal: the record's, then 15."""
     block = parse(record)
-    answer = block if isinstance(block, Refusal) else read_point(block.n, block.centre, x, y, z)
+    return block if isinstance(block, Refusal) else read_point(block.n, block.centre, x, y, z)
+
+
+def viewer_sample(record, x, y, z):
+    answer = record_point(record, x, y, z)
     return (1 << 32) + answer.number if isinstance(answer, Refusal) else answer
+
+
+def sample_kind(record, x, y, z):
+    """Document 02, [4]: a refusal's four numbers, the sample's bit pattern and its kind."""
+    answer = record_point(record, x, y, z)
+    if isinstance(answer, Refusal):
+        return (*answer, 0, 0)
+    return (0, 0, 0, 0, answer, place_kind(parse(record).n, (x, y, z)))
+
+
+def sample_line(record, x, y, z):
+    """The same as `sirveshan sample --plain` prints it, or the refusal's four numbers."""
+    *refused, answer, kind = sample_kind(record, x, y, z)
+    if any(refused):
+        return "refused %d %d %d %d" % tuple(refused)
+    return "%08x %s" % (answer, "in-block" if kind == IN_BLOCK else "face-%d" % kind)
 
 
 # The listing program
@@ -785,6 +821,7 @@ def viewer_text(record, point):
     lines = ["subdivisions %d" % viewer_subdivisions(record), "blank %d" % viewer_blank(record)]
     if point:
         lines.append("sample %d" % viewer_sample(record, *point))
+        lines.append("kind %s" % sample_line(record, *point))
     return "\n".join(lines) + "\n"
 
 

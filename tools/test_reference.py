@@ -54,6 +54,14 @@ class Figures(unittest.TestCase):
         for point in ((-1, -1, 0), (-2, 0, 0), (0, 4, 0), (3, 0, -1)):
             self.assertIsNone(reference.sample_place(2, point))
 
+    def test_place_kinds(self):
+        for point, kind in (((1, 2, 0), reference.IN_BLOCK), ((0, 0, 2), reference.IN_BLOCK), ((-1, 1, 2), 0), ((3, 0, 0), 1), ((0, -1, 0), 2),
+                            ((0, 3, 0), 3), ((0, 0, -1), 4), ((1, 2, 3), 5), ((-1, -1, 0), None), ((-2, 0, 0), None)):
+            self.assertEqual(reference.place_kind(2, point), kind)
+        samples = [ZERO] * 81
+        for point, count in (((-1, -1, 0), 2), ((-2, 0, 0), 1), ((0, 4, 0), 1), ((3, 0, -9), 2), ((9, 9, 9), 3)):
+            self.assertEqual(reference.read_point(2, samples, *point), reference.Refusal(15, count))
+
     def test_every_place_once(self):
         for n in (1, 2, 5):
             span = range(-2, n + 3)
@@ -303,7 +311,7 @@ class Points(unittest.TestCase):
     def test_point_read(self):
         samples = list(range(81))
         self.assertEqual(reference.read_point(2, samples, 1, 2, 3), 77)
-        self.assertEqual(reference.read_point(2, samples, 3, 3, 0), Refusal(15))
+        self.assertEqual(reference.read_point(2, samples, 3, 3, 0), Refusal(15, 2))
         self.assertEqual(reference.read_point(2, samples[1:], 9, 9, 9), Refusal(4, 81))
         self.assertEqual(reference.read_point(0, samples, 9, 9, 9), Refusal(1, 0))
 

@@ -1,6 +1,6 @@
 /*
- * Calls the viewer's three functions from C on good, blank and damaged records, and compares with the answers that
- * document 01 gives. bindings/c/check.sh builds and runs it.
+ * Calls the viewer's functions from C on good, blank and damaged records, and compares with the answers that documents 01
+ * and 02 give. bindings/c/check.sh builds and runs it.
  */
 #include "expect.h"
 
@@ -57,13 +57,36 @@ static void expect_sample(const char *what, const struct record *r, int32_t x, i
     expect(what, sirveshan_sample(r->bytes, r->length, x, y, z), wanted);
 }
 
-/* All three calls refuse, by the same number. */
+/* The call that tells the kind too: its value's bits and its kind, or a refusal with how many coordinates are outside. */
+static void expect_kind(const char *what, const struct record *r, int32_t x, int32_t y, int32_t z, uint32_t bits, size_t kind)
+{
+    sirveshan_sampled found = sirveshan_sample_kind(r->bytes, r->length, x, y, z);
+    uint32_t value;
+    memcpy(&value, &found.value, sizeof value);
+    expect(what, found.refused.number, 0);
+    expect(what, value, bits);
+    expect(what, found.kind, kind);
+    expect_sample(what, r, x, y, z, bits);
+}
+
+static void expect_kind_refused(const char *what, const struct record *r, int32_t x, int32_t y, int32_t z, size_t number, size_t first)
+{
+    sirveshan_sampled found = sirveshan_sample_kind(r->bytes, r->length, x, y, z);
+    expect(what, found.refused.number, number);
+    expect(what, found.refused.first, first);
+    expect(what, found.refused.second + found.refused.third + found.kind, 0);
+    expect(what, found.value == 0, 1);
+    expect_sample(what, r, x, y, z, SIRVESHAN_SAMPLE_REFUSED + number);
+}
+
+/* All calls refuse, by the same number. */
 static void expect_refused(const char *what, const struct record *r, uint64_t number)
 {
     expect(what, sirveshan_subdivisions(r->bytes, r->length), SIRVESHAN_REFUSED + number);
     expect(what, sirveshan_blank(r->bytes, r->length), SIRVESHAN_REFUSED + number);
     expect_sample(what, r, 0, 0, 0, SIRVESHAN_SAMPLE_REFUSED + number);
     expect_sample(what, r, 99, -99, 99, SIRVESHAN_SAMPLE_REFUSED + number);
+    expect(what, sirveshan_sample_kind(r->bytes, r->length, 99, -99, 99).refused.number, number);
 }
 
 static void expect_word_refused(const char *what, size_t at, uint32_t bits, uint64_t number)
@@ -100,6 +123,30 @@ static void good(void)
     expect_sample("two steps below", &r, 0, 0, -2, never);
     expect_sample("far below", &r, INT32_MIN, 0, 0, never);
     expect_sample("far above", &r, 0, INT32_MAX, 0, never);
+}
+
+/* The two points next to each face, on both sides of the border, and what is never sampled. */
+static void kinds(void)
+{
+    struct record r = record_of(2, 0, ZERO);
+    put_sample(&r, 0, ONE);
+    for (uint32_t face = 0; face < 6; face++)
+        put_sample(&r, SIRVESHAN_FACE_PLACE(2, face, 1, 2), ONE + face);
+    expect_kind("in the block", &r, 0, 0, 0, ONE, SIRVESHAN_IN_BLOCK);
+    expect_kind("its last point", &r, 2, 2, 2, ZERO, SIRVESHAN_IN_BLOCK);
+    expect_kind("x = -1", &r, -1, 1, 2, ONE, 0);
+    expect_kind("x = n+1", &r, 3, 1, 2, ONE + 1, 1);
+    expect_kind("y = -1", &r, 1, -1, 2, ONE + 2, 2);
+    expect_kind("y = n+1", &r, 1, 3, 2, ONE + 3, 3);
+    expect_kind("z = -1", &r, 1, 2, -1, ONE + 4, 4);
+    expect_kind("z = n+1", &r, 1, 2, 3, ONE + 5, 5);
+    expect_kind_refused("two outside", &r, -1, -1, 0, 15, 2);
+    expect_kind_refused("three outside", &r, -1, 3, 9, 15, 3);
+    expect_kind_refused("two steps outside", &r, 0, 4, 0, 15, 1);
+    expect_kind_refused("far below", &r, INT32_MIN, 0, 0, 15, 1);
+    expect_kind_refused("far above, twice", &r, 0, INT32_MAX, INT32_MAX, 15, 2);
+    r.bytes[4] = 2;
+    expect_kind_refused("the record first", &r, -1, -1, 0, 12, 2);
 }
 
 static void good_with_neighbours(void)
@@ -159,6 +206,7 @@ static void damaged(void)
 int main(void)
 {
     good();
+    kinds();
     good_with_neighbours();
     blank();
     damaged();

@@ -415,26 +415,46 @@ def check_info():
             assert (b"blank         yes" in said.stdout) == (reference.viewer_blank(record) == 1), said.stdout
 
 
+def graded(n):
+    """A record whose samples all differ."""
+    return reference.record_of(records.sampled_block(lambda x, y, z: x - 10 * y + 100 * z, n, 1))
+
+
 def check_samples():
     n = 2
-    block = records.sampled_block(lambda x, y, z: x - 10 * y + 100 * z, n, 1)
-    record = reference.record_of(block)
+    record = graded(n)
     never = sampled = 0
     for point in [(x, y, z) for x in range(-1, n + 2) for y in range(-1, n + 2) for z in (-1, 0, n, n + 1)] + [
             (-2, 0, 0), (0, n + 2, 0), (-2 ** 31, 0, 0), (0, 2 ** 31 - 1, 0)]:
-        answer = reference.viewer_sample(record, *point)
+        answer = reference.record_point(record, *point)
         done = run("sample", "-", *point, "--plain", given=record)
-        if answer >= 1 << 32:
-            refused(done, reference.Refusal(answer - (1 << 32)))
+        if isinstance(answer, reference.Refusal):
+            refused(done, answer)
             never += 1
         else:
-            accepted(done, "%08x\n" % answer)
+            line = reference.sample_line(record, *point)
+            accepted(done, line + "\n")
             said = run("sample", "-", *point, given=record)
             same("status", said.returncode, 0)
-            side = b"inside" if reference.value(answer) >= 0 else b"outside"
-            assert b"bits %08x, %s" % (answer, side) in said.stdout, said.stdout
+            side = "inside" if reference.value(answer) >= 0 else "outside"
+            assert "bits %08x, %s" % (answer, side) in said.stdout.decode(), said.stdout
+            assert ", " + line.split()[1] in said.stdout.decode(), said.stdout
             sampled += 1
     assert never > 10 and sampled > 30
+
+
+def check_gradient_reads():
+    """At each point of the block, and at one on a face, which has no gradient."""
+    n = 2
+    record = graded(n)
+    for point in [(x, y, z) for x in range(n + 1) for y in range(n + 1) for z in range(n + 1)]:
+        lines = [reference.sample_line(record, *step) for pair in reference.steps_around(point) for step in pair]
+        accepted(run("sample", "-", *point, "--gradient", "--plain", given=record), "".join(line + "\n" for line in lines))
+        said = run("sample", "-", *point, "--gradient", given=record)
+        same("status", said.returncode, 0)
+        kinds = [line.split(", ")[-1].split()[0] for line in said.stdout.decode().splitlines()[1:]]
+        same("kinds", kinds, [line.split()[1] for line in lines])
+    refused(run("sample", "-", -1, 0, 0, "--gradient", given=record), reference.Refusal(15, 1))
 
 
 # STL files

@@ -7,36 +7,12 @@
    eight bytes each, then all of the lent buffer, which every call finds filled with MARK: as an f32
    a signalling NaN, which no arithmetic leaves as it is. */
 
-#include <stdint.h>
-#include <stdio.h>
-#include <stdlib.h>
-#include <string.h>
+#define PROGRAM "stl_answers"
+#include "answering.h"
 
 #include "sirveshan.h"
 
 #define MARK 0x7fa5a5a5u
-
-static void fail(const char *what)
-{
-    fprintf(stderr, "stl_answers: %s\n", what);
-    exit(1);
-}
-
-static void *room(size_t bytes)
-{
-    void *made = malloc(bytes + 4);
-    if (!made)
-        fail("no memory");
-    return made;
-}
-
-static void *given(size_t bytes)
-{
-    void *made = room(bytes);
-    if (fread(made, 1, bytes, stdin) != bytes)
-        fail("a call is cut short");
-    return made;
-}
 
 static void *marked(size_t bytes)
 {
@@ -47,19 +23,11 @@ static void *marked(size_t bytes)
     return made;
 }
 
-static void put(const void *buffer, size_t bytes)
-{
-    if (fwrite(buffer, 1, bytes, stdout) != bytes)
-        fail("cannot write");
-}
-
 static void answer(sirveshan_refusal refused, size_t figure, const void *lent, size_t bytes)
 {
     uint64_t numbers[5] = {refused.number, refused.first, refused.second, refused.third, figure};
     put(numbers, sizeof numbers);
-    put(lent, bytes);
-    if (fflush(stdout))
-        fail("cannot write");
+    put_last(lent, bytes);
 }
 
 static void write_call(size_t floats, size_t corners, size_t length)

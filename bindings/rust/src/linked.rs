@@ -43,10 +43,18 @@ pub struct TrianglesRead {
     pub triangles: usize,
 }
 
+#[repr(C)]
+pub struct Sampled {
+    pub refused: CRefusal,
+    pub value: f32,
+    pub kind: usize,
+}
+
 extern "C" {
     pub fn sirveshan_subdivisions(src: *const u8, length: usize) -> u64;
     pub fn sirveshan_blank(src: *const u8, length: usize) -> u64;
     pub fn sirveshan_sample(src: *const u8, length: usize, x: i32, y: i32, z: i32) -> u64;
+    pub fn sirveshan_sample_kind(src: *const u8, length: usize, x: i32, y: i32, z: i32) -> Sampled;
     pub fn sirveshan_extract(
         header: CHeader,
         centre: *const f32,

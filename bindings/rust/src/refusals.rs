@@ -26,7 +26,7 @@ pub(crate) fn words(number: u32, [first, second, third]: [usize; 3]) -> Option<S
         12 => format!("record version {first}: not 1"),
         13 => format!("the record needs {first} samples"),
         14 => format!("the lent buffer needs {first} places"),
-        15 => "that grid point was never sampled".to_string(),
+        15 => format!("that grid point was never sampled: coordinates outside: {first}"),
         16 => format!("STL: the file needs {first} bytes (0: more triangles than 32 bits hold)"),
         17 => format!("triangle {first} names no vertex"),
         _ => return None,

@@ -1,7 +1,8 @@
-//! The three calls that a viewer makes with the bytes of one record. They judge the record whole, as the reader does, and
-//! write nowhere.
+//! The calls that a viewer makes with the bytes of one record. They judge the record whole, as the reader does, and write
+//! nowhere.
 
-use crate::{linked, read_record, Refusal};
+use crate::{linked, read_record, Refusal, Side};
+use std::fmt;
 
 const REFUSED: u64 = 100;
 const SAMPLE_REFUSED: u64 = 1 << 32;
@@ -33,8 +34,49 @@ pub fn sample(record: &[u8], x: i32, y: i32, z: i32) -> Result<f32, Refusal> {
     let answer = unsafe { linked::sirveshan_sample(record.as_ptr(), record.len(), x, y, z) };
     match answer.checked_sub(SAMPLE_REFUSED) {
         None => Ok(f32::from_bits(answer as u32)),
-        Some(number) => Err(refusal(record, number)),
+        // The packed number is a refusal's alone: the call beside it tells its three numbers too.
+        Some(_) => sample_kind(record, x, y, z).map(|sampled| sampled.value),
     }
+}
+
+/// The store that a sample came from. `Display` says `in-block`, or `face-` and the face's number.
+#[derive(Clone, Copy, Debug, PartialEq, Eq)]
+pub enum PlaceKind {
+    /// A point of the block itself.
+    InBlock,
+    /// A point one step outside, on the extension face beyond this side.
+    Face(Side),
+}
+
+impl fmt::Display for PlaceKind {
+    fn fmt(&self, out: &mut fmt::Formatter<'_>) -> fmt::Result {
+        match self {
+            PlaceKind::InBlock => out.write_str("in-block"),
+            PlaceKind::Face(side) => write!(out, "face-{}", side.number()),
+        }
+    }
+}
+
+/// A sample and the store that it came from.
+#[derive(Clone, Copy, Debug, PartialEq)]
+pub struct Sampled {
+    /// The sample.
+    pub value: f32,
+    /// Where it is stored.
+    pub kind: PlaceKind,
+}
+
+/// The sample at a grid point, as [`sample`] answers it, with the store that it came from. The first
+/// number of refusal 15 is how many coordinates are outside, 1 to 3.
+pub fn sample_kind(record: &[u8], x: i32, y: i32, z: i32) -> Result<Sampled, Refusal> {
+    // SAFETY: the pointer goes with the length of its slice, which lives through the call.
+    let answer = unsafe { linked::sirveshan_sample_kind(record.as_ptr(), record.len(), x, y, z) };
+    answer.refused.check()?;
+    let kind = match Side::ALL.get(answer.kind) {
+        Some(&side) => PlaceKind::Face(side),
+        None => PlaceKind::InBlock,
+    };
+    Ok(Sampled { value: answer.value, kind })
 }
 
 /// The refusal of a call that tells the number alone: the reader, which judges the same in the same

@@ -1,8 +1,9 @@
 //! Records: both round trips, each refusal of reader and writer with the lent buffer unchanged, and the viewer's calls.
 
+use sirveshan::viewer::{self, PlaceKind, Sampled};
 use sirveshan::{
-    neighbours_length, read_record, record_length, sample_length, sample_place, viewer,
-    write_record, Block, Header, Mesher, Record, Refusal,
+    neighbours_length, read_record, record_length, sample_length, sample_place, write_record,
+    Block, Header, Mesher, Record, Refusal, Side,
 };
 
 const MARK: u32 = 0x7fa5_a5a5;
@@ -38,6 +39,7 @@ fn reading_refused(bytes: &[u8], number: u32, values: [usize; 3]) {
     assert_eq!(viewer::subdivisions(bytes), Err(Refusal { number, values }));
     assert_eq!(viewer::blank(bytes), Err(Refusal { number, values }));
     assert_eq!(viewer::sample(bytes, 0, 0, 0), Err(Refusal { number, values }));
+    assert_eq!(viewer::sample_kind(bytes, 0, 0, 0), Err(Refusal { number, values }));
 }
 
 fn writing_refused(record: &Record, number: u32, values: [usize; 3]) {
@@ -115,15 +117,39 @@ fn the_viewer_reads() {
     let bytes = record(2, 1).write().unwrap();
     assert_eq!(viewer::subdivisions(&bytes), Ok(2));
     assert_eq!(viewer::blank(&bytes), Ok(false));
-    for point in [[0, 0, 0], [1, 2, 0], [2, 2, 2], [-1, 1, 2], [1, 2, 3], [3, 0, 0], [0, -1, 2]] {
-        let place = sample_place(2, point).unwrap();
+    for (point, kind) in [
+        ([0, 0, 0], PlaceKind::InBlock),
+        ([1, 2, 0], PlaceKind::InBlock),
+        ([2, 2, 2], PlaceKind::InBlock),
+        ([-1, 1, 2], PlaceKind::Face(Side::LowX)),
+        ([3, 0, 0], PlaceKind::Face(Side::HighX)),
+        ([0, -1, 2], PlaceKind::Face(Side::LowY)),
+        ([2, 3, 0], PlaceKind::Face(Side::HighY)),
+        ([0, 2, -1], PlaceKind::Face(Side::LowZ)),
+        ([1, 2, 3], PlaceKind::Face(Side::HighZ)),
+    ] {
+        let value = sample_place(2, point).unwrap() as f32;
         let [x, y, z] = point;
-        assert_eq!(viewer::sample(&bytes, x, y, z), Ok(place as f32));
+        assert_eq!(viewer::sample(&bytes, x, y, z), Ok(value));
+        assert_eq!(viewer::sample_kind(&bytes, x, y, z), Ok(Sampled { value, kind }));
     }
-    for [x, y, z] in [[-1, -1, 0], [0, 4, 0], [0, 0, -2], [i32::MIN, 0, 0], [0, i32::MAX, 0]] {
+}
+
+#[test]
+fn a_point_never_sampled_tells_how_many_coordinates_are_outside() {
+    let bytes = record(2, 1).write().unwrap();
+    for ([x, y, z], outside) in [
+        ([-1, -1, 0], 2),
+        ([-1, 3, 9], 3),
+        ([0, 4, 0], 1),
+        ([0, 0, -2], 1),
+        ([i32::MIN, 0, 0], 1),
+        ([0, i32::MAX, 0], 1),
+    ] {
         assert_eq!(sample_place(2, [x, y, z]), None);
-        let never = Refusal { number: 15, values: [0; 3] };
+        let never = Refusal { number: 15, values: [outside, 0, 0] };
         assert_eq!(viewer::sample(&bytes, x, y, z), Err(never));
+        assert_eq!(viewer::sample_kind(&bytes, x, y, z), Err(never));
     }
 }
 

@@ -1,6 +1,7 @@
 // The point read around every border of a block, for n = 1, 2 and 16. A point's number has its coordinates, each two up, as digits in
 // base 32, x first. Each sample is laid down as its point's number, in the order in which document 01 lists the samples; each point is
-// then read by its coordinates, and gives its own number back or was never sampled.
+// then read by its coordinates, and gives its own number back, from the part that it was laid in, or was never sampled, with as many
+// coordinates outside as there are.
 ghost use Prim.Native.Nat.{_≤_, _<_};
 ghost use Rattle.model.specs.Limits.{mostSubdivisions};
 use crate::tally::Tally;
@@ -82,6 +83,20 @@ fn part(n: usize, number: usize) -> usize
     0
 }
 
+fn one_outside(n: usize, c: usize) -> usize
+    requires { ⌜ n ≤ mostSubdivisions ⌝ }
+    ensures { λ r. ⌜ r ≤ 1 ⌝ }
+{
+    if outside(n, c) == 0 { 0 } else { 1 }
+}
+
+// How many coordinates are outside 0..n.
+fn outside_count(n: usize, number: usize) -> usize
+    requires { ⌜ n ≤ mostSubdivisions ⌝ }
+{
+    one_outside(n, number / 1024) + one_outside(n, number / 32 % 32) + one_outside(n, number % 32)
+}
+
 fn mark(number: usize) -> f32
     requires { ⌜ number < 21504 ⌝ }
 {
@@ -129,10 +144,11 @@ fn read_back(t: Tally, n: usize, samples: &[f32], number: usize) -> Tally
     let y = SIGNED[number / 32 % 32];
     let z = SIGNED[number % 32];
     let read = read_point(n, samples, x, y, z);
-    if part(n, number) == 0 {
-        return read_refuses(t, read, 15, 0);
+    let from = part(n, number);
+    if from == 0 {
+        return read_refuses(t, read, 15, outside_count(n, number));
     }
-    read_gives(t, read, mark(number))
+    read_gives(t, read, mark(number), from)
 }
 
 fn read_all(t: Tally, n: usize, samples: &[f32]) -> Tally
@@ -152,9 +168,9 @@ fn refusals(t: Tally) -> Tally {
     let t = read_refuses(t, read_point(17, &samples[..81], 0, 0, 0), 1, 17);
     let t = read_refuses(t, read_point(2, &samples[..80], -5, 0, 0), 4, 81);
     let t = read_refuses(t, read_point(2, &samples[..82], 0, 0, 0), 4, 81);
-    let t = read_refuses(t, read_point(2, &samples[..81], -1, -1, 0), 15, 0);
-    let t = read_refuses(t, read_point(2, &samples[..81], 2147483647, 0, 0), 15, 0);
-    read_refuses(t, read_point(2, &samples[..81], 0, 0, -2147483648), 15, 0)
+    let t = read_refuses(t, read_point(2, &samples[..81], -1, -1, 0), 15, 2);
+    let t = read_refuses(t, read_point(2, &samples[..81], 2147483647, 0, 0), 15, 1);
+    read_refuses(t, read_point(2, &samples[..81], 0, 0, -2147483648), 15, 1)
 }
 
 fn smallest(t: Tally) -> Tally {

@@ -1,5 +1,6 @@
 // How many answers agreed and how many did not. One that did not is named by its number, counted from 0.
 use judge::numbers_of;
+use model::PlaceKind;
 use model::PointRead;
 use model::Refusal;
 use model::Verdict;
@@ -60,15 +61,23 @@ pub fn refuses(
 // A read refuses with this number and this first of its three.
 pub fn read_refuses(t: Tally, read: PointRead, number: usize, first: usize) -> Tally {
     match read {
-        PointRead::Value(_) => noted(t, false),
+        PointRead::Value(_, _) => noted(t, false),
         PointRead::Refused(r) => noted(t, is_refusal(r, number, first, 0, 0)),
     }
 }
 
-// A read answers this value.
-pub fn read_gives(t: Tally, read: PointRead, value: f32) -> Tally {
+// A kind as reads.rt numbers the parts of a block's samples: 1 in the block, 2 to 7 the faces.
+fn is_part(kind: PlaceKind, part: usize) -> bool {
+    match kind {
+        PlaceKind::InBlock => part == 1,
+        PlaceKind::Face(face) => (2 <= part) && face == part - 2,
+    }
+}
+
+// A read answers this value, from this part of the samples.
+pub fn read_gives(t: Tally, read: PointRead, value: f32, part: usize) -> Tally {
     match read {
-        PointRead::Value(v) => noted(t, v == value),
+        PointRead::Value(v, kind) => noted(t, is_part(kind, part) && v == value),
         PointRead::Refused(_) => noted(t, false),
     }
 }

@@ -1,4 +1,4 @@
-// Runs the vectors of data/, which tools/record_vectors.py makes and describes: the reader, the writer and the viewer's three calls on
+// Runs the vectors of data/, which tools/record_vectors.py makes and describes: the reader, the writer and the viewer's calls on
 // records and blocks, answers and lent buffers held against what the vectors say. Writes how many of each file agreed.
 mod reading;
 mod vectors;

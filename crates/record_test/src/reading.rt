@@ -5,9 +5,12 @@ ghost use lib.ListN.{length};
 use crate::vectors::word;
 use judge::numbers_of;
 use model::Header;
+use model::PlaceKind;
+use model::PointRead;
 use model::RecordRead;
 use record::reader::read_record;
 use viewer::blank;
+use viewer::read_point;
 use viewer::sample;
 use viewer::subdivisions;
 use words::floats::bits_of;
@@ -90,6 +93,29 @@ fn samples_agree(vector: &[u8], from: usize, filled: usize, samples: &[f32]) -> 
     true
 }
 
+// A face's kind is its number, and in-block 6.
+fn kind_agrees(vector: &[u8], at: usize, kind: PlaceKind) -> bool
+    requires { ⌜ at ≤ 1048832 ⌝ }
+{
+    match kind {
+        PlaceKind::InBlock => word(vector, at) == 6,
+        PlaceKind::Face(face) => word(vector, at) as usize == face,
+    }
+}
+
+fn read_point_agrees(vector: &[u8], at: usize, read: PointRead) -> bool
+    requires { ⌜ at ≤ 1048576 ⌝ }
+{
+    match read {
+        PointRead::Value(_, kind) => kind_agrees(vector, at + 20, kind)
+            && word(vector, at + 24) == 0,
+        PointRead::Refused(refusal) => {
+            word(vector, at + 20) == 0
+                && numbers_of(refusal).first == word(vector, at + 24) as usize
+        }
+    }
+}
+
 fn point_agrees(vector: &[u8], at: usize, src: &[u8]) -> bool
     requires { ⌜ at ≤ 1048576 ⌝ }
 {
@@ -99,13 +125,14 @@ fn point_agrees(vector: &[u8], at: usize, src: &[u8]) -> bool
     let found = sample(src, x, y, z);
     found % 4294967296 == word(vector, at + 12) as u64
         && found / 4294967296 == word(vector, at + 16) as u64
+        && read_point_agrees(vector, at, read_point(src, x, y, z))
 }
 
 fn points_agree(vector: &[u8], from: usize, points: usize, src: &[u8]) -> bool
     requires { ⌜ (from ≤ 262144) × (points ≤ 1024) ⌝ }
 {
     for k in 0..points {
-        if !point_agrees(vector, from + 20 * k, src) {
+        if !point_agrees(vector, from + 28 * k, src) {
             return false;
         }
     }
