@@ -34,6 +34,13 @@ module _ (f : ℕ → Verdict) where
   pub not-yet : (k : ℕ) → first f k ≡ Passed → f k ≡ Passed → first f (k + 1) ≡ Passed
   not-yet k before here = rw (add-one, before, here)
 
+  -- no refusal among several: none at each place
+  pub each-passed : (n k : ℕ) → first f n ≡ Passed → k < n → f k ≡ Passed
+  each-passed zero k e h = absurd (not-suc-le-zero h)
+  each-passed (suc n) k e h =
+      ⊎-elim (λ q. rw q (both-passed (first f n) (f n) e .1)) (λ l. each-passed n k (both-passed (first f n) (f n) e .0) l)
+      (eq-or-lt-of-le (le-of-suc-le-suc h))
+
   -- no refusal so far, and none at the places that are passed over
   pub passed-over : (j k : ℕ) → first f j ≡ Passed → ((i : ℕ) → j ≤ i → i < k → f i ≡ Passed) → j ≤ k → first f k ≡ Passed
   passed-over j zero before between l = refl

@@ -10,3 +10,5 @@ pub mod Sums
 pub mod Tests
 pub mod Below
 pub mod Counting
+-- what tests and sums over a range come to
+pub mod Ranges

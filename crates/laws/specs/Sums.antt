@@ -13,7 +13,7 @@ pub total-same : (f g : ℕ → ℕ) (n : ℕ) → ((k : ℕ) → k < n → f k 
 total-same f g zero h = refl
 total-same f g (suc n) h = ap₂ _+_ (total-same f g n (λ k l. h k (le-step l))) (h n (le-refl _))
 
-total-none : (f : ℕ → ℕ) (n : ℕ) → ((k : ℕ) → k < n → f k ≡ 0) → total f n ≡ 0
+pub total-none : (f : ℕ → ℕ) (n : ℕ) → ((k : ℕ) → k < n → f k ≡ 0) → total f n ≡ 0
 total-none f zero h = refl
 total-none f (suc n) h = ap₂ _+_ (total-none f n (λ k l. h k (le-step l))) (h n (le-refl _))
 

@@ -11,6 +11,8 @@ pub mod Judging
 pub mod Extraction
 pub mod Words
 pub mod Record
+pub mod Blank
 pub mod Viewer
 pub mod Figures
+pub mod Ledges
 pub mod Pinned

@@ -4,7 +4,7 @@ use mathlib.Core.Bool.{_&&_}
 use mathlib.Core.List.{List, [], _∷_, _++_}
 use lib.Dec.{eqb, leb}
 use lib.Ieee.{Float}
-use lib.ListN.{length, getD}
+use lib.ListN.{length, getD, take, drop}
 use Rattle.model.specs.declared.Header.{Header}
 use Rattle.model.specs.declared.Refusal.the-variants.{RecordLength, Version, SampleCount}
 use Rattle.model.specs.declared.Verdict.{Verdict}
@@ -14,12 +14,13 @@ use Rattle.model.specs.declared.RecordRead.the-variants as RecordRead
 use Rattle.model.specs.declared.RecordWritten.{RecordWritten}
 use Rattle.model.specs.declared.RecordWritten.the-variants as RecordWritten
 use Rattle.laws.specs.Steps.{listed, each, laid}
+use Rattle.model.specs.Samples.{sampleLength}
 use Rattle.model.specs.Sides.{sampleCount}
 use Rattle.model.specs.Words.{wordAt, wordBytes, floatAt, floatBytes}
 use Rattle.model.specs.Formulas.{vector}
 use Rattle.model.specs.Refusals.{unless, orElse}
 use Rattle.model.specs.Judging.{judgeSubdivisions, judgeMask, judgeMeasures, judgeSamples, judgeBuffer, judgeStar}
-use Rattle.model.specs.Star.{star}
+use Rattle.model.specs.Star.{Star, star}
 
 -- ---- where the fields stand: the length first, a byte each for version, subdivisions and mask, then floats
 
@@ -69,6 +70,12 @@ countOf bytes = sampleCount (headerOf bytes .block .subdivisions) (headerOf byte
 -- centre first
 unfoldable pub samplesOf : List ℕ → List Float
 samplesOf bytes = listed (λ k. floatAt bytes (sampleFrom k)) (countOf bytes)
+
+-- the block of a record with its neighbours
+abbrev pub starOf : List ℕ → Star
+starOf bytes =
+    let own = sampleLength (headerOf bytes .block .subdivisions) in
+    star (headerOf bytes) (take own (samplesOf bytes)) (drop own (samplesOf bytes))
 
 -- 11
 abbrev pub judgeLength : List ℕ → Verdict

@@ -1,23 +1,20 @@
--- Document 01, 'Block record': the three calls that serve the viewer, from record bytes to a packed number; and document 02, [4]: the point read of a
--- record. Definitions only.
+-- Document 01, 'Block record', with document 02, [3]: the three calls that serve the viewer, from record bytes to a packed number; and document 02, [4]:
+-- the point read of a record. Definitions only.
 use Prim.Native.Nat.{ℕ, _+_, _*_, _^_}
-use mathlib.Core.Bool.{cond, _||_}
+use mathlib.Core.Bool.{cond}
 use mathlib.Core.List.{List}
-use lib.Dec.{eqb}
 use lib.IntN.{ℤ}
 use lib.Ieee as Ieee
-use lib.Ieee.{Float, binary32, nan}
-use lib.ListN.{getD}
+use lib.Ieee.{binary32}
 use Rattle.model.specs.declared.PointRead.{PointRead}
 use Rattle.model.specs.declared.PointRead.the-variants as PointRead
 use Rattle.model.specs.declared.Verdict.{Verdict}
 use Rattle.model.specs.declared.Verdict.the-variants.{Passed, Refused}
-use Rattle.laws.specs.Steps.{total}
 use Rattle.model.specs.Samples.{readingAt, oneUp}
-use Rattle.model.specs.Formulas.{insideBit}
 use Rattle.model.specs.Refusals.{numbersOf}
 use Rattle.model.specs.Extraction.{pointAnswer}
-use Rattle.model.specs.Record.{headerOf, samplesOf, judgeRecord}
+use Rattle.model.specs.Record.{headerOf, samplesOf, starOf, judgeRecord}
+use Rattle.model.specs.Blank.{isBlank, blankBefore}
 
 -- the answer, or a base plus the refusal's number
 abbrev pub packed : ℕ → Verdict → ℕ → ℕ
@@ -27,16 +24,15 @@ packed base (Refused r) answer = base + numbersOf r .number
 unfoldable pub subdivisionsAnswer : List ℕ → ℕ
 subdivisionsAnswer bytes = packed 100 (judgeRecord bytes) (headerOf bytes .block .subdivisions)
 
--- all (n+1)^3 in-block centre samples lie on one side of the threshold: none of them is inside, or each is
-abbrev pub blankOf : ℕ → Float → List Float → ℕ
-blankOf points threshold samples =
-    let insides = total (λ k. insideBit threshold (getD samples k nan)) points in
-    cond (eqb insides 0 || eqb insides points) 1 0
-
+-- whether its block is blank
 unfoldable pub blankAnswer : List ℕ → ℕ
-blankAnswer bytes =
+blankAnswer bytes = packed 100 (judgeRecord bytes) (cond (isBlank (starOf bytes)) 1 0)
+
+-- as document 01 had it, before document 02, [3]
+unfoldable pub blankAnswerBefore : List ℕ → ℕ
+blankAnswerBefore bytes =
     let m = headerOf bytes .block .subdivisions + 1 in
-    packed 100 (judgeRecord bytes) (blankOf (m * m * m) (headerOf bytes .threshold) (samplesOf bytes))
+    packed 100 (judgeRecord bytes) (blankBefore (m * m * m) (headerOf bytes .threshold) (samplesOf bytes))
 
 -- document 02, [4]: the point read of a record's centre: the record's refusals, then 15
 unfoldable pub recordPoint : List ℕ → ℤ → ℤ → ℤ → PointRead

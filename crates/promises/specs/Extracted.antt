@@ -71,6 +71,11 @@ module _ (s : Star) (lent : Lent) where
     unfolding judgeExtraction
     passed = both-passed (judgeStar s) _ (accepted .0) .0
 
+    -- 8 has passed
+    pub faces-passed : judgeFaces s ≡ Passed
+    unfolding judgeExtraction
+    faces-passed = both-passed (judgeFaces s) _ (both-passed (judgeStar s) _ (accepted .0) .1) .0
+
     -- 9 and 10 have passed
     record Room : Type 0 where
       store-fits : storeLength (subdivisions s) ≤ length (lent .store)

@@ -1,7 +1,8 @@
 -- The theorem: all that was promised holds.
-use Prim.Native.Nat.{_+_, _*_}
-use Rattle.model.specs.Record.{headerOf, samplesOf}
-use Rattle.model.specs.Viewer.{subdivisionsAnswer, blankOf, blankAnswer}
+use mathlib.Core.Bool.{cond}
+use Rattle.model.specs.Record.{headerOf, starOf}
+use Rattle.model.specs.Blank.{isBlank}
+use Rattle.model.specs.Viewer.{subdivisionsAnswer, blankAnswer}
 use Rattle.model.specs.Figures.{figures-agree}
 use Rattle.record.specs.RoundTrip.{read-write, write-read}
 use Rattle.promises.specs.Promises.{Promises}
@@ -11,6 +12,7 @@ use Rattle.promises.specs.Room.{enough}
 use Rattle.promises.specs.StlKept.{stl-kept}
 use Rattle.promises.specs.NestingKept.{nesting-kept}
 use Rattle.promises.specs.PlaceKindsKept.{place-kinds-kept}
+use Rattle.promises.specs.BlankKept.{blank-kept}
 use Rattle.promises.specs.Views.{point, packed-record, subdivisions-apart, blank-apart, viewer-sample}
 
 pub kept : Promises
@@ -26,10 +28,7 @@ kept =
         writing-untouched = writing-untouched;
         point = point;
         viewer-subdivisions = λ bytes. packed-record bytes 100 (headerOf bytes .block .subdivisions) (subdivisions-apart bytes);
-        viewer-blank = λ bytes.
-            let m = headerOf bytes .block .subdivisions + 1 in
-            packed-record bytes 100 (blankOf (m * m * m) (headerOf bytes .threshold) (samplesOf bytes))
-            (λ e. blank-apart (m * m * m) (headerOf bytes .threshold) (samplesOf bytes));
+        viewer-blank = λ bytes. packed-record bytes 100 (cond (isBlank (starOf bytes)) 1 0) (λ e. blank-apart (isBlank (starOf bytes)));
         viewer-sample = viewer-sample;
       };
       definition = record { mesh = equal-mesh; wanted = wanted; samples = samples-laid; bytes = bytes-laid };
@@ -39,5 +38,6 @@ kept =
       stl = stl-kept;
       nesting = nesting-kept;
       place-kinds = place-kinds-kept;
+      blank = blank-kept;
       starred = figures-agree;
     }

@@ -1,5 +1,5 @@
--- What calls leave in the buffers lent to them: a buffer whose first places are laid, and the mesh that stands in extraction's buffers.
--- Definitions only.
+-- What calls leave in the buffers lent to them: a buffer whose first places are laid, the mesh that stands in extraction's buffers, and the samples that
+-- stand in the reader's. Definitions only.
 use Prim.Native.Nat.{ℕ, _+_, _*_}
 use mathlib.Core.Path.{_≡_}
 use mathlib.Core.List.{List}
@@ -9,7 +9,10 @@ use Rattle.laws.specs.Steps.{listed}
 use Rattle.model.specs.declared.Vertex.{Vertex}
 use Rattle.model.specs.declared.Triangle.{Triangle}
 use Rattle.model.specs.declared.Counts.{Counts}
+use Rattle.model.specs.declared.Header.{Header}
 use Rattle.model.specs.declared.Extraction.{Extraction}
+use Rattle.model.specs.Samples.{sampleLength}
+use Rattle.model.specs.Sides.{neighboursLength}
 use Rattle.model.specs.Formulas.{vector}
 use Rattle.model.specs.Star.{Star}
 use Rattle.model.specs.Mesh.{Mesh, regularMesh, meshOf}
@@ -67,3 +70,10 @@ regularPart s b =
       triangles = listed (triangleIn b) (length (regularMesh s .triangles));
       store = b .store;
     }
+
+-- the centre's samples and the neighbours', in a list that was read
+abbrev pub centreOf : Header → List Float → List Float
+centreOf h read = take (sampleLength (h .block .subdivisions)) read
+
+abbrev pub neighboursOf : Header → List Float → List Float
+neighboursOf h read = take (neighboursLength (h .block .subdivisions) (h .mask)) (drop (sampleLength (h .block .subdivisions)) read)

@@ -3,6 +3,7 @@ pub mod Promises
 pub mod Stl
 pub mod Nesting
 pub mod PlaceKinds
+pub mod Blank
 pub mod Orders
 pub mod Points
 pub mod Left
@@ -19,3 +20,4 @@ pub mod Views
 pub mod StlKept
 pub mod NestingKept
 pub mod PlaceKindsKept
+pub mod BlankKept

@@ -1,16 +1,17 @@
--- What the buyer was promised, in nine parts, for every input; `Kept.kept` is the theorem that all of it holds. It speaks of what the public calls
+-- What the buyer was promised, part by part, for every input; `Kept.kept` is the theorem that all of it holds. It speaks of what the public calls
 -- answer and leave in the buffers lent to them: the model's `extract`, `readRecord`, `writeRecord`, `readPoint`, `recordPoint` and the viewer's three answers, to
 -- each of which the `ensures` of the call says that the code is equal. The words are set down in Orders (judging), Left (buffers) and closed's Clauses (no hole);
--- what was promised of STL stands in Stl, of places in Nesting, and of where a sample came from in PlaceKinds. Definitions only.
+-- what was promised for a request of document 02 stands in a file of its own. Definitions only.
 use Prim.Native.Nat.{ℕ, _+_, _*_, _^_, _≤_, _<_}
 use mathlib.Core.Path.{_≡_}
+use mathlib.Core.Bool.{cond}
 use mathlib.Core.List.{List, [], _∷_, _++_, map}
 use lib.Count.{ones}
 use lib.Dec.{T}
 use lib.IntN.{ℤ}
 use lib.Ieee as Ieee
 use lib.Ieee.{Float, nan, binary32, fits}
-use lib.ListN.{length, getD, take, drop}
+use lib.ListN.{length, getD, take}
 use Rattle.laws.specs.Steps.{each, laid}
 use Rattle.model.specs.declared.Counts.{Counts}
 use Rattle.model.specs.declared.Header.{Header}
@@ -28,16 +29,18 @@ use Rattle.model.specs.Star.{Star, subdivisions}
 use Rattle.model.specs.Judging.{judgeBuffer}
 use Rattle.model.specs.Mesh.{storeLength, regularMesh, meshOf}
 use Rattle.model.specs.Extraction.{vertexFloats, triangleIndices, readPoint}
-use Rattle.model.specs.Record.{headerLength, headerOf, countOf, samplesOf, recordOf, readRecord, writeRecord}
-use Rattle.model.specs.Viewer.{subdivisionsAnswer, blankOf, blankAnswer, sampleAnswer}
+use Rattle.model.specs.Record.{headerLength, headerOf, countOf, samplesOf, starOf, recordOf, readRecord, writeRecord}
+use Rattle.model.specs.Blank.{isBlank}
+use Rattle.model.specs.Viewer.{subdivisionsAnswer, blankAnswer, sampleAnswer}
 use Rattle.model.specs.Figures.{Figure, figures}
 use Rattle.closed.specs.Clauses.{NoHole}
-use Rattle.promises.specs.Left.{Laid, Lent, answered, left, counts, regularPart}
+use Rattle.promises.specs.Left.{Laid, Lent, answered, left, counts, regularPart, centreOf, neighboursOf}
 use Rattle.promises.specs.Orders.{Judged, Packed, extractionJudges, writingJudges, recordJudges, readingJudges, pointJudges, sampleJudges}
 use Rattle.promises.specs.Points.{pointValue, pointKind}
 use Rattle.promises.specs.Stl.{StlPromises}
 use Rattle.promises.specs.Nesting.{NestingPromises}
 use Rattle.promises.specs.PlaceKinds.{PlaceKindPromises}
+use Rattle.promises.specs.Blank.{BlankPromises}
 
 -- ---- 1. every call is answered
 
@@ -67,9 +70,7 @@ pub record EveryCallIsAnswered : Type 0 where
       (readPoint n samples x y z ≡ PointRead.Value (pointValue n samples x y z) (pointKind n x y z))
   -- the viewer's calls answer n, whether the block is blank, and a point's bits; or 100 and 2^32 plus the number of the first refusal
   pub viewer-subdivisions : (bytes : List ℕ) → Packed (recordJudges bytes) 100 (headerOf bytes .block .subdivisions) (subdivisionsAnswer bytes)
-  pub viewer-blank : (bytes : List ℕ)
-      → let m = headerOf bytes .block .subdivisions + 1 in
-      Packed (recordJudges bytes) 100 (blankOf (m * m * m) (headerOf bytes .threshold) (samplesOf bytes)) (blankAnswer bytes)
+  pub viewer-blank : (bytes : List ℕ) → Packed (recordJudges bytes) 100 (cond (isBlank (starOf bytes)) 1 0) (blankAnswer bytes)
   pub viewer-sample : (bytes : List ℕ) (x y z : ℤ)
       → Packed (sampleJudges bytes x y z) (2 ^ 32)
       (Ieee.toBits binary32 (pointValue (headerOf bytes .block .subdivisions) (samplesOf bytes) x y z)) (sampleAnswer bytes x y z)
@@ -119,13 +120,6 @@ AreFloats floats = (k : ℕ) → T (fits binary32 (getD floats k nan))
 abbrev pub headerFloats : Header → List Float
 headerFloats h = h .threshold ∷ h .block .base .x ∷ h .block .base .y ∷ h .block .base .z ∷ h .block .size ∷ []
 
--- the centre's samples and the neighbours', in a list that was read
-abbrev pub centreOf : Header → List Float → List Float
-centreOf h read = take (sampleLength (h .block .subdivisions)) read
-
-abbrev pub neighboursOf : Header → List Float → List Float
-neighboursOf h read = take (neighboursLength (h .block .subdivisions) (h .mask)) (drop (sampleLength (h .block .subdivisions)) read)
-
 pub record RecordsRoundTrip : Type 0 where
   -- reading then writing gives the same bytes
   pub read-write : (bytes : List ℕ) (samples : List Float) (out : List ℕ) (h : Header)
@@ -153,7 +147,7 @@ pub record Enough (s : Star) : Type 0 where
   pub vertices : counts s .vertices ≤ mostOfCell * cellCount (subdivisions s) (s .mask)
   pub triangles : counts s .triangles ≤ mostOfCell * cellCount (subdivisions s) (s .mask)
 
--- ---- all, with 6: the starred figures of document 01, 7: STL, 8: places by nesting, and 9: place kinds
+-- ---- all, with 6: the starred figures of document 01, and the requests of document 02
 
 pub record Promises : Type 0 where
   pub every-call : EveryCallIsAnswered
@@ -166,5 +160,6 @@ pub record Promises : Type 0 where
   pub stl : StlPromises
   pub nesting : NestingPromises
   pub place-kinds : PlaceKindPromises
+  pub blank : BlankPromises
   -- what the definitions work out is what document 01 states
   pub starred : map (λ (f : Figure). f .worked) figures ≡ map (λ (f : Figure). f .stated) figures

@@ -1,18 +1,18 @@
 -- The point read, of samples and of a record, and the viewer's three calls, by the two things that their judges can come to, passed and refused.
-use Prim.Native.Nat.{ℕ, _+_, _*_, _^_, _≤_, _<_}
+use Prim.Native.Nat.{ℕ, _+_, _^_, _≤_, _<_}
 use native.Mathlib.Decide.{decLt}
 use native.Mathlib.Omega.{arith}
 use mathlib.Core.Path.{_≡_, refl, sym, ap, _∙_}
-use mathlib.Core.Bool.{Bool, true, false, cond, _||_, _&&_, and-eq-true-iff}
+use mathlib.Core.Bool.{Bool, true, false, cond, _&&_, and-eq-true-iff}
 use mathlib.Core.List.{List}
 use borrow.Author.Tests.{leb-true}
-use lib.Dec.{T, eqb, leb}
+use lib.Dec.{T, leb}
 use lib.IntN.{ℤ}
 use lib.Ieee as Ieee
 use lib.Ieee.{Float, nan, binary32, fits}
 use lib.Ieee.Bits.{toBits-lt, ofBits-fits}
 use lib.ListN.{length, getD, List·getD-eq-default}
-use Rattle.laws.specs.Steps.{listed, total}
+use Rattle.laws.specs.Steps.{listed}
 use Rattle.laws.specs.Lists.{length-listed, getD-listed}
 use Rattle.model.specs.declared.PlaceKind.{PlaceKind}
 use Rattle.model.specs.declared.Reading.{Reading}
@@ -24,13 +24,12 @@ use Rattle.model.specs.declared.Verdict.the-variants.{Passed, Refused}
 use Rattle.model.specs.declared.PointRead.{PointRead}
 use Rattle.model.specs.declared.PointRead.the-variants as PointRead
 use Rattle.model.specs.Samples.{placeOf, sampled, outsideCount, readingAt, valueOf, valueAt, oneUp}
-use Rattle.model.specs.Formulas.{insideBit}
 use Rattle.model.specs.Limits.{mostSubdivisions}
 use Rattle.model.specs.Refusals.{numbersOf, unless, orElse}
 use Rattle.model.specs.Judging.{judgeSubdivisions, judgeCentre}
 use Rattle.model.specs.Extraction.{pointAnswer, readPoint}
 use Rattle.model.specs.Record.{headerOf, countOf, samplesOf, judgeLength, judgeVersion, judgeRecord}
-use Rattle.model.specs.Viewer.{packed, blankOf, recordPoint, pointBits, sampleAnswer}
+use Rattle.model.specs.Viewer.{packed, recordPoint, pointBits, sampleAnswer}
 use Rattle.grid.specs.Places.{value-is}
 use Rattle.judge.specs.First.{both-passed, unless-passed}
 use Rattle.promises.specs.Orders.{Judge, inOrder, Numbered, Judged, Packed, recordJudges, pointJudge, pointJudges, sampleJudges}
@@ -111,14 +110,9 @@ subdivisions-apart bytes e =
     let few = leb-true n mostSubdivisions (and-eq-true-iff (leb 1 n) (leb n mostSubdivisions) .0 ranged .1) in
     omega arith
 
-pub blank-apart : (points : ℕ) (threshold : Float) (samples : List Float) → blankOf points threshold samples < 100
-blank-apart points threshold samples =
-    let insides = total (λ k. insideBit threshold (getD samples k nan)) points in
-    go (eqb insides 0 || eqb insides points)
-  where
-    go : (b : Bool) → cond {A = ℕ} b 1 0 < 100
-    go true = omega arith
-    go false = omega arith
+pub blank-apart : (b : Bool) → cond {A = ℕ} b 1 0 < 100
+blank-apart true = omega arith
+blank-apart false = omega arith
 
 listed-fits : (f : ℕ → Float) (n k : ℕ) → ((j : ℕ) → T (fits binary32 (f j))) → T (fits binary32 (getD (listed f n) k nan))
 unfolding fits

@@ -1,10 +1,8 @@
 -- What holds of a record that no judge refuses, by name, and that this is all that the judges ask. Assumes nothing.
 use Prim.Native.Nat.{ℕ, zero, suc, _+_, _-_, _*_, _/_, _≤_, _<_, zero-le}
-use native.Mathlib.Nat.{not-suc-le-zero, le-of-suc-le-suc, eq-or-lt-of-le}
 use native.Mathlib.Omega.{arith}
 use mathlib.Core.Path.{_≡_, refl, sym, ap, _∙_}
 use mathlib.Core.Bool.{true, not, and-eq-true-iff}
-use mathlib.Core.Logic.{⊎-elim}
 use mathlib.Core.List.{List}
 use borrow.Author.Tests.{leb-true, eqb-true, le-leb, eq-eqb}
 use lib.Dec.{T, leb, eqb}
@@ -12,22 +10,15 @@ use lib.Ieee.{Float, nan, isNan}
 use lib.ListN.{length, getD}
 use Rattle.model.specs.declared.Block.{Block}
 use Rattle.model.specs.declared.Refusal.the-variants.{Subdivisions, Mask, Measure, BadSample, RecordLength, Version, SampleCount}
-use Rattle.model.specs.declared.Verdict.{Verdict}
 use Rattle.model.specs.declared.Verdict.the-variants.{Passed}
 use Rattle.model.specs.Limits.{mostSubdivisions, mostMask}
-use Rattle.model.specs.Refusals.{unless, first}
+use Rattle.model.specs.Refusals.{unless}
 use Rattle.model.specs.Judging.{usable, measureUsable, judgeMeasures, judgeSamples, sampleUsable}
 use Rattle.model.specs.Words.{wordAt, floatAt}
 use Rattle.model.specs.Record.{versionAt, thresholdAt, headerLength, sampleFrom, headerOf, countOf, samplesOf, judgeRecord}
 use Rattle.laws.specs.Lists.{length-listed, getD-listed}
-use Rattle.judge.specs.First.{unless-passed, both-passed, passed-over}
+use Rattle.judge.specs.First.{unless-passed, both-passed, each-passed, passed-over}
 use Rattle.record.specs.Usable.{usable-number, size-number}
-
-each-passed : (f : ℕ → Verdict) (n k : ℕ) → first f n ≡ Passed → k < n → f k ≡ Passed
-each-passed f zero k e h = absurd (not-suc-le-zero h)
-each-passed f (suc n) k e h =
-    ⊎-elim (λ q. rw q (both-passed (first f n) (f n) e .1))
-    (λ l. each-passed f n k (both-passed (first f n) (f n) e .0) l) (eq-or-lt-of-le (le-of-suc-le-suc h))
 
 -- ---- samples
 

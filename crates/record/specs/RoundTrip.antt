@@ -22,9 +22,9 @@ use Rattle.model.specs.Samples.{sampleLength}
 use Rattle.model.specs.Limits.{mostSubdivisions, mostMask, sideCount}
 use Rattle.model.specs.Sides.{named, namedBelow, neighbourLength, neighboursLength, sampleCount}
 use Rattle.model.specs.Refusals.{unless, orElse}
-use Rattle.model.specs.Star.{star}
+use Rattle.model.specs.Star.{Star, star}
 use Rattle.model.specs.Judging.{judgeMeasures, judgeMissing, sideThere, usable, judgeSamples, judgeBuffer, judgeStar}
-use Rattle.model.specs.Record.{sampleFrom, countOf, headerOf, samplesOf, recordOf, judgeRecord, readAnswer, readRecord, writeAnswer, writeRecord}
+use Rattle.model.specs.Record.{sampleFrom, countOf, headerOf, samplesOf, starOf, recordOf, judgeRecord, readAnswer, readRecord, writeAnswer, writeRecord}
 use Rattle.grid.specs.Counts.{mostSamples, count-small}
 use Rattle.grid.specs.Shape.{Shaped}
 use Rattle.grid.specs.SideLaws.{named-below}
@@ -59,7 +59,7 @@ module _ (bytes : List ℕ) (a : Accepted bytes) where
   abbrev mask : ℕ
   mask = headerOf bytes .mask
 
-  star-passes : (centre neighbours : List Float) → centre ++ neighbours ≡ samplesOf bytes → length centre ≡ sampleLength n
+  pub star-passes : (centre neighbours : List Float) → centre ++ neighbours ≡ samplesOf bytes → length centre ≡ sampleLength n
       → judgeStar (star (headerOf bytes) centre neighbours) ≡ Passed
   unfolding judgeStar headerOf
   star-passes centre neighbours whole centre-is =
@@ -107,6 +107,25 @@ module _ (bytes : List ℕ) (a : Accepted bytes) where
         long,
       )
 
+-- what was read is the record's block
+pub read-star : (bytes : List ℕ) (samples : List Float) (h : Header) → readRecord bytes samples .answer ≡ RecordRead.Block h
+    → let n = h .block .subdivisions in
+    let read = readRecord bytes samples .samples in
+    star h (take (sampleLength n) read) (take (neighboursLength n (h .mask)) (drop (sampleLength n) read)) ≡ starOf bytes
+read-star bytes samples h e =
+    let was = was-read bytes samples h e in
+    let beyond = drop (length (samplesOf bytes)) samples in
+    let read = readRecord bytes samples .samples in
+    let c = sampleLength (headerOf bytes .block .subdivisions) in
+    let k = neighboursLength (headerOf bytes .block .subdivisions) (headerOf bytes .mask) in
+    subst
+    (λ (h : Header).
+    star h (take (sampleLength (h .block .subdivisions)) read)
+    (take (neighboursLength (h .block .subdivisions) (h .mask)) (drop (sampleLength (h .block .subdivisions)) read)) ≡ starOf bytes)
+    (was .header-is)
+    (ap₂ (star (headerOf bytes)) (ap (take c) (was .filled) ∙ centre-part bytes (was .whole) beyond)
+    (ap (λ (r : List Float). take k (drop c r)) (was .filled) ∙ neighbours-part bytes (was .whole) beyond))
+
 pub read-write : (bytes : List ℕ) (samples : List Float) (out : List ℕ) (h : Header)
     → Bytes bytes → readRecord bytes samples .answer ≡ RecordRead.Block h → length bytes ≤ length out
     → let n = h .block .subdivisions in
@@ -114,21 +133,9 @@ pub read-write : (bytes : List ℕ) (samples : List Float) (out : List ℕ) (h :
     writeRecord h (take (sampleLength n) read) (take (neighboursLength n (h .mask)) (drop (sampleLength n) read)) out
     ≡ record { answer = RecordWritten.Bytes (length bytes); bytes = laid bytes out }
 read-write bytes samples out h small e room =
-    let was = was-read bytes samples h e in
-    let a = was .whole in
-    let beyond = drop (length (samplesOf bytes)) samples in
-    let read = readRecord bytes samples .samples in
-    let c = sampleLength (headerOf bytes .block .subdivisions) in
-    let k = neighboursLength (headerOf bytes .block .subdivisions) (headerOf bytes .mask) in
-    subst
-    (λ (h : Header).
-    writeRecord h (take (sampleLength (h .block .subdivisions)) read)
-    (take (neighboursLength (h .block .subdivisions) (h .mask)) (drop (sampleLength (h .block .subdivisions)) read)) out
-    ≡ record { answer = RecordWritten.Bytes (length bytes); bytes = laid bytes out })
-    (was .header-is)
-    (ap₂ (λ (centre neighbours : List Float). writeRecord (headerOf bytes) centre neighbours out)
-    (ap (take c) (was .filled) ∙ centre-part bytes a beyond) (ap (λ (r : List Float). take k (drop c r)) (was .filled) ∙ neighbours-part bytes a beyond)
-    ∙ written bytes a small out room)
+    ap (λ (s : Star). writeRecord (record { block = s .block; mask = s .mask; threshold = s .threshold }) (s .centre) (s .neighbours) out)
+    (read-star bytes samples h e)
+    ∙ written bytes (was-read bytes samples h e .whole) small out room
 
 -- ---- writing then reading
 

@@ -15,6 +15,7 @@ pub mod RulesSides
 pub mod RulesTransition
 pub mod RulesBorder
 pub mod RulesSlots
+pub mod RulesUncut
 -- the numbers, as rows and as the arrays of the code
 pub mod RegularRows
 pub mod TransitionRows

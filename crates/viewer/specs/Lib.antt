@@ -1,2 +1,4 @@
+pub mod Lines
+pub mod NamedSides
 pub mod Packed
 pub mod Points

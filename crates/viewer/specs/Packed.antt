@@ -1,19 +1,16 @@
 -- The viewer's packed numbers, by what the record's judges find. Assumes nothing.
-use Prim.Native.Nat.{ℕ, _+_, _*_, _^_, _≤_}
+use Prim.Native.Nat.{ℕ, _+_, _≤_}
 use mathlib.Core.Path.{_≡_}
-use mathlib.Core.Bool.{Bool, true, false, cond, _||_}
+use mathlib.Core.Bool.{Bool, true, false, cond}
 use mathlib.Core.List.{List}
-use lib.Dec.{eqb, lit≤}
-use lib.Ieee.{nan}
-use lib.ListN.{getD}
+use lib.Dec.{lit≤}
 use Rattle.model.specs.declared.Refusal.{Refusal}
 use Rattle.model.specs.declared.Refusal.the-variants.{Subdivisions, Mask, Measure, CentreLength, MissingNeighbour, NeighboursTooLong, BadSample, FaceMismatch, IndexStoreTooShort, NoRoom, RecordLength, Version, SampleCount, BufferTooShort, PointNeverSampled, StlLength, NoVertex}
 use Rattle.model.specs.declared.Verdict.{Verdict}
 use Rattle.model.specs.declared.Verdict.the-variants.{Passed, Refused}
-use Rattle.laws.specs.Steps.{total}
-use Rattle.model.specs.Formulas.{insideBit}
 use Rattle.model.specs.Refusals.{numbersOf}
-use Rattle.model.specs.Record.{headerOf, samplesOf, judgeRecord}
+use Rattle.model.specs.Record.{starOf, judgeRecord}
+use Rattle.model.specs.Blank.{isBlank}
 use Rattle.model.specs.Viewer.{packed, blankAnswer}
 
 -- two digits
@@ -43,10 +40,8 @@ module _ (base : ℕ) (v : Verdict) (answer : ℕ) where
   pub packed-passed : v ≡ Passed → answer ≡ packed base v answer
   packed-passed e = rw e
 
--- ---- blank, by the inside points among the n + 1 to the third of a block
+-- ---- blank
 
-pub blank-passed : (bytes : List ℕ) (n insides : ℕ) {t : Bool} → judgeRecord bytes ≡ Passed → n ≡ headerOf bytes .block .subdivisions
-    → insides ≡ total (λ k. insideBit (headerOf bytes .threshold) (getD (samplesOf bytes) k nan)) ((n + 1) * (n + 1) * (n + 1))
-    → eqb insides 0 || eqb insides ((n + 1) * (n + 1) * (n + 1)) ≡ t → cond t 1 0 ≡ blankAnswer bytes
+pub blank-passed : (bytes : List ℕ) {b : Bool} → judgeRecord bytes ≡ Passed → b ≡ isBlank (starOf bytes) → cond b 1 0 ≡ blankAnswer bytes
 unfolding blankAnswer
-blank-passed bytes n insides passed n-is is e = rw (passed, ← n-is, ← is, e)
+blank-passed bytes passed is = rw (passed, is)

@@ -2,18 +2,16 @@
 // record first and answers one number; the point read (document 02, [4]) tells the sample with its place kind. The calls of crate sirveshan
 // hand them on to C.
 ghost use mathlib.Core.Path.{_≡_};
-ghost use Prim.Native.Nat.{_+_, _*_, _^_, _≤_};
-ghost use lib.ListN.{getD};
-ghost use lib.Ieee.{nan};
-ghost use Rattle.laws.specs.Steps.{total};
-ghost use Rattle.model.specs.Formulas.{insideBit};
+ghost use Prim.Native.Nat.{_+_, _^_, _≤_};
 ghost use Rattle.model.specs.Samples.{readingAt};
 ghost use Rattle.model.specs.Refusals.{numbersOf};
-ghost use Rattle.model.specs.Record.{countOf, headerOf, samplesOf};
+ghost use Rattle.model.specs.Record.{headerOf, samplesOf};
 ghost use Rattle.model.specs.Viewer.{subdivisionsAnswer, blankAnswer, recordPoint, pointBits, sampleAnswer};
 ghost use Rattle.record.specs.Accepted.{Accepted};
 ghost use Rattle.viewer.specs.Points.{pointReading};
-use grid::voxel_blocks::inside;
+
+mod one_side;
+
 use grid::voxel_blocks::is_sampled;
 use grid::voxel_blocks::kind;
 use grid::voxel_blocks::one_up;
@@ -25,7 +23,7 @@ use model::PointRead;
 use model::Reading;
 use model::Refusal;
 use model::Verdict;
-use record::fields::header_of;
+use one_side::is_blank;
 use record::fields::sample_of;
 use record::fields::subdivisions_of;
 use record::judging::judge_record;
@@ -53,25 +51,6 @@ pub fn subdivisions(src: &[u8]) -> u64
     subdivisions_of(src) as u64
 }
 
-fn inside_bit(threshold: f32, sample: f32) -> usize
-    ensures { λ r. ⌜ (r ≡ insideBit threshold sample) × (r ≤ 1) ⌝ }
-{
-    if inside(threshold, sample) { 1 } else { 0 }
-}
-
-// How many of the first samples lie inside.
-fn count_inside(src: &[u8], points: usize) -> usize
-    requires { ⌜ Accepted (now src) × (points ≤ countOf (now src)) ⌝ }
-    ensures { λ r. ⌜ r ≡ total (λ k. insideBit (headerOf (now (src .entry)) .threshold) (getD (samplesOf (now (src .entry))) k nan)) points ⌝ }
-{
-    let threshold = header_of(src).threshold;
-    let mut insides: usize = 0;
-    for k in 0..points {
-        insides += inside_bit(threshold, sample_of(src, k));
-    }
-    insides
-}
-
 pub fn blank(src: &[u8]) -> u64
     ensures { λ r. ⌜ r ≡ blankAnswer (now (src .entry)) ⌝ }
 {
@@ -79,14 +58,7 @@ pub fn blank(src: &[u8]) -> u64
     if let Verdict::Refused(r) = verdict {
         return packed_refusal(REFUSED, r);
     }
-    let m = subdivisions_of(src) + 1;
-    let points = m * m * m;
-    let insides = count_inside(src, points);
-    if (insides == 0) | (insides == points) {
-        1
-    } else {
-        0
-    }
+    if is_blank(src) { 1 } else { 0 }
 }
 
 // A point of a record that passed, its coordinates kept one up.
