@@ -13,6 +13,7 @@ import sys
 from collections import Counter
 
 from calling import MARK, Ours, Progress, seeds
+import records
 import reference
 
 NAN, INFINITY, LIMIT = 0x7FC00000, 0x7F800000, 0x49800000
@@ -37,7 +38,9 @@ class Call:
         if shape == "corner":
             self.centre[0] = inside[1]
         self.neighbours = [chance.choice(pick) for _ in range(reference.neighbours_length(self.n, self.mask))]
-        self.agree()
+        samples = self.centre + self.neighbours
+        records.agree(self.n, self.mask, samples)
+        self.neighbours = samples[len(self.centre):]
         mesh = reference.mesh_of(self.block())
         self.store = reference.store_length(self.n)
         self.vertices = 6 * len(mesh.vertices)
@@ -45,19 +48,6 @@ class Call:
 
     def block(self):
         return reference.Block(self.n, self.mask, self.threshold, tuple(self.base), self.size, self.centre, self.neighbours)
-
-    def fine_place(self, side, u, v):
-        before = sum(1 for other in reference.sides_named(self.mask) if other < side)
-        point = reference.neighbour_point(self.n, side, 2 * u, 2 * v)
-        return before * reference.block_length(2 * self.n) + reference.sample_place(2 * self.n, point)
-
-    def agree(self):
-        """Each fine face takes the centre's samples at the points they share."""
-        for side in reference.sides_named(self.mask):
-            for u in range(self.n + 1):
-                for v in range(self.n + 1):
-                    place = reference.sample_place(self.n, reference.face_point(self.n, side, u, v))
-                    self.neighbours[self.fine_place(side, u, v)] = self.centre[place]
 
     def damage(self, chance):
         """One fault, of a kind that some refusal is about."""

@@ -264,8 +264,10 @@ sirveshan_triangles_read sirveshan_read_stl(const uint8_t *src, size_t length, f
 uint64_t sirveshan_subdivisions(const uint8_t *src, size_t length);
 
 /*
- * 1 when all (n+1)^3 samples of the block itself lie on one side of the threshold, so that it has no surface inside; 0 when they
- * do not. Samples outside the block and neighbours do not count.
+ * 1 when the block is blank: all (n+1)^3 samples of the block itself, and all (2n+1)^2 of each finer neighbour in the face that it
+ * shares with the block, lie on one side of the threshold; 0 when they do not. No other samples count. The mesh of a blank block
+ * has no triangle; and a block that sirveshan_extract takes is blank exactly when its mesh has none. Faces that disagree (8) are
+ * not judged here.
  */
 uint64_t sirveshan_blank(const uint8_t *src, size_t length);
 

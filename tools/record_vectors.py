@@ -18,6 +18,8 @@ read0, read1, ..: a record, what the reader and the viewer's calls answer
     for each point: three coordinates as places in COORDINATES, the answer's low word, its high word,
     the kind (0 to 5 a face, 6 in-block), the refusal's first number; 0 where there is none
 
+faces0, ..: the same for records that are blank or not by the fine samples of a named side
+
 write0, ..: a block, what the writer answers
 
     length, n, mask, threshold, base x, y, z, size,
@@ -31,7 +33,7 @@ import struct
 from pathlib import Path
 
 import reference
-from records import case_a, depth_in_rock, sampled_block
+from records import case_a, depth_in_rock, ledge, level_block, sampled_block
 from reference import Block, Refusal, bits, block_length, neighbours_length, record_of
 
 DATA = Path(__file__).resolve().parent.parent / "crates" / "record_test" / "data"
@@ -112,6 +114,19 @@ def blanks():
             yield block
             for place in (0, points // 2, points - 1):
                 yield with_sample(block, place, bits(-inner if inner else -1.0))
+
+
+def face_blanks():
+    """All samples on one side but for some of a named side's neighbour: in its w=0 plane, off it, or everywhere."""
+    yield ledge()
+    for n, mask, side in [*((1, 1 << side, side) for side in range(6)), (1, 63, 5), (2, 0b001000, 3)]:
+        outside, inside = level_block(n, mask, bits(-1.0)), level_block(n, mask, bits(0.0))
+        for u2, v2 in ((0, 0), (1, 1), (2 * n, 2 * n - 1)):
+            yield with_sample(outside, reference.fine_place(n, mask, side, u2, v2), bits(0.0))
+        yield with_sample(outside, reference.fine_place(n, mask, side, 1, 1, w=1), bits(0.0))
+        yield with_sample(outside, len(outside.centre) + len(outside.neighbours) - 1, bits(0.0))
+        yield outside._replace(neighbours=inside.neighbours)
+        yield with_sample(inside, reference.fine_place(n, mask, side, n, n), bits(-1.0))
 
 
 def with_length(record, length):
@@ -255,9 +270,10 @@ def main():
     DATA.mkdir(parents=True, exist_ok=True)
     read = [read_vector(*case) for case in records()]
     write = [write_vector(*case) for case in blocks()]
-    for name, run in {**files("read", read), **files("write", write)}.items():
+    faces = [read_vector(record_of(block), reference.samples_length(block.n, block.mask)) for block in face_blanks()]
+    for name, run in {**files("read", read), **files("write", write), **files("faces", faces)}.items():
         (DATA / name).write_bytes(run)
-    print("%d records, %d blocks" % (len(read), len(write)))
+    print("%d records, %d blocks" % (len(read) + len(faces), len(write)))
 
 
 if __name__ == "__main__":

@@ -8,12 +8,15 @@ subdivisions.  face-finer is the same face with finer neighbours on three sides,
 where a knob shows that the coarse samples miss; it has 7 subdivisions, the most
 that leaves a record with three neighbours below the listing program's 65,536
 bytes.  face-run is a run: the face in four blocks side by side, two along x and
-two along z.
+two along z.  ledge is a block that lies before the face, with a thin ledge that
+only its finer neighbour's samples meet: all its own samples are outside, and the
+transition cells have triangles.
 """
 
 from pathlib import Path
 
-from reference import ROTATIONS, Block, bits, block_length, record_of, sample_place, sides_named
+from reference import (ROTATIONS, Block, bits, block_length, face_point, fine_place, neighbours_length,
+                       record_of, sample_place, sides_named)
 
 EXAMPLES = Path(__file__).resolve().parent.parent / "examples"
 
@@ -63,6 +66,29 @@ def sampled_block(field, n, mask):
                  sampled(field, width, (0, 0, 0), 2), neighbours)
 
 
+def thin_ledge(x, y, z):
+    """Inside near the line z = 3 of the face x = 0, from y = 1 to 7; the coarse samples lie 2 m apart, at even numbers."""
+    return min(0.75 - abs(z - 3.0), 3.25 - abs(y - 4.0), 0.5 - x)
+
+
+def ledge():
+    return sampled_block(thin_ledge, 4, 0b000001)
+
+
+def level_block(n, mask, pattern, threshold=bits(0.0)):
+    """All samples are equal."""
+    return Block(n, mask, threshold, (bits(0.0),) * 3, bits(1.0), [pattern] * block_length(n),
+                 [pattern] * neighbours_length(n, mask))
+
+
+def agree(n, mask, samples):
+    """Each fine face takes the centre's samples at the points that they share; the centre's stand first in the list."""
+    for side in sides_named(mask):
+        for u in range(n + 1):
+            for v in range(n + 1):
+                samples[fine_place(n, mask, side, 2 * u, 2 * v)] = samples[sample_place(n, face_point(n, side, u, v))]
+
+
 def case_a():
     centre = [bits(0.0)] * block_length(1)
     centre[sample_place(1, (0, 0, 0))] = bits(1.0)
@@ -75,6 +101,7 @@ def examples():
         "case-a.record": record_of(case_a()),
         "face.record": record_of(sampled_block(depth_in_rock, 8, 0)),
         "face-finer.record": record_of(sampled_block(depth_in_rock, 7, 0b010011)),
+        "ledge.record": record_of(ledge()),
     }
 
 

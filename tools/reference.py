@@ -248,6 +248,13 @@ def neighbour_point(n, side, u2, v2, w=0):
                  for k in range(3))
 
 
+def fine_place(n, mask, side, u2, v2, w=0):
+    """The place of a point of a named side's neighbour among all samples, those of the centre first."""
+    before = sides_named(mask).index(side)
+    return (block_length(n) + before * block_length(2 * n)
+            + sample_place(2 * n, neighbour_point(n, side, u2, v2, w)))
+
+
 def fine_steps(n, side, u2, v2, w=0):
     """The fine point's half steps from the centre's base: k of the fine position."""
     r = ROTATIONS[side]
@@ -717,13 +724,18 @@ def viewer_subdivisions(record):
     return 100 + block.number if isinstance(block, Refusal) else block.n
 
 
+def is_blank(block):
+    """The in-block samples, and the fine ones in the w=0 plane of each named side, lie on one side of the threshold."""
+    field, coarse, fine = Field(block), range(block.n + 1), range(2 * block.n + 1)
+    samples = [field.centre((x, y, z)) for x in coarse for y in coarse for z in coarse]
+    samples += [field.neighbour(side, neighbour_point(block.n, side, u2, v2))
+                for side in sides_named(block.mask) for u2 in fine for v2 in fine]
+    return len({inside(sample, field.threshold) for sample in samples}) == 1
+
+
 def viewer_blank(record):
     block = parse(record)
-    if isinstance(block, Refusal):
-        return 100 + block.number
-    threshold = value(block.threshold)
-    in_block = values(block.centre[:(block.n + 1) ** 3])
-    return int(len({inside(sample, threshold) for sample in in_block}) == 1)
+    return 100 + block.number if isinstance(block, Refusal) else int(is_blank(block))
 
 
 def record_point(record, x, y, z):

@@ -178,19 +178,6 @@ def with_samples(block, changes):
                           neighbours=samples[len(block.centre):])
 
 
-def fine_place(n, mask, side, u2, v2):
-    """The place of a neighbour's face point, counted on after the centre."""
-    before = ref.sides_named(mask).index(side)
-    return (ref.block_length(n) + before * ref.block_length(2 * n)
-            + ref.sample_place(2 * n, ref.neighbour_point(n, side, u2, v2)))
-
-
-def level_block(n, mask, pattern, threshold=ZERO):
-    """All samples are equal."""
-    return ref.Block(n, mask, threshold, (ZERO,) * 3, ONE, [pattern] * ref.block_length(n),
-                     [pattern] * ref.neighbours_length(n, mask))
-
-
 class Noise:
     """Blocks of samples that know nothing of each other, but for which of them are inside."""
 
@@ -237,11 +224,11 @@ def meet_cases(noise, n, mask, insides, met):
     settled = set()
     for side in ref.sides_named(mask):
         for u, v in itertools.product(range(n + 1), repeat=2):
-            place = fine_place(n, mask, side, 2 * u, 2 * v)
+            place = ref.fine_place(n, mask, side, 2 * u, 2 * v)
             insides[place] = insides[ref.sample_place(n, ref.face_point(n, side, u, v))]
             settled.add(place)
         for u, v in itertools.product(range(n), repeat=2):
-            places = [fine_place(n, mask, side, 2 * u + k % 3, 2 * v + k // 3) for k in range(9)]
+            places = [ref.fine_place(n, mask, side, 2 * u + k % 3, 2 * v + k // 3) for k in range(9)]
             free = [place for place in places if place not in settled]
             for choice in itertools.product((0, 1), repeat=len(free)):
                 for place, inside in zip(free, choice):
@@ -306,9 +293,9 @@ def add_level_blocks(vectors):
     """All samples equal, outside and at the threshold: no vertex, and a store of zeros."""
     for mask in (0, 63):
         for pattern in (ref.bits(-1.0), ZERO):
-            vectors.meshed_record(level_block(1, mask, pattern))
+            vectors.meshed_record(records.level_block(1, mask, pattern))
             for n in range(1, 17):
-                vectors.block(level_block(n, mask, pattern), Lent(ref.store_length(n), 0, 0))
+                vectors.block(records.level_block(n, mask, pattern), Lent(ref.store_length(n), 0, 0))
 
 
 def fits(lent):
@@ -329,7 +316,7 @@ def add_largest(vectors):
 
 def record_faults():
     """The record of a small block, damaged, in the order in which the reader judges."""
-    whole = ref.record_of(level_block(1, 1, ZERO, HALF))
+    whole = ref.record_of(records.level_block(1, 1, ZERO, HALF))
 
     def put(place, data):
         return whole[:place] + data + whole[place + len(data):]
@@ -352,7 +339,7 @@ def record_faults():
 
 
 def add_record_refusals(vectors):
-    block = level_block(1, 1, ZERO, HALF)
+    block = records.level_block(1, 1, ZERO, HALF)
     whole, count = ref.record_of(block), ref.samples_length(1, 1)
     lent = exact(vectors.mesh(block))
     for number, records_of_it in record_faults().items():
@@ -381,14 +368,14 @@ def first_and_next_faults(whole):
 
 def block_faults():
     """A small block, damaged, for each refusal that extraction judges before its buffers."""
-    block = level_block(2, 63, ZERO, HALF)
+    block = records.level_block(2, 63, ZERO, HALF)
     one = ref.block_length(4)
     base = [block._replace(base=tuple(pattern if k == axis else ZERO for k in range(3)))
             for axis in range(3) for pattern in TOO_LARGE]
     numbers = [block._replace(**{name: pattern}) for name in ("size", "threshold")
                for pattern in TOO_LARGE]
     sizes = [block._replace(size=pattern) for pattern in (ZERO, LEAST_SIZE - 1, ONE | MINUS_ZERO)]
-    few = level_block(2, 0b101010, ZERO, HALF)
+    few = records.level_block(2, 0b101010, ZERO, HALF)
     lengths = sorted({0, 1, *(k * one + more for k in range(1, 7) for more in (-1, 0))})
     return {
         1: [block._replace(n=n) for n in (0, 17, 255, 4294967295)],
@@ -398,7 +385,7 @@ def block_faults():
         5: [given._replace(neighbours=[ZERO] * length) for given in (block, few)
             for length in lengths if length < len(given.neighbours)],
         6: [given._replace(neighbours=given.neighbours + [ZERO] * more)
-            for given in (block, few, level_block(2, 0, ZERO, HALF)) for more in (1, one)],
+            for given in (block, few, records.level_block(2, 0, ZERO, HALF)) for more in (1, one)],
         7: [with_samples(block, [(place, pattern)]) for pattern in TOO_LARGE
             for place in (0, 80, 81, 80 + 6 * one)],
         8: list(mismatches(block)),
@@ -408,7 +395,7 @@ def block_faults():
 def mismatches(block):
     """A fine face point on the other side of the threshold: at each place, and then two at once."""
     spots = list(itertools.product(range(6), range(3), range(3)))
-    places = {spot: fine_place(2, 63, spot[0], 2 * spot[1], 2 * spot[2]) for spot in spots}
+    places = {spot: ref.fine_place(2, 63, spot[0], 2 * spot[1], 2 * spot[2]) for spot in spots}
     for place in places.values():
         yield with_samples(block, [(place, ONE)])
     for first, second in (((0, 0, 2), (0, 1, 0)), ((1, 2, 2), (2, 0, 0)), ((3, 1, 1), (5, 0, 0))):
@@ -418,33 +405,41 @@ def mismatches(block):
 def order_blocks():
     """Of each two refusals that extraction judges one after the other, the faults of both."""
     one_up = ref.block_length(2) + 1
-    block = level_block(2, 63, ZERO, HALF)
+    block = records.level_block(2, 63, ZERO, HALF)
     faults = [{"n": 0}, {"mask": 255}, {"base": (NAN, ZERO, ZERO)}, {"centre": [NAN] * one_up}]
     for first, second in zip(faults, faults[1:]):
         yield block._replace(**first, **second)
     yield block._replace(centre=[NAN] * one_up, neighbours=[NAN])
     yield block._replace(neighbours=[NAN])
     yield block._replace(neighbours=block.neighbours + [NAN])
-    yield with_samples(block, [(fine_place(2, 63, 0, 0, 0), NAN), (0, ONE)])
+    yield with_samples(block, [(ref.fine_place(2, 63, 0, 0, 0), NAN), (0, ONE)])
 
 
 def add_block_refusals(vectors):
-    room = exact(vectors.mesh(level_block(2, 63, ZERO, HALF)))
+    room = exact(vectors.mesh(records.level_block(2, 63, ZERO, HALF)))
     for number, blocks in block_faults().items():
         for block in blocks:
             assert vectors.block(block, room) == number
     for block in order_blocks():
         vectors.block(block, room)
-    vectors.block(with_samples(level_block(2, 63, ZERO, HALF), [(0, ONE)]), Lent(0, 0, 0))
+    vectors.block(with_samples(records.level_block(2, 63, ZERO, HALF), [(0, ONE)]), Lent(0, 0, 0))
     for n in range(1, 17):
-        block = level_block(n, 0, ZERO)
+        block = records.level_block(n, 0, ZERO)
         for store in (0, ref.store_length(n) - 1):
             vectors.block(block, Lent(store, 0, 0))
-    lone = with_samples(level_block(2, 0, ZERO, HALF), [(ref.sample_place(2, (1, 1, 1)), ONE)])
+    lone = with_samples(records.level_block(2, 0, ZERO, HALF), [(ref.sample_place(2, (1, 1, 1)), ONE)])
     lent = exact(vectors.mesh(lone))
     for short in (lent._replace(vertices=0), lent._replace(triangles=0),
                   Lent(lent.store, 0, 0), Lent(lent.store - 1, 0, 0)):
         vectors.block(lone, short)
+
+
+def add_ledge(vectors):
+    """A block whose own samples all lie on one side: what there is to see, the transition cells make."""
+    ledge = records.ledge()
+    assert vectors.mesh(ledge).triangles
+    assert not vectors.mesh(ledge._replace(mask=0, neighbours=[])).triangles
+    vectors.meshed_record(ledge)
 
 
 def files(vectors):
@@ -464,6 +459,7 @@ def main():
     add_largest(vectors)
     add_record_refusals(vectors)
     add_block_refusals(vectors)
+    add_ledge(vectors)
     DATA.mkdir(parents=True, exist_ok=True)
     for old in DATA.glob("v*"):
         old.unlink()

@@ -1,5 +1,5 @@
 #!/usr/bin/env python3
-"""Document 01's figures, case A and refusals, document 02's STL, asked of tools/reference.py; the example records.
+"""Document 01's figures, case A and refusals, document 02's STL and blank, asked of tools/reference.py; the example records.
 
     python3 tools/test_reference.py
 """
@@ -299,6 +299,27 @@ class Viewer(unittest.TestCase):
         block.centre[8:] = [ONE] * 24
         self.assertEqual(reference.viewer_blank(reference.record_of(block)), 1)
         self.assertEqual(reference.viewer_blank(reference.record_of(flat_block(sample=ONE))), 1)
+
+    def with_fine(self, mask, side, u2, v2, w=0):
+        block = flat_block(mask=mask)
+        block.neighbours[reference.fine_place(1, mask, side, u2, v2, w) - len(block.centre)] = ONE
+        return reference.viewer_blank(reference.record_of(block))
+
+    def test_blank_with_sides(self):
+        for mask, side in [(1 << side, side) for side in range(6)] + [(63, 5), (0b010001, 4)]:
+            for u2, v2 in ((0, 0), (1, 1), (2, 1)):
+                self.assertEqual(self.with_fine(mask, side, u2, v2), 0)
+                self.assertEqual(self.with_fine(mask, side, u2, v2, w=1), 1)
+        apart = flat_block(mask=16)._replace(neighbours=[ONE] * reference.block_length(2))
+        self.assertEqual(reference.viewer_blank(reference.record_of(apart)), 0)
+        self.assertFalse(reference.mesh_of(apart).triangles)
+
+    def test_blank_is_no_triangle(self):
+        self.assertFalse(reference.is_blank(records.ledge()))
+        self.assertTrue(reference.mesh_of(records.ledge()).triangles)
+        alone = records.ledge()._replace(mask=0, neighbours=[])
+        self.assertTrue(reference.is_blank(alone))
+        self.assertFalse(reference.mesh_of(alone).triangles)
 
     def test_refusals(self):
         damaged = with_byte(reference.record_of(case_a()), 4, 3)

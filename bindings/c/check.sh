@@ -26,12 +26,12 @@ for program in check_viewer check_extract check_record check_stl stack mesh_reco
 done
 failures=0
 for program in check_viewer check_extract check_record check_stl stack; do
-    said=$("${x86_static[@]}" "$work/$program") || failures=$((failures + 1))
+    said=$("${x86_static[@]}" "$work/$program" "$root/examples/ledge.record") || failures=$((failures + 1))
     echo "$program: $said"
 done
 
 # The example, against the listing's own first line.
-for record in case-a face face-finer; do
+for record in case-a face face-finer ledge; do
     wanted=$(python3 "$root/tools/reference.py" mesh < "$root/examples/$record.record" | sed -n '1s/mesh \(.*\) \(.*\)/\1 vertices, \2 triangles/p')
     found=$("${x86_static[@]}" "$work/mesh_record" "$root/examples/$record.record") || failures=$((failures + 1))
     [ "$found" = "$wanted" ] || { echo "wanted: $wanted"; failures=$((failures + 1)); }

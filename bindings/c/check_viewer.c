@@ -1,6 +1,6 @@
 /*
- * Calls the viewer's functions from C on good, blank and damaged records, and compares with the answers that documents 01
- * and 02 give. bindings/c/check.sh builds and runs it.
+ * check_viewer LEDGE: calls the viewer's functions from C on good, blank and damaged records and on examples/ledge.record, and
+ * compares with the answers that documents 01 and 02 give. bindings/c/check.sh builds and runs it.
  */
 #include "expect.h"
 
@@ -159,6 +159,7 @@ static void good_with_neighbours(void)
     expect_sample("(1,2,0) of n = 2", &r, 1, 2, 0, LIMIT);
 }
 
+/* A record of n = 2 with LowX named: the neighbour's samples begin at 81, and its face is where its x is 4. */
 static void blank(void)
 {
     struct record r = record_of(2, 1, ZERO);
@@ -166,12 +167,37 @@ static void blank(void)
     put_sample(&r, 27, ONE);
     put_sample(&r, 81, ONE);
     expect("beyond the block", sirveshan_blank(r.bytes, r.length), 1);
+    put_sample(&r, 81 + 99, ONE);
+    expect("before the face", sirveshan_blank(r.bytes, r.length), 1);
+    put_sample(&r, 81 + 100 + 5 * 1 + 3, ONE);
+    expect("between the face's coarse points", sirveshan_blank(r.bytes, r.length), 0);
+    put_sample(&r, 81 + 100 + 5 * 1 + 3, ZERO);
+    put_sample(&r, 81 + 124, ONE);
+    expect("the face's last point", sirveshan_blank(r.bytes, r.length), 0);
+    put_sample(&r, 81 + 124, ZERO);
     put_sample(&r, 26, ONE);
     expect("its last point", sirveshan_blank(r.bytes, r.length), 0);
     r = record_of(2, 0, HALF);
     expect("all at the threshold", sirveshan_blank(r.bytes, r.length), 1);
     put_sample(&r, 0, ZERO);
     expect("its first point", sirveshan_blank(r.bytes, r.length), 0);
+}
+
+/* examples/ledge.record: its own samples are all outside, and its finer neighbour's are not. */
+static void ledge(const char *name)
+{
+    static struct record r;
+    FILE *file = fopen(name, "rb");
+    if (file != NULL) {
+        r.length = fread(r.bytes, 1, sizeof r.bytes, file);
+        fclose(file);
+    }
+    expect("ledge", sirveshan_subdivisions(r.bytes, r.length), 4);
+    expect("ledge", sirveshan_blank(r.bytes, r.length), 0);
+    r.bytes[6] = 0;
+    r.length = HEADER + 4 * SIRVESHAN_CENTRE_LENGTH(4);
+    put_length(&r);
+    expect("ledge, no side named", sirveshan_blank(r.bytes, r.length), 1);
 }
 
 static void damaged(void)
@@ -203,12 +229,13 @@ static void damaged(void)
     expect_word_refused("last sample", HEADER + 4 * 31, 0x80000000 | INFINITE, 7);
 }
 
-int main(void)
+int main(int count, char **words)
 {
     good();
     kinds();
     good_with_neighbours();
     blank();
+    ledge(count == 2 ? words[1] : "");
     damaged();
     return counted();
 }

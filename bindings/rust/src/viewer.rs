@@ -17,7 +17,9 @@ pub fn subdivisions(record: &[u8]) -> Result<usize, Refusal> {
     }
 }
 
-/// Whether all in-block samples lie on one side of the threshold, so that there is no surface inside.
+/// Whether the block is blank: all in-block samples, and all of each finer neighbour in the face that it shares with the
+/// block, lie on one side of the threshold. The mesh of a blank block has no triangle; and a block that extraction takes is
+/// blank exactly when its mesh has none.
 pub fn blank(record: &[u8]) -> Result<bool, Refusal> {
     // SAFETY: the pointer goes with the length of its slice, which lives through the call.
     let answer = unsafe { linked::sirveshan_blank(record.as_ptr(), record.len()) };

@@ -160,3 +160,16 @@ fn a_blank_record() {
     let mut mesher = Mesher::new();
     assert_eq!(mesher.mesh(&blank).unwrap().triangles.len(), 0);
 }
+
+/// Its own samples are all outside, and its finer neighbour's are not.
+#[test]
+fn a_ledge_is_not_blank() {
+    let bytes = std::fs::read("../../examples/ledge.record").unwrap();
+    assert_eq!(viewer::blank(&bytes), Ok(false));
+    let ledge = Record::read(&bytes).unwrap();
+    let mut mesher = Mesher::new();
+    assert_eq!(mesher.mesh(&ledge).unwrap().triangles.len(), 14);
+    let alone = Record::new(Header { mask: 0, ..ledge.header }, ledge.centre, vec![]);
+    assert_eq!(viewer::blank(&alone.write().unwrap()), Ok(true));
+    assert_eq!(mesher.mesh(&alone).unwrap().triangles.len(), 0);
+}

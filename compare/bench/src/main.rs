@@ -1,6 +1,7 @@
 //! Ours against the Rust, same blocks, same process: microseconds a block, judging included.
 
 mod before;
+mod blank;
 mod faces;
 mod ours;
 mod stl;
@@ -17,6 +18,7 @@ const USAGE: &str = "\
 bench [N..]                               a table of times, for n = 4, 8 and 16 or those named
 bench parts [N]                           where our time goes, at n = 16 or the one named
 bench stl                                 STL files: writing and reading against a copy of the same bytes
+bench blank                               the viewer's question whether a block is blank
 bench ours|before|rust TIMES N MASK FACE  meshes one block that often and prints nothing
                                           (FACE: smooth, wavy, noisy); compare/instructions counts it";
 const SIZES: [usize; 3] = [4, 8, 16];
@@ -158,6 +160,7 @@ fn run(words: &[&str]) -> Outcome {
             Ok(())
         }
         ["stl"] => stl::table(),
+        ["blank"] => blank::table(),
         ["parts"] => parts(16),
         ["parts", n] => parts(number(n)?),
         ["ours" | "before" | "rust", times, n, mask, face @ ("smooth" | "wavy" | "noisy")] => {

@@ -13,7 +13,8 @@ pub const COMMAND: Command = Command {
 prints what a record says: its header, blank or not, its mesh's counts
 
 A refused record of version 1 still has its header told, as its bytes say it; why it is refused stands
-on standard error. Blank: all in-block samples lie on one side of the threshold.
+on standard error. Blank: all in-block samples, and those of finer neighbours in the faces that they
+share with the block, lie on one side of the threshold, so that the mesh has no triangle.
 
     --plain     for programs: lines `key value` with version, n, mask, threshold, base (three), size
                 (f32 as bits in hex) and blank (0 or 1); refused as the viewer's calls refuse, which
@@ -53,7 +54,7 @@ fn tell(bytes: &[u8]) -> Result<(), Failure> {
     }
     let record = Record::read(bytes).map_err(Failure::Refused)?;
     let blank = viewer::blank(bytes).map_err(Failure::Refused)?;
-    let blank = if blank { "yes, all in-block samples lie on one side" } else { "no" };
+    let blank = if blank { "yes, its samples lie on one side of the threshold" } else { "no" };
     output::put(format!("blank         {blank}\n").as_bytes())?;
     let mut mesher = Mesher::new();
     let mesh = mesher.mesh(&record).map_err(Failure::Refused)?;
