@@ -10,6 +10,7 @@ use lib.Ieee.{Float, nan}
 use lib.ListN.{length, getD, length-append, List·getD-append}
 use lib.Seq.{getD-append-add}
 use Rattle.laws.specs.Below.{allBelow, each-below}
+use Rattle.model.specs.declared.Refusal.{Refusal}
 use Rattle.model.specs.declared.Refusal.the-variants.{BadSample}
 use Rattle.model.specs.declared.Verdict.{Verdict}
 use Rattle.model.specs.declared.Verdict.the-variants.{Passed}
@@ -41,9 +42,12 @@ one-more-each true false true y = refl
 one-more-each true false false y = refl
 one-more-each false b x y = refl
 
-all-pass : (from : ℕ) (samples : List Float) (k : ℕ) → allUsable samples k ≡ true → first (usableFrom from samples) k ≡ Passed
-all-pass from samples k h =
-    passed-over (usableFrom from samples) 0 k refl (λ i _ l. rw (each-below (λ k. usable (getD samples k nan)) k i h l)) zero-le
+-- where each test below a bound is passed, none of their refusals is told
+pub all-pass : (P : ℕ → Bool) (refusal : ℕ → Refusal) (n : ℕ) → allBelow P n ≡ true → first (λ k. unless (P k) (refusal k)) n ≡ Passed
+all-pass P refusal n h = passed-over (λ k. unless (P k) (refusal k)) 0 n refl (λ k _ l. rw (each-below P n k h l)) zero-le
+
+usable-pass : (from : ℕ) (samples : List Float) (n : ℕ) → allUsable samples n ≡ true → first (usableFrom from samples) n ≡ Passed
+usable-pass from samples = all-pass (λ k. usable (getD samples k nan)) (λ k. BadSample (from + k))
 
 module _ (centre neighbours : List Float) where
   pub one-after-the-other :
@@ -63,6 +67,6 @@ module _ (centre neighbours : List Float) where
       → Passed ≡ judgeSamples (centre ++ neighbours)
   both-usable {a} {b} in-centre after h =
       let parts = and-eq-true-iff a b .0 h in
-      let passed = all-pass 0 centre (length centre) (sym in-centre ∙ parts .0) in
-      let rest = all-pass (length centre) neighbours (length neighbours) (sym after ∙ parts .1) in
+      let passed = usable-pass 0 centre (length centre) (sym in-centre ∙ parts .0) in
+      let rest = usable-pass (length centre) neighbours (length neighbours) (sym after ∙ parts .1) in
       rw (one-after-the-other, passed, rest)

@@ -6,3 +6,4 @@ pub mod Bytes
 pub mod Writable
 pub mod Reading
 pub mod RoundTrip
+pub mod Together

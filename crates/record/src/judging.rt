@@ -2,11 +2,13 @@
 ghost use mathlib.Core.Path.{_≡_};
 ghost use Prim.Native.Nat.{_+_, _*_, _≤_, _<_};
 ghost use lib.ListN.{length};
+ghost use Rattle.laws.specs.Below.{allBelow};
 ghost use Rattle.model.specs.Refusals.{first};
 ghost use Rattle.model.specs.Judging.{usable, usableSize, measureUsable, judgeMeasures};
 ghost use Rattle.model.specs.Words.{floatAt};
 ghost use Rattle.model.specs.Record.{headerLength, sampleFrom, headerOf, judgeLength, judgeRecord};
 ghost use Rattle.record.specs.ReadingOrder.{HeadPassed, sampleUsableAt, judgeHead, judgeBody};
+ghost use Rattle.record.specs.Together.{bareAtMost, usableAt};
 use crate::fields::BASE_AT;
 use crate::fields::HEADER_LENGTH;
 use crate::fields::SIZE_AT;
@@ -23,8 +25,10 @@ use model::Refusal;
 use model::Verdict;
 use words::big::word_at;
 
-// The bit patterns of 1,048,576 and of 1/1024, and the weight of the sign in a pattern.
+// The bit patterns of 1,048,576, of the last number below its half and of 1/1024, and the weight of the sign in a pattern.
 const LIMIT: u32 = 0x4980_0000;
+
+const SMALL: u32 = 0x48FF_FFFF;
 
 const LEAST_SIZE: u32 = 0x3A80_0000;
 
@@ -106,7 +110,30 @@ fn judge_head(bytes: &[u8]) -> Verdict
     judge_measures(bytes)
 }
 
-fn judge_samples(bytes: &[u8], count: usize) -> Verdict
+// Whether the patterns of all samples, without their signs, are at most this one. It looks at them all, which the compiler does many at a time.
+fn all_at_most(bytes: &[u8], count: usize, most: u32) -> bool
+    requires { ⌜ length (now bytes) ≡ sampleFrom count ⌝ }
+    ensures { λ r. ⌜ r ≡ allBelow (bareAtMost (now (bytes .entry)) most) count ⌝ }
+{
+    let mut all = true;
+    for k in 0..count {
+        all = all & (word_at(bytes, sample_from(k)) % SIGN <= most);
+    }
+    all
+}
+
+// Whether all samples can be used. Those of most records are small, which the first byte of each tells: that is asked first.
+fn all_usable(bytes: &[u8], count: usize) -> bool
+    requires { ⌜ length (now bytes) ≡ sampleFrom count ⌝ }
+    ensures { λ r. ⌜ r ≡ allBelow (usableAt (now (bytes .entry))) count ⌝ }
+{
+    if all_at_most(bytes, count, SMALL) {
+        return true;
+    }
+    all_at_most(bytes, count, LIMIT)
+}
+
+fn first_bad(bytes: &[u8], count: usize) -> Verdict
     requires { ⌜ length (now bytes) ≡ sampleFrom count ⌝ }
     ensures { λ r. ⌜ r ≡ first (sampleUsableAt (now (bytes .entry))) count ⌝ }
 {
@@ -116,6 +143,16 @@ fn judge_samples(bytes: &[u8], count: usize) -> Verdict
         }
     }
     Verdict::Passed
+}
+
+fn judge_samples(bytes: &[u8], count: usize) -> Verdict
+    requires { ⌜ length (now bytes) ≡ sampleFrom count ⌝ }
+    ensures { λ r. ⌜ r ≡ first (sampleUsableAt (now (bytes .entry))) count ⌝ }
+{
+    if all_usable(bytes, count) {
+        return Verdict::Passed;
+    }
+    first_bad(bytes, count)
 }
 
 // 13 and 7.

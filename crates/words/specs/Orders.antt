@@ -25,8 +25,10 @@ pub record Order : Type 0 where
 
 -- ---- what both orders rest on
 
-digits : (a b c d w : ℕ) → a < 256 → b < 256 → c < 256 → d < 256 → w ≡ 16777216 * a + 65536 * b + 256 * c + d
-    → (w / 16777216 % 256 ≡ a) × (w / 65536 % 256 ≡ b) × (w / 256 % 256 ≡ c) × (w % 256 ≡ d)
+abbrev Digits : ℕ → ℕ → ℕ → ℕ → ℕ → Type 0
+Digits a b c d w = (w / 16777216 % 256 ≡ a) × (w / 65536 % 256 ≡ b) × (w / 256 % 256 ≡ c) × (w % 256 ≡ d)
+
+digits : (a b c d w : ℕ) → a < 256 → b < 256 → c < 256 → d < 256 → w ≡ 16777216 * a + 65536 * b + 256 * c + d → Digits a b c d w
 digits a b c d w ha hb hc hd e = (omega arith, omega arith, omega arith, omega arith)
 
 whole : (w : ℕ) → w < 2 ^ 32 → 16777216 * (w / 16777216 % 256) + 65536 * (w / 65536 % 256) + 256 * (w / 256 % 256) + w % 256 ≡ w
@@ -80,12 +82,17 @@ pub little-lt : (bytes : List ℕ) → Bytes bytes → (at : ℕ) → littleAt b
 unfolding littleAt
 little-lt bytes small at = omega (arith, small at, small (at + 1), small (at + 2), small (at + 3))
 
-pub little-back : (bytes : List ℕ) → Bytes bytes → (at : ℕ) → at + 4 ≤ length bytes → littleBytes (littleAt bytes at) ≡ take 4 (drop at bytes)
-unfolding littleAt littleBytes
-little-back bytes small at h =
-    let e =
+-- its four bytes, the highest first
+little-digits : (bytes : List ℕ) → Bytes bytes → (at : ℕ) → Digits (getD bytes (at + 3) 0) (getD bytes (at + 2) 0) (getD bytes (at + 1) 0) (getD bytes at 0) (littleAt bytes at)
+unfolding littleAt
+little-digits bytes small at =
     digits (getD bytes (at + 3) 0) (getD bytes (at + 2) 0) (getD bytes (at + 1) 0) (getD bytes at 0) (littleAt bytes at) (small (at + 3)) (small (at + 2))
-    (small (at + 1)) (small at) (omega arith) in
+    (small (at + 1)) (small at) (omega arith)
+
+pub little-back : (bytes : List ℕ) → Bytes bytes → (at : ℕ) → at + 4 ≤ length bytes → littleBytes (littleAt bytes at) ≡ take 4 (drop at bytes)
+unfolding littleBytes
+little-back bytes small at h =
+    let e = little-digits bytes small at in
     rw (e .0, e .1, e .2, e .3) (sym (there bytes at h))
 
 pub little-after : (p q : List ℕ) (w : ℕ) → w < 2 ^ 32 → littleAt (p ++ (littleBytes w ++ q)) (length p) ≡ w
@@ -101,3 +108,15 @@ length-little w = refl
 
 abbrev pub little : Order
 little = record { at = littleAt; bytes = littleBytes; four = length-little; small = little-lt; back = little-back; after = little-after }
+
+-- ---- from one order to the other
+
+-- the word whose bytes are the same in the other order
+abbrev pub turned : ℕ → ℕ
+turned w = 16777216 * (w % 256) + 65536 * (w / 256 % 256) + 256 * (w / 65536 % 256) + w / 16777216 % 256
+
+pub little-turned : (bytes : List ℕ) → Bytes bytes → (at : ℕ) → turned (littleAt bytes at) ≡ wordAt bytes at
+unfolding wordAt
+little-turned bytes small at =
+    let e = little-digits bytes small at in
+    rw (e .0, e .1, e .2, e .3)

@@ -7,14 +7,16 @@ ghost use lib.Ieee.{isNan};
 ghost use lib.ListN.{length};
 ghost use lib.Seq.{sets};
 ghost use Rattle.model.specs.Words.{wordAt, wordBytes, floatAt};
-use crate::number_of;
+use crate::little;
 use crate::put_four;
+use crate::turned_round;
 
+// Read in the processor's order and turned round: so the compiler reads the four bytes at once, and many words at a time.
 pub fn word_at(bytes: &[u8], at: usize) -> u32
     requires { ⌜ at + 4 ≤ length (now bytes) ⌝ }
     ensures { λ r. ⌜ r ≡ wordAt (now (bytes .entry)) at ⌝ }
 {
-    number_of(bytes[at], bytes[at + 1], bytes[at + 2], bytes[at + 3])
+    turned_round(little::word_at(bytes, at))
 }
 
 // Of a word that is no pattern of a NaN.

@@ -1,72 +1,26 @@
--- `judge_samples` meets its contract. The loop's invariant: no sample passed is refused.
-use Prim.Native.Nat.{_-_, _≤_}
-use mathlib.Core.Path.{_≡_, sym}
-use native.Mathlib.Omega.{arith}
+-- `judge_samples` meets its contract: where all samples can be used none is refused, and otherwise the first bad one is looked for.
+use mathlib.Core.Path.{sym, _∙_}
 use borrow.Author.Needs.{needs}
-use borrow.Author.Tests.{not-true, not-false}
 use Rattle.model.specs.declared.Refusal.the-variants.{BadSample}
-use Rattle.model.specs.declared.Verdict.the-variants.{Passed, Refused}
-use Rattle.model.specs.Refusals.{first}
-use Rattle.judge.specs.First.{not-yet, hit}
-use Rattle.record.specs.ReadingOrder.{sampleUsableAt}
+use Rattle.judge.specs.Counted.{all-pass}
+use Rattle.record.specs.Together.{usableAt}
 use Rattle.record.proofs.judging.judge_samples.Statement.{statement}
 use Rattle.record.proofs.judging.judge_samples.Tie as tie
 
-abbrev Inv-loop : tie.InvT-loop
-Inv-loop bytes count k₀ k = (k ≤ count) × (first (sampleUsableAt bytes) k ≡ Passed)
+all-usable-requires : tie.Need-all-usable-requires
+all-usable-requires c κs = search needs
 
-abbrev μ-loop : tie.MeasureT-loop
-μ-loop bytes count k₀ k = count - k
-
-loop-holds : tie.Need-loop-holds Inv-loop μ-loop
-loop-holds c = search needs
-
-sample-from-requires : tie.Need-sample-from-requires Inv-loop μ-loop
-sample-from-requires c κs = omega arith
-
-is-usable-at-requires : tie.Need-is-usable-at-requires Inv-loop μ-loop
-is-usable-at-requires c κs = omega arith
-
-returns : tie.Need-returns Inv-loop μ-loop
+returns : tie.Need-returns
 returns c =
-    let judged = c .before .is-usable-at in
-    let turn = c .before .before .before .before .loop in
-    let args = c .before .before .before .before .before .before .args in
-    let here : sampleUsableAt (args .bytes .now) (turn .k) ≡ Refused (BadSample (turn .k)) =
-    rw (← c .before .before .sample-from .ensures, ← judged .ensures, not-true (judged .result) (c .if1 .taken)) in
-    sym (hit (sampleUsableAt (args .bytes .now)) (turn .k) (args .count) (BadSample (turn .k)) (turn .inv .1) here (omega arith))
+    let asked = c .before in
+    let start = asked .before .before .args in
+    sym (all-pass (usableAt (start .bytes .now)) BadSample (start .count) (sym (asked .all-usable .ensures) ∙ c .if1 .taken))
 
-add-k : tie.Need-add-k Inv-loop μ-loop
-add-k c = search needs
+first-bad-requires : tie.Need-first-bad-requires
+first-bad-requires c κs = search needs
 
-loop-less : tie.Need-loop-less Inv-loop μ-loop
-loop-less c = omega arith
-
-loop-again : tie.Need-loop-again Inv-loop μ-loop
-loop-again c =
-    let judged = c .before .is-usable-at in
-    let turn = c .before .before .before .before .loop in
-    let args = c .before .before .before .before .before .before .args in
-    let here : sampleUsableAt (args .bytes .now) (turn .k) ≡ Passed =
-    rw (← c .before .before .sample-from .ensures, ← judged .ensures, not-false (judged .result) (c .if1 .left)) in
-    (omega arith, not-yet (sampleUsableAt (args .bytes .now)) (turn .k) (turn .inv .1) here)
-
-returns-2 : tie.Need-returns-2 Inv-loop μ-loop
-returns-2 c =
-    let all : c .before .loop .k ≡ c .before .before .before .args .count = omega arith in
-    sym (rw all at (c .before .loop .inv .1))
+returns-2 : tie.Need-returns-2
+returns-2 c = c .first-bad .ensures
 
 pub judge-samples-spec : {M : Type 1} → statement M
-judge-samples-spec =
-    tie.close
-    (tie.spec
-    Inv-loop
-    μ-loop
-    loop-holds
-    sample-from-requires
-    is-usable-at-requires
-    returns
-    add-k
-    loop-less
-    loop-again
-    returns-2)
+judge-samples-spec = tie.close (tie.spec all-usable-requires returns first-bad-requires returns-2)

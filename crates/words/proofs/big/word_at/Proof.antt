@@ -1,47 +1,22 @@
--- `word_at` meets its contract: its digits are the four bytes, the first the highest.
+-- `word_at` meets its contract: the four bytes in the one order are those in the other, turned round.
+use mathlib.Core.Path.{ap, _∙_}
 use borrow.Author.Needs.{needs}
-use Rattle.model.specs.Words.{wordAt}
+use Rattle.words.specs.Orders.{turned, little-turned}
 use Rattle.words.proofs.big.word_at.Statement.{statement}
 use Rattle.words.proofs.big.word_at.Tie as tie
 
-shared-slice-read-number-of : tie.Need-shared-slice-read-number-of
-shared-slice-read-number-of c = search needs
+word-at-requires : tie.Need-word-at-requires
+word-at-requires c κs = search needs
 
-add-number-of : tie.Need-add-number-of
-add-number-of c = search needs
-
-shared-slice-read-number-of-2 : tie.Need-shared-slice-read-number-of-2
-shared-slice-read-number-of-2 c = search needs
-
-add-number-of-2 : tie.Need-add-number-of-2
-add-number-of-2 c = search needs
-
-shared-slice-read-number-of-3 : tie.Need-shared-slice-read-number-of-3
-shared-slice-read-number-of-3 c = search needs
-
-add-number-of-3 : tie.Need-add-number-of-3
-add-number-of-3 c = search needs
-
-shared-slice-read-number-of-4 : tie.Need-shared-slice-read-number-of-4
-shared-slice-read-number-of-4 c = search needs
-
-number-of-requires : tie.Need-number-of-requires
-number-of-requires c κs = search needs
+turned-round-requires : tie.Need-turned-round-requires
+turned-round-requires c κs = search needs
 
 returns : tie.Need-returns
-unfolding wordAt
-returns c = c .number-of .ensures
+returns c =
+    let read = c .before in
+    let start = read .before .before .args in
+    c .turned-round .ensures ∙ ap turned (read .word-at .ensures)
+    ∙ little-turned (start .bytes .now) (λ k. read .before .shared-slice-known .given k .fits) (start .at)
 
 pub word-at-spec : {M : Type 1} → statement M
-word-at-spec =
-    tie.close
-    (tie.spec
-    shared-slice-read-number-of
-    add-number-of
-    shared-slice-read-number-of-2
-    add-number-of-2
-    shared-slice-read-number-of-3
-    add-number-of-3
-    shared-slice-read-number-of-4
-    number-of-requires
-    returns)
+word-at-spec = tie.close (tie.spec word-at-requires turned-round-requires returns)
