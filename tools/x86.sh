@@ -11,7 +11,7 @@
 #
 # A script ends with the status $missing when a tool is missing: 77, which tools/check-all counts as skipped, unless the script sets another.
 missing=${missing:-77}
-toolchain="rattle-kit-5b logic 064da1ca440f63e7"
+toolchain="rattle-kit-5b-plain logic 097e4c862dff5811"
 script=$(readlink -f "$0")
 script=${script#"$root"/}
 
