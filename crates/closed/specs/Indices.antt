@@ -148,11 +148,11 @@ module _ (c : Cell) (storing : (i : ℕ) → Storing (c .uses i)) where
 
 -- ---- what each cell keeps, the mesh keeps
 
-record IsSideCell (s : Star) (side u v : ℕ) : Type 0 where
-  side-in : side < sideCount
-  side-named : named (s .mask) side ≡ true
-  u-in : u < subdivisions s
-  v-in : v < subdivisions s
+pub record IsSideCell (s : Star) (side u v : ℕ) : Type 0 where
+  pub side-in : side < sideCount
+  pub side-named : named (s .mask) side ≡ true
+  pub u-in : u < subdivisions s
+  pub v-in : v < subdivisions s
 
 module _ (P : Mesh → Type 0) where
   steps-keep : (step : ℕ → Mesh → Mesh) (k : ℕ) → ((j : ℕ) → j < k → (m : Mesh) → P m → P (step j m)) → (m : Mesh) → P m → P (iterate step k m)

@@ -100,11 +100,11 @@ module _ (s : Star) (lent : Lent) where
           triangles-fit = omega arith;
         }
 
-    vertices-left : left s lent .vertices ≡ laid (each vertexFloats (meshOf s .made)) (lent .vertices)
+    pub vertices-left : left s lent .vertices ≡ laid (each vertexFloats (meshOf s .made)) (lent .vertices)
     unfolding extract outcome
     vertices-left = ap (λ (v : Verdict). came (meshOf s) lent v .vertices) (accepted .0)
 
-    triangles-left : left s lent .triangles ≡ laid (each triangleIndices (meshOf s .triangles)) (lent .triangles)
+    pub triangles-left : left s lent .triangles ≡ laid (each triangleIndices (meshOf s .triangles)) (lent .triangles)
     unfolding extract outcome
     triangles-left = ap (λ (v : Verdict). came (meshOf s) lent v .triangles) (accepted .0)
 

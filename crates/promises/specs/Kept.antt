@@ -13,6 +13,7 @@ use Rattle.promises.specs.StlKept.{stl-kept}
 use Rattle.promises.specs.NestingKept.{nesting-kept}
 use Rattle.promises.specs.PlaceKindsKept.{place-kinds-kept}
 use Rattle.promises.specs.BlankKept.{blank-kept}
+use Rattle.promises.specs.WeightsKept.{weights-kept}
 use Rattle.promises.specs.Views.{point, packed-record, subdivisions-apart, blank-apart, viewer-sample}
 
 pub kept : Promises
@@ -39,5 +40,6 @@ kept =
       nesting = nesting-kept;
       place-kinds = place-kinds-kept;
       blank = blank-kept;
+      weights = weights-kept;
       starred = figures-agree;
     }

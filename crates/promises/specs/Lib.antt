@@ -4,6 +4,7 @@ pub mod Stl
 pub mod Nesting
 pub mod PlaceKinds
 pub mod Blank
+pub mod Weights
 pub mod Orders
 pub mod Points
 pub mod Left
@@ -21,3 +22,4 @@ pub mod StlKept
 pub mod NestingKept
 pub mod PlaceKindsKept
 pub mod BlankKept
+pub mod WeightsKept

@@ -41,6 +41,7 @@ use Rattle.promises.specs.Stl.{StlPromises}
 use Rattle.promises.specs.Nesting.{NestingPromises}
 use Rattle.promises.specs.PlaceKinds.{PlaceKindPromises}
 use Rattle.promises.specs.Blank.{BlankPromises}
+use Rattle.promises.specs.Weights.{WeightsPromises}
 
 -- ---- 1. every call is answered
 
@@ -161,5 +162,6 @@ pub record Promises : Type 0 where
   pub nesting : NestingPromises
   pub place-kinds : PlaceKindPromises
   pub blank : BlankPromises
+  pub weights : WeightsPromises
   -- what the definitions work out is what document 01 states
   pub starred : map (λ (f : Figure). f .worked) figures ≡ map (λ (f : Figure). f .stated) figures

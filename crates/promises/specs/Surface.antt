@@ -59,7 +59,7 @@ module _ (s : Star) (b : Lent) (vertices : List Float) (triangles : List ℕ)
   number-is : (i k : ℕ) → i < length (meshOf s .made) → k < 6 → numberIn b i k ≡ getD (vertexFloats (getD (meshOf s .made) i noVertex)) k nan
   number-is i k h small = laid-at vertexFloats 6 (λ m. refl) (meshOf s .made) vertices (b .vertices) vertices-left i k noVertex nan h small
 
-  vertex-is : (i : ℕ) → i < length (meshOf s .made)
+  pub vertex-is : (i : ℕ) → i < length (meshOf s .made)
       → _≡_ {A = Made} (record { vertex = vertexIn b i; edge = edgeAt (meshOf s .made) i }) (getD (meshOf s .made) i noVertex)
   vertex-is i h =
       λ j.
