@@ -550,9 +550,9 @@ class Mesher:
             self.triangles.append(triangle[::-1] if kind & 0x80 else triangle)
 
 
-def mesh_of(block):
+def mesh_of(block, mesher=Mesher):
     """The mesh of a block that passes 1 to 8."""
-    mesher = Mesher(block)
+    mesher = mesher(block)
     steps = range(block.n)
     for x in steps:
         for y in steps:
