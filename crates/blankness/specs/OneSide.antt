@@ -14,7 +14,6 @@ use Rattle.laws.specs.Ranges.{beq-eq, none-each, square-each, cube-each, cube-n
 use Rattle.tables.specs.Points.{contributionOf}
 use Rattle.tables.specs.Cases.{regularTriangles, transitionTriangles}
 use Rattle.tables.specs.RulesUncut.{UncutAlone, regular-uncut-alone, transition-uncut-alone}
-use Rattle.model.specs.declared.Refusal.the-variants.{FaceMismatch}
 use Rattle.model.specs.declared.Verdict.the-variants.{Passed}
 use Rattle.model.specs.Limits.{sideCount}
 use Rattle.model.specs.Samples.{sampleOf}
@@ -23,11 +22,11 @@ use Rattle.model.specs.Rotations.{xyz, pointFrom, facePoint}
 use Rattle.model.specs.Formulas.{inside}
 use Rattle.model.specs.Star.{Star, subdivisions}
 use Rattle.model.specs.Points.{regularCase, transitionCase, fineSample}
-use Rattle.model.specs.Judging.{facesAgree, faceSpot, faceRow, faceSide, judgeFaces}
+use Rattle.model.specs.Judging.{facesAgree, judgeFaces}
 use Rattle.model.specs.Mesh.{meshOf}
 use Rattle.grid.specs.Places.{Within}
 use Rattle.grid.specs.RotationLaws.{turned}
-use Rattle.judge.specs.First.{unless-passed, each-passed}
+use Rattle.judge.specs.Faces.{faces-agree}
 use Rattle.blankness.specs.Weights.{taken, taken-most, alike, of-alike}
 use Rattle.blankness.specs.Linked.{cube-alike, square-alike}
 use Rattle.blankness.specs.Counted.{ofRegular, ofTransition, ofSide, triangles-counted}
@@ -144,14 +143,6 @@ module _ (s : Star) where
     -- ---- and where 8 passes, on the same
 
     module _ (agree : judgeFaces s ≡ Passed) (side : ℕ) (hs : side < sideCount) (is-named : named (s .mask) side ≡ true) where
-      tied : facesAgree s side 0 0 ≡ true
-      unfolding judgeFaces
-      tied =
-          let at-side = each-passed (λ side. cond (named (s .mask) side) (faceSide s side (n + 1)) Passed) sideCount side agree hs in
-          let at-row = each-passed (λ u. faceRow s side u (n + 1)) (n + 1) 0 (rw is-named at at-side) (omega arith) in
-          let at-spot = each-passed (faceSpot s side 0) (n + 1) 0 at-row (omega arith) in
-          unless-passed (facesAgree s side 0 0) (FaceMismatch (record { side = side; u = 0; v = 0 })) at-spot
-
       corner-in : Within n (facePoint n side 0 0)
       unfolding pointFrom
       corner-in =
@@ -160,7 +151,8 @@ module _ (s : Star) where
 
       face-tied : fineIn side 0 0 ≡ centreIn 0 0 0
       unfolding facesAgree centreIn fineIn
-      face-tied = sym (beq-eq _ _ tied) ∙ centre-alike _ _ _ (corner-in .x-in) (corner-in .y-in) (corner-in .z-in)
+      face-tied =
+          sym (beq-eq _ _ (faces-agree s agree side 0 0 hs is-named (omega arith) (omega arith))) ∙ centre-alike _ _ _ (corner-in .x-in) (corner-in .y-in) (corner-in .z-in)
 
     pub none-one-side : judgeFaces s ≡ Passed → OneSide (centreIn 0 0 0)
     none-one-side agree =

@@ -211,18 +211,22 @@ own-of-block s x y z e c o =
 
 -- ---- the codes of a case and the crossed edges of its cell
 
+-- of codes no two of which have one edge
+pub one-of-edge : (used : List ℕ) → T (eachTwo (λ c d. not (eqb (edgeOf c) (edgeOf d))) used)
+    → (c d : ℕ) → T (has c used) → T (has d used) → edgeOf c ≡ edgeOf d → c ≡ d
+one-of-edge =
+    two-items (λ c d. not (eqb (edgeOf c) (edgeOf d))) (λ c d. edgeOf c ≡ edgeOf d → c ≡ d)
+    (λ c d t e. absurd (T-not (eqb (edgeOf c) (edgeOf d)) t (eq→eqb _ _ e)))
+    (λ c e. refl)
+    (λ c d r e. sym (r (sym e)))
+
 -- no two of the twelve have one edge
 codes-apart : T (eachTwo (λ c d. not (eqb (edgeOf c) (edgeOf d))) regularUsed)
 unfolding regularUsed eachTwo withEach both
 codes-apart = tt
 
 code-of-edge : (c d : ℕ) → T (has c regularUsed) → T (has d regularUsed) → edgeOf c ≡ edgeOf d → c ≡ d
-code-of-edge =
-    two-items (λ c d. not (eqb (edgeOf c) (edgeOf d))) (λ c d. edgeOf c ≡ edgeOf d → c ≡ d)
-    (λ c d t e. absurd (T-not (eqb (edgeOf c) (edgeOf d)) t (eq→eqb _ _ e)))
-    (λ c e. refl)
-    (λ c d r e. sym (r (sym e)))
-    regularUsed codes-apart
+code-of-edge = one-of-edge regularUsed codes-apart
 
 -- the new code of each index is one of the twelve
 new-used : (r : ℕ) → 1 ≤ r → r < 4 → T (has (regularNewCode r) regularUsed)

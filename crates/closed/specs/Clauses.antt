@@ -86,6 +86,12 @@ noTriangle = record { a = 0; b = 0; c = 0 }
 abbrev pub triangleAt : Mesh → ℕ → Triangle
 triangleAt m t = getD (m .triangles) t noTriangle
 
+-- the three corners of triangle t name vertices of the mesh
+pub record NamesVertices (m : Mesh) (t : ℕ) : Type 0 where
+  pub a : triangleAt m t .a < length (m .made)
+  pub b : triangleAt m t .b < length (m .made)
+  pub c : triangleAt m t .c < length (m .made)
+
 -- 1 if p is g and q is h, else 0
 unfoldable pub run : ℕ → ℕ → ℕ → ℕ → ℕ
 run g h p q = one (eqb p g && eqb q h)

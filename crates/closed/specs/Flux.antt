@@ -1,26 +1,27 @@
 -- The directed sides of a cell's triangles against what its six faces show, by the tables' rule T4. A face shows the same sides to the cells
 -- on both sides of it, so that the sum over all cells comes down to what the block's outer faces show.
 use mathlib.Core.Path.{_≡_, refl, ap, ap₂, _∙_}
-use mathlib.Core.Bool.{Bool, true, false, _&&_}
-use mathlib.Core.List.{List, [], _∷_, map}
+use mathlib.Core.Bool.{Bool}
+use mathlib.Core.List.{List, map}
 use Prim.Native.Nat.{ℕ, suc, _+_, _*_, _/_, _%_, _^_, _<_}
 use native.Mathlib.Nat.{add-zero}
 use native.Mathlib.Numerals.{add-one}
 use native.Mathlib.Omega.{arith}
 use lib.Dec.{T, eqb, ltb, eqb→eq, ltb→lt}
-use Rattle.tables.specs.Codes.{pointA, edgeOf}
-use Rattle.tables.specs.Cases.{regularTriangles}
+use Rattle.tables.specs.Codes.{pointA}
+use Rattle.tables.specs.Cases.{regularCode, regularCorner, regularTriangles}
 use Rattle.tables.specs.Corners.{bit, cornerX, cornerY, cornerZ, axisOf, regularUsed, regularEdges}
 use Rattle.laws.specs.Tests.{both, both-left, both-right, then, then-holds, below, all, all₂}
-use Rattle.laws.specs.Counting.{pick, one, every, every-item, weighed}
-use Rattle.tables.specs.Sides.{side, back, sidesOf, regularSides, regular-sides, farEnds, nearEdge, nearSide, onlyNear, farEdge, farSide, nearCorner, nearBits, farBits, spread, shown, nears, fars, inflow, outflow}
+use Rattle.laws.specs.Counting.{one, every, every-item, weighed}
+use Rattle.tables.specs.Sides.{back, regularSides, regular-sides, farEnds, nearEdge, nearSide, farEdge, farSide, nearCorner, nearBits, farBits, spread, shown, nears, fars, inflow, outflow}
 use Rattle.tables.specs.RulesSides.{balanced}
 use Rattle.model.specs.Star.{Star, subdivisions}
 use Rattle.model.specs.Points.{cornerPoint, regularCase}
 use Rattle.closed.specs.Clauses.{Edge, number, insideAt, run}
-use Rattle.laws.specs.Sums.{Each, each-gather, weighed-append, weighed-map, weighed-same, cube, border, telescope-cube}
+use Rattle.laws.specs.Sums.{Each, each-as, each-map, each-only, weighed-append, weighed-map, weighed-same, cube, border, telescope-cube}
 use Rattle.closed.specs.Places.{same-edge}
 use Rattle.closed.specs.Cells.{case-small, case-bit, codeEdge, same-point}
+use Rattle.closed.specs.Weighing.{side-small, sides-below, weightBy, weighed-back}
 
 -- one step in direction d, along the axis i
 abbrev step : ℕ → ℕ → ℕ
@@ -28,22 +29,6 @@ step i d = one (eqb i d)
 
 regroup : (x a u b : ℕ) → a ≡ b + u → x + a ≡ x + u + b
 regroup x a u b e = omega arith
-
--- ---- sides as numbers
-
-pub side-from : (p q : ℕ) → q < 256 → side p q / 256 ≡ p
-unfolding side
-side-from p q h = omega arith
-
-pub side-to : (p q : ℕ) → q < 256 → side p q % 256 ≡ q
-unfolding side
-side-to p q h = omega arith
-
-from-small : (k : ℕ) → k < 65536 → k / 256 < 256
-from-small k h = omega arith
-
-side-small : (k : ℕ) → k / 256 < 256 → k < 65536
-side-small k h = omega arith
 
 far-from : (d k m : ℕ) → m ≡ 17 * 2 ^ d → k % 256 + m < 256 → farSide d k / 256 ≡ k / 256 + m
 unfolding farSide
@@ -99,46 +84,19 @@ edge-moved : (d x y z e : ℕ) → Moved d e → codeEdge x y z (farEdge d e) �
 edge-moved d x y z e m =
     same-edge (regroup x _ _ _ (m .x-is)) (regroup y _ _ _ (m .y-is)) (regroup z _ _ _ (m .z-is)) (m .axis-is)
 
-only-near : (d : ℕ) (ks : List ℕ) → Each (λ k. T (nearSide d k)) (onlyNear d ks)
-unfolding onlyNear
-only-near d [] = tt
-only-near d (k ∷ ks) = go (nearSide d k) (λ t. t) (only-near d ks)
-  where
-    go : (b : Bool) → (T b → T (nearSide d k)) → Each (λ k. T (nearSide d k)) (onlyNear d ks)
-        → Each (λ k. T (nearSide d k)) (pick b (k ∷ onlyNear d ks) (onlyNear d ks))
-    go true f r = (f tt, r)
-    go false f r = r
+regular-below : (case : ℕ) → Each (λ k. k < 65536) (regularSides case)
+regular-below case = rw (regular-sides case) (sides-below (λ j. regularCode case (regularCorner case j)) (regularTriangles case))
 
-pub shown-near : (d bits : ℕ) → Each (λ k. T (nearSide d k)) (shown d bits)
+pub shown-near : (d bits : ℕ) → Each (λ k. (k < 65536) × T (nearSide d k)) (shown d bits)
 unfolding shown
-shown-near d bits = only-near d (regularSides (spread d bits))
+shown-near d bits = each-only (λ k. k < 65536) (nearSide d) _ (regular-below (spread d bits))
 
 -- ---- what a side weighs in the cell (x, y, z): 1 if it runs from the grid edge g to h
 
 unfoldable pub weight : Star → ℕ → ℕ → ℕ → ℕ → ℕ → ℕ → ℕ
-weight s g h x y z k = run g h (number s (codeEdge x y z (k / 256))) (number s (codeEdge x y z (k % 256)))
-
-run-turned : (g h p q : ℕ) → run g h p q ≡ run h g q p
-unfolding run
-run-turned g h p q = go (eqb p g) (eqb q h)
-  where
-    go : (a b : Bool) → one (a && b) ≡ one (b && a)
-    go true true = refl
-    go true false = refl
-    go false true = refl
-    go false false = refl
-
--- a side turned round runs from h to g
-turned : (s : Star) (g h x y z k : ℕ) → k < 65536 → weight s g h x y z (back k) ≡ weight s h g x y z k
-unfolding weight back
-turned s g h x y z k l =
-    rw (side-from (k % 256) (k / 256) (from-small k l), side-to (k % 256) (k / 256) (from-small k l)) (run-turned g h _ _)
+weight s g h x y z = weightBy (λ p. number s (codeEdge x y z p)) g h
 
 module _ (d : ℕ) (hd : d < 3) where
-  near-below : (k : ℕ) → T (nearSide d k) → k < 65536
-  unfolding nearSide
-  near-below k t = side-small k (moved d (k / 256) hd (both-left _ _ t) .small)
-
   far-parts : (k : ℕ) → T (nearSide d k) → (farSide d k / 256 ≡ farEdge d (k / 256)) × (farSide d k % 256 ≡ farEdge d (k % 256))
   unfolding nearSide farEdge
   far-parts k t =
@@ -229,54 +187,44 @@ module _ (s : Star) (g h : ℕ) where
   unfoldable pub faceRuns : ℕ → ℕ → ℕ → ℕ → ℕ
   faceRuns d x y z = weighed (weight s g h x y z) (shown d (faceBits s d x y z))
 
-byte-side : (p q : ℕ) → side (edgeOf p) (edgeOf q) < 65536
-unfolding side
-byte-side p q = omega arith
-
-sides-below : (case : ℕ) → Each (λ k. k < 65536) (regularSides case)
-unfolding sidesOf
-sides-below case =
-    rw (regular-sides case)
-    (each-gather (λ k. k < 65536) _ (regularTriangles case) (λ t. (byte-side _ _, (byte-side _ _, (byte-side _ _, tt)))))
-
 module _ (s : Star) (g h x y z : ℕ) where
   abbrev flow : List ℕ → ℕ
   flow ks = weighed (weight s g h x y z) ks
 
-  cell-back : flow (map back (regularSides (regularCase s x y z))) ≡ cellRuns s h g x y z
-  unfolding cellRuns
-  cell-back =
-      let ks = regularSides (regularCase s x y z) in
-      weighed-map (weight s g h x y z) back ks ∙ weighed-same _ _ (turned s g h x y z) ks (sides-below (regularCase s x y z))
+  flow-back : (ks : List ℕ) → Each (λ k. k < 65536) ks → flow (map back ks) ≡ weighed (weight s h g x y z) ks
+  unfolding weight
+  flow-back ks e = weighed-back (λ p. number s (codeEdge x y z p)) g h ks e
 
   module _ (d : ℕ) (hd : d < 3) where
     near-forth : flow (nears d (regularCase s x y z)) ≡ faceRuns s g h d x y z
     unfolding nears faceRuns
     near-forth = rw (near-bits s x y z d hd)
 
-    near-back : flow (map back (nears d (regularCase s x y z))) ≡ faceRuns s h g d x y z
-    unfolding nears faceRuns
-    near-back =
-        let ks = shown d (faceBits s d x y z) in
-        rw (near-bits s x y z d hd)
-        (weighed-map (weight s g h x y z) back ks
-        ∙ weighed-same _ _ (λ k t. turned s g h x y z k (near-below d hd k t)) ks (shown-near d _))
-
     far-forth : flow (fars d (regularCase s x y z)) ≡ faceRuns s g h d (x + step 0 d) (y + step 1 d) (z + step 2 d)
     unfolding fars faceRuns
     far-forth =
         let ks = shown d (faceBits s d (x + step 0 d) (y + step 1 d) (z + step 2 d)) in
         rw (far-bits s x y z d hd)
-        (weighed-map (weight s g h x y z) (farSide d) ks ∙ weighed-same _ _ (far-weight d hd s g h x y z) ks (shown-near d _))
+        (weighed-map (weight s g h x y z) (farSide d) ks ∙ weighed-same _ _ (λ k p. far-weight d hd s g h x y z k (p .1)) ks (shown-near d _))
 
-    far-back : flow (map back (fars d (regularCase s x y z))) ≡ faceRuns s h g d (x + step 0 d) (y + step 1 d) (z + step 2 d)
-    unfolding fars faceRuns
+module _ (s : Star) (g h x y z : ℕ) where
+  cell-back : flow s g h x y z (map back (regularSides (regularCase s x y z))) ≡ cellRuns s h g x y z
+  unfolding cellRuns
+  cell-back = flow-back s g h x y z (regularSides (regularCase s x y z)) (regular-below (regularCase s x y z))
+
+  module _ (d : ℕ) (hd : d < 3) where
+    near-back : flow s g h x y z (map back (nears d (regularCase s x y z))) ≡ faceRuns s h g d x y z
+    unfolding nears
+    near-back =
+        let ks = shown d (nearBits d (regularCase s x y z)) in
+        flow-back s g h x y z ks (each-as (λ k p. p .0) ks (shown-near d _)) ∙ near-forth s h g x y z d hd
+
+    far-back : flow s g h x y z (map back (fars d (regularCase s x y z))) ≡ faceRuns s h g d (x + step 0 d) (y + step 1 d) (z + step 2 d)
+    unfolding fars
     far-back =
-        let ks = shown d (faceBits s d (x + step 0 d) (y + step 1 d) (z + step 2 d)) in
-        rw (far-bits s x y z d hd)
-        (weighed-map (weight s g h x y z) back (map (farSide d) ks)
-        ∙ weighed-map (λ k. weight s g h x y z (back k)) (farSide d) ks
-        ∙ weighed-same _ _ (λ k t. turned s g h x y z (farSide d k) (far-below d hd k t) ∙ far-weight d hd s h g x y z k t) ks (shown-near d _))
+        let ks = shown d (farBits d (regularCase s x y z)) in
+        flow-back s g h x y z (map (farSide d) ks) (each-map (λ k. k < 65536) (farSide d) (λ k p. far-below d hd k (p .1)) ks (shown-near d _))
+        ∙ far-forth s h g x y z d hd
 
   cell-balanced : cellRuns s g h x y z + (faceRuns s g h 0 (suc x) y z + faceRuns s h g 0 x y z)
       + (faceRuns s g h 1 x (suc y) z + faceRuns s h g 1 x y z) + (faceRuns s g h 2 x y (suc z) + faceRuns s h g 2 x y z)
@@ -288,15 +236,15 @@ module _ (s : Star) (g h x y z : ℕ) where
         arith,
         simp weighed-append at (balanced (weight s g h x y z) (regularCase s x y z) (case-small s x y z)),
         cell-back,
-        near-forth 0 (omega arith),
-        near-forth 1 (omega arith),
-        near-forth 2 (omega arith),
+        near-forth s g h x y z 0 (omega arith),
+        near-forth s g h x y z 1 (omega arith),
+        near-forth s g h x y z 2 (omega arith),
         near-back 0 (omega arith),
         near-back 1 (omega arith),
         near-back 2 (omega arith),
-        simp (add-zero, add-one) at (far-forth 0 (omega arith)),
-        simp (add-zero, add-one) at (far-forth 1 (omega arith)),
-        simp (add-zero, add-one) at (far-forth 2 (omega arith)),
+        simp (add-zero, add-one) at (far-forth s g h x y z 0 (omega arith)),
+        simp (add-zero, add-one) at (far-forth s g h x y z 1 (omega arith)),
+        simp (add-zero, add-one) at (far-forth s g h x y z 2 (omega arith)),
         simp (add-zero, add-one) at (far-back 0 (omega arith)),
         simp (add-zero, add-one) at (far-back 1 (omega arith)),
         simp (add-zero, add-one) at (far-back 2 (omega arith)),

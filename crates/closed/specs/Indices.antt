@@ -11,7 +11,6 @@ use native.Mathlib.Omega.{arith}
 use lib.ListN.{length, getD, set, replicate, length-append}
 use Rattle.laws.specs.Steps.{iterate, listed}
 use Rattle.laws.specs.Iterated.{iterate-upto}
-use Rattle.laws.specs.Lists.{length-listed}
 use Rattle.tables.specs.RulesCorners.{transition-cell-right}
 use Rattle.model.specs.declared.Triangle.{Triangle}
 use Rattle.model.specs.Limits.{sideCount}
@@ -19,16 +18,11 @@ use Rattle.model.specs.Sides.{named}
 use Rattle.model.specs.Star.{Star, subdivisions}
 use Rattle.model.specs.Points.{transitionCase}
 use Rattle.model.specs.Mesh.{CodeUse, Cell, Fill, Mesh, fillStep, fillTo, filled, triangleOf, cellStep, emptyMesh, storeLength, regularUse, regularCell, regularColumn, regularLayer, regularMesh, transitionUse, transitionCell, transitionRow, transitionSide, meshOf}
-use Rattle.closed.specs.Clauses.{noTriangle, triangleAt}
+use Rattle.closed.specs.Clauses.{noTriangle, NamesVertices}
+use Rattle.closed.specs.CellStep.{triangles-many}
 use Rattle.closed.specs.Whole.{whole}
 use Rattle.closed.specs.Front.{Begins, cell-added, row-added, side-added, regular-first}
 use Rattle.closed.specs.SideCells.{case-small, Makes, cut-made}
-
--- the three corners of triangle t name vertices of the mesh
-pub record NamesVertices (m : Mesh) (t : ℕ) : Type 0 where
-  pub a : triangleAt m t .a < length (m .made)
-  pub b : triangleAt m t .b < length (m .made)
-  pub c : triangleAt m t .c < length (m .made)
 
 -- ---- what holds at each place of a list, and of what stands for a place past its end
 
@@ -222,10 +216,6 @@ cell-some c i h makes m =
           (record { made = []; index = []; store = m .store }),
     ))
 
-cell-sends : (c : Cell) (m : Mesh) → length (cellStep c m .triangles) ≡ length (m .triangles) + c .triangles
-unfolding cellStep
-cell-sends c m = rw (length-append, length-listed)
-
 one-some : (a b : ℕ) → 0 < a + b → (0 < a) ⊎ (0 < b)
 one-some zero b h = inr (omega arith)
 one-some (suc a) b h = inl (omega arith)
@@ -265,7 +255,7 @@ module _ (s : Star) where
   some-vertex =
       sides-keep (λ (m : Mesh). 0 < length (m .triangles) → 0 < length (meshOf s .made)) s
       (λ side u v c m before h.
-      ⊎-elim before (triangle-made side u v c) (one-some _ _ (rw (cell-sends (transitionCell s side u v) m) at h)))
+      ⊎-elim before (triangle-made side u v c) (one-some _ _ (rw (triangles-many (transitionCell s side u v) m) at h)))
       (λ h. omega (arith, whole s .corners 0 h .a .named .there, begins-grown (regular-first s)))
 
 -- ---- the theorem

@@ -1,6 +1,8 @@
 pub mod Clauses
 pub mod Places
 pub mod Cells
+pub mod CellStep
+pub mod Weighing
 pub mod Stored
 pub mod Whole
 pub mod Flux

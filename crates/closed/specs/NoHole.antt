@@ -11,7 +11,7 @@ use Rattle.model.specs.Mesh.{regularMesh}
 use Rattle.closed.specs.Clauses.{Edge, number, OfBlock, OfCell, Crossed, runs, IsCell, Carried, Corners, Balanced, vertexOn, NoHole, OneVertex}
 use Rattle.closed.specs.Places.{number-one, rank-in}
 use Rattle.closed.specs.Cells.{codeEdge, byte-edge, own-byte, crossed-code}
-use Rattle.closed.specs.Stored.{names-as}
+use Rattle.closed.specs.CellStep.{names-as}
 use Rattle.closed.specs.Whole.{whole}
 use Rattle.closed.specs.Flux.{faceRuns, block-balanced}
 use Rattle.closed.specs.Counted.{block-counted}

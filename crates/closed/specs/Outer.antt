@@ -1,7 +1,7 @@
 -- What the outer faces of a block show: no side between two grid edges that do not both lie in one of them.
 use mathlib.Core.Path.{_≡_, refl, ap, _∙_}
 use mathlib.Core.Logic.{_⊎_, inl, inr}
-use mathlib.Core.Bool.{Bool, true, false, not, _&&_}
+use mathlib.Core.Bool.{not}
 use Prim.Native.Nat.{ℕ, zero, suc, _+_, _/_, _%_, _≤_, _<_}
 use native.Mathlib.Omega.{arith}
 use lib.Dec.{T, eqb, eqb→eq}
@@ -13,10 +13,11 @@ use Rattle.tables.specs.Sides.{farEnds, nearEdge, nearSide, shown}
 use Rattle.model.specs.Rotations.{xyz}
 use Rattle.model.specs.Star.{Star, subdivisions}
 use Rattle.model.specs.Points.{cornerPoint}
-use Rattle.closed.specs.Clauses.{Edge, number, OfBlock, OfCell, run, part, InFace, InnerPair}
-use Rattle.laws.specs.Sums.{weighed-none, square-none, border}
+use Rattle.closed.specs.Clauses.{Edge, number, OfBlock, OfCell, part, InFace, InnerPair}
+use Rattle.laws.specs.Sums.{square-none, border}
 use Rattle.closed.specs.Places.{number-one}
 use Rattle.closed.specs.Cells.{codeEdge, byte-own, byte-high, in-block}
+use Rattle.closed.specs.Weighing.{weighed-never}
 use Rattle.closed.specs.Flux.{shown-near, weight, faceBits, faceRuns}
 
 -- ---- the edges of a face
@@ -31,7 +32,7 @@ part-kept (suc (suc (suc d))) x y z c h e = absurd (omega arith)
 none-far : (a b : ℕ) → a + b ≡ 0 → (a ≡ 0) × (b ≡ 0)
 none-far a b e = (omega arith, omega arith)
 
-near-in-face : (d x y z p : ℕ) → d < 3 → T (nearEdge d p) → InFace d (part d (xyz x y z)) (codeEdge x y z p)
+pub near-in-face : (d x y z p : ℕ) → d < 3 → T (nearEdge d p) → InFace d (part d (xyz x y z)) (codeEdge x y z p)
 unfolding nearEdge farEnds
 near-in-face d x y z p h t =
     let e = none-far _ _ (eqb→eq (farEnds d p) 0 (both-left _ _ t)) in
@@ -41,12 +42,12 @@ near-in-face d x y z p h t =
     }
 
 -- (x, y, z) is the lowest corner of a face of the grid across direction d
-record IsFace (s : Star) (d x y z : ℕ) : Type 0 where
-  x-in : x + one (not (eqb d 0)) ≤ subdivisions s
-  y-in : y + one (not (eqb d 1)) ≤ subdivisions s
-  z-in : z + one (not (eqb d 2)) ≤ subdivisions s
+pub record IsFace (s : Star) (d x y z : ℕ) : Type 0 where
+  pub x-in : x + one (not (eqb d 0)) ≤ subdivisions s
+  pub y-in : y + one (not (eqb d 1)) ≤ subdivisions s
+  pub z-in : z + one (not (eqb d 2)) ≤ subdivisions s
 
-face-of-block : (s : Star) (d x y z : ℕ) (e : Edge) → d < 3 → IsFace s d x y z → OfCell x y z e → InFace d (part d (xyz x y z)) e → OfBlock s e
+pub face-of-block : (s : Star) (d x y z : ℕ) (e : Edge) → d < 3 → IsFace s d x y z → OfCell x y z e → InFace d (part d (xyz x y z)) e → OfBlock s e
 face-of-block s zero x y z e h f o i =
     in-block s o (omega (arith, f .x-in, i .high-in)) (omega (arith, f .y-in, o .high-y)) (omega (arith, f .z-in, o .high-z))
 face-of-block s (suc zero) x y z e h f o i =
@@ -56,15 +57,6 @@ face-of-block s (suc (suc zero)) x y z e h f o i =
 face-of-block s (suc (suc (suc d))) x y z e h f o i = absurd (omega arith)
 
 -- ---- what it shows
-
-no-run : (g h p q : ℕ) → (p ≡ g → q ≡ h → ⊥) → run g h p q ≡ 0
-unfolding run
-no-run g h p q f = go (eqb p g) (eqb q h) (eqb→eq p g) (eqb→eq q h)
-  where
-    go : (a b : Bool) → (T a → p ≡ g) → (T b → q ≡ h) → one (a && b) ≡ 0
-    go true true e₁ e₂ = absurd (f (e₁ tt) (e₂ tt))
-    go true false e₁ e₂ = refl
-    go false b e₁ e₂ = refl
 
 module _ (s : Star) (e f : Edge) (he : OfBlock s e) (hf : OfBlock s f) (inner : InnerPair s e f) where
   module _ (d x y z : ℕ) (hd : d < 3) (face : IsFace s d x y z) (outer : (part d (xyz x y z) ≡ 0) ⊎ (part d (xyz x y z) ≡ subdivisions s)) where
@@ -76,15 +68,13 @@ module _ (s : Star) (e f : Edge) (he : OfBlock s e) (hf : OfBlock s f) (inner : 
         let o = face-of-block s d x y z _ hd face (byte-own p (both-right _ _ t) x y z) i in
         rw (number-one s _ e o he q) at i
 
-    no-weight : (k : ℕ) → T (nearSide d k) → weight s (number s e) (number s f) x y z k ≡ 0
-    unfolding weight nearSide
-    no-weight k t =
-        no-run _ _ _ _
-        (λ q r. inner d (part d (xyz x y z)) hd outer (lies (k / 256) e he (both-left _ _ t) q) (lies (k % 256) f hf (both-right _ _ t) r))
-
     shows-none : faceRuns s (number s e) (number s f) d x y z ≡ 0
-    unfolding faceRuns
-    shows-none = weighed-none _ no-weight (shown d (faceBits s d x y z)) (shown-near d _)
+    unfolding faceRuns weight nearSide
+    shows-none =
+        weighed-never (λ p. number s (codeEdge x y z p)) (number s e) (number s f) (λ k. (k < 65536) × T (nearSide d k)) (shown d (faceBits s d x y z))
+        (λ k t q r.
+        inner d (part d (xyz x y z)) hd outer (lies (k / 256) e he (both-left _ _ (t .1)) q) (lies (k % 256) f hf (both-right _ _ (t .1)) r))
+        (shown-near d (faceBits s d x y z))
 
 -- ---- the border
 

@@ -18,12 +18,12 @@ pair-most n u v u′ v′ h e = go (decLt u u′)
     go (yes l) = absurd (let f : (u + 1) * n ≤ u′ * n = mul-le-mul-right n (omega arith) in omega (arith, add-mul u 1 n))
     go (no l) = omega arith
 
-pair-one : (n u v u′ v′ : ℕ) → v < n → v′ < n → u * n + v ≡ u′ * n + v′ → (u ≡ u′) × (v ≡ v′)
+pub pair-one : (n u v u′ v′ : ℕ) → v < n → v′ < n → u * n + v ≡ u′ * n + v′ → (u ≡ u′) × (v ≡ v′)
 pair-one n u v u′ v′ h h′ e =
     let r : u ≡ u′ = omega (arith, pair-most n u v u′ v′ h e, pair-most n u′ v′ u v h′ (sym e)) in
     (r, omega (arith, ap (λ (k : ℕ). k * n) r))
 
-pair-less : (n u v u′ v′ : ℕ) → 0 < n → u′ ≤ u → v′ ≤ v → u′ + v′ < u + v → u′ * n + v′ < u * n + v
+pub pair-less : (n u v u′ v′ : ℕ) → 0 < n → u′ ≤ u → v′ ≤ v → u′ + v′ < u + v → u′ * n + v′ < u * n + v
 pair-less n u v u′ v′ hn hu hv h = go (decLt u′ u)
   where
     go : Dec (u′ < u) → u′ * n + v′ < u * n + v
@@ -34,14 +34,14 @@ pair-less n u v u′ v′ hn hu hv h = go (decLt u′ u)
         let e : u′ ≡ u = omega arith in
         omega (arith, ap (λ (k : ℕ). k * n) e)
 
-pair-in : (m n u v : ℕ) → u < m → v < n → u * n + v < m * n
+pub pair-in : (m n u v : ℕ) → u < m → v < n → u * n + v < m * n
 pair-in m n u v hu hv =
     let f : (u + 1) * n ≤ m * n = mul-le-mul-right n (omega arith) in
     omega (arith, add-mul u 1 n)
 
 -- ---- grid edges
 
-number-pairs : (s : Star) (e : Edge)
+pub number-pairs : (s : Star) (e : Edge)
     → number s e ≡ ((e .low .x * (subdivisions s + 1) + e .low .y) * (subdivisions s + 1) + e .low .z) * 3 + e .axis
 number-pairs s e =
     let m = subdivisions s + 1 in

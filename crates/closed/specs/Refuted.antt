@@ -17,6 +17,7 @@ use Rattle.tables.specs.Cases as tables
 use Rattle.laws.specs.Steps.{listed}
 use Rattle.model.specs.Samples as Samples
 use Rattle.model.specs.Samples.{sampleLength}
+use Rattle.model.specs.Sides.{neighboursLength}
 use Rattle.model.specs.Formulas.{vector}
 use Rattle.model.specs.Star.{Star, star, subdivisions}
 use Rattle.model.specs.Points.{regularCase}
@@ -29,13 +30,22 @@ use Rattle.closed.specs.Wrong.{emptied, firstOnly, lastDropped, firstTur
 abbrev whole : ℕ → Float
 whole k = fin false k (pos 0)
 
--- a block of n subdivisions, inside at the samples with these places and outside at the others; whoever unfolds it can compute its meshes
-unfoldable pub blockOf : ℕ → List ℕ → Star
+-- samples of which those with these places are inside
+abbrev samples : ℕ → List ℕ → List Float
+samples count places = listed (λ k. cond (has k places) (whole 1) (whole 0)) count
+
+-- a block of n subdivisions with the sides named by a mask, its inside samples by their places, and those of its neighbours; whoever unfolds it can
+-- compute what its regular cells make
+unfoldable pub starOf : ℕ → ℕ → List ℕ → List ℕ → Star
 unfolding regularTo runs sides run regularMesh regularLayer regularColumn cellStep emptyMesh regularCell regularUse regularLeaves regularEdge regularPlace triangleOf fillTo fillStep regularCase Samples.valueAt Samples.readingAt Samples.sampled Samples.outside Samples.placeOf Ieee.le Ieee.lt Ieee.eq rows.classes rows.cellRows rows.vertexRows tables.regularClass tables.regularCodes tables.regularCell tables.regularCode tables.regularVertices tables.regularTriangles tables.regularCorner both
-blockOf n places =
+starOf n mask centre neighbours =
     star
-    (record { block = record { base = vector (whole 0) (whole 0) (whole 0); size = whole 1; subdivisions = n }; mask = 0; threshold = whole 1 })
-    (listed (λ k. cond (has k places) (whole 1) (whole 0)) (sampleLength n)) []
+    (record { block = record { base = vector (whole 0) (whole 0) (whole 0); size = whole 1; subdivisions = n }; mask = mask; threshold = whole 1 })
+    (samples (sampleLength n) centre) (samples (neighboursLength n mask) neighbours)
+
+unfoldable pub blockOf : ℕ → List ℕ → Star
+unfolding starOf
+blockOf n places = starOf n 0 places []
 
 -- one cell with no corner inside; with (0, 0, 0) inside; and with (0, 0, 0) and (1, 0, 0), so that two triangles have a side between them
 unfoldable pub outside : Star
@@ -54,10 +64,10 @@ border = blockOf 2 (3 ∷ [])
 unfoldable pub middle : Star
 middle = blockOf 2 (13 ∷ [])
 
-unfoldable ofBlockTest : ℕ → Edge → Bool
+unfoldable pub ofBlockTest : ℕ → Edge → Bool
 ofBlockTest n e = both (ltb (e .axis) 3) (both (leb (high e .x) n) (both (leb (high e .y) n) (leb (high e .z) n)))
 
-of-block : (s : Star) (e : Edge) → T (ofBlockTest (subdivisions s) e) → OfBlock s e
+pub of-block : (s : Star) (e : Edge) → T (ofBlockTest (subdivisions s) e) → OfBlock s e
 unfolding ofBlockTest
 of-block s e t =
     let t₁ = both-right _ _ t in
@@ -125,9 +135,9 @@ pub ridge-sides : (runs (regularMesh ridge) (number ridge (edge 0 0 0 1)) (numbe
 unfolding ridge blockOf
 ridge-sides = (refl, refl)
 
-pub lastDropped-not-balanced : Balanced ridge (lastDropped ridge) → ⊥
+pub lastDropped-not-balanced : Balanced ridge (lastDropped (regularMesh ridge)) → ⊥
 unfolding ridge blockOf ofBlockTest
-lastDropped-not-balanced = breaks-balanced ridge (lastDropped ridge) (edge 0 0 0 1) (edge 1 0 0 2) tt tt inner-ridge (λ e. omega arith)
+lastDropped-not-balanced = breaks-balanced ridge (lastDropped (regularMesh ridge)) (edge 0 0 0 1) (edge 1 0 0 2) tt tt inner-ridge (λ e. omega arith)
 
 pub firstTurned-not-balanced : Balanced ridge (firstTurned ridge) → ⊥
 unfolding ridge blockOf ofBlockTest

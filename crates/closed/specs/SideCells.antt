@@ -1,7 +1,8 @@
 -- A transition cell's case number says which of its points are inside. And a cell that is cut makes a vertex, or one of its codes steps back to a
 -- cell that is cut too: the tables' rules T5 and T6 over a side.
 use mathlib.Core.Path.{_≡_, refl, sym, ap, ap₂, _∙_}
-use mathlib.Core.Bool.{Bool, true, false, _&&_}
+use mathlib.Core.Logic.{_≢_}
+use mathlib.Core.Bool.{Bool, true, false, not, _&&_, cond}
 use mathlib.Core.List.{[], _∷_}
 use Prim.Native.Nat.{ℕ, zero, suc, _+_, _-_, _*_, _/_, _%_, _^_, _≤_, _<_}
 use native.Mathlib.Nat.{not-suc-le-zero}
@@ -11,19 +12,24 @@ use lib.Dec.{T, eqb, ltb, eqb→eq, ltb→lt}
 use lib.ListN.{getD}
 use Rattle.laws.specs.Steps.{total}
 use Rattle.laws.specs.Tests.{eq→eqb, both, both-left, both-right, then, then-holds, below, all}
-use Rattle.laws.specs.Counting.{has}
+use Rattle.laws.specs.Counting.{has, withEach, eachTwo}
+use Rattle.laws.specs.Ranges.{beq-eq}
 use Rattle.tables.specs.Codes.{pointA, pointB, stepX, stepY, isNew, reuseIndex, edgeOf}
 use Rattle.tables.specs.Cases.{transitionCode, transitionVertices}
 use Rattle.tables.specs.Corners.{bit}
 use Rattle.tables.specs.Listed.{crossing, differ}
 use Rattle.tables.specs.Points.{contributionOf, fineOf, pointU, pointV, transitionInside}
 use Rattle.tables.specs.RulesTransition.{transitionUsed, transition-lists}
-use Rattle.tables.specs.RulesBorder.{transitionNewCode, Moved, transition-used-right, transition-code-right}
+use Rattle.tables.specs.RulesBorder.{transitionNewCode, kept, transition-used-right}
+use Rattle.model.specs.Samples.{sampleOf}
+use Rattle.model.specs.Rotations.{facePoint}
 use Rattle.model.specs.Formulas.{inside, insideBit}
-use Rattle.model.specs.Star.{Star}
+use Rattle.model.specs.Judging.{facesAgree}
+use Rattle.model.specs.Star.{Star, subdivisions}
 use Rattle.model.specs.Points.{fineSample, transitionCase}
 use Rattle.model.specs.Mesh.{transitionLeaves, transitionUse}
-use Rattle.closed.specs.Cells.{bits-small, bits-are, bit-small, byte-points}
+use Rattle.closed.specs.Clauses.{insideAt}
+use Rattle.closed.specs.Cells.{bits-small, bits-are, bit-small, byte-points, one-of-edge}
 use Rattle.closed.specs.Stored.{or-none, back-in}
 
 -- ---- the case number
@@ -45,16 +51,54 @@ unfolding pointOf bitOf pointTest fineOf pointU pointV both
 points-right = tt
 
 -- a point moved by the steps of its code, from the cell that the code steps to
-fine-moved : (u a p q : ℕ) → a ≤ u → p + 2 * a ≡ q → 2 * u + p ≡ 2 * (u - a) + q
+pub fine-moved : (u a p q : ℕ) → a ≤ u → p + 2 * a ≡ q → 2 * u + p ≡ 2 * (u - a) + q
 fine-moved u a p q h e = omega arith
+
+-- ---- the codes
+
+-- the new code of each index that has one is one of the sixteen, and has that index
+unfoldable newTest : ℕ → Bool
+newTest r = then (eqb (isNew (transitionNewCode r)) 1) (both (has (transitionNewCode r) transitionUsed) (eqb (reuseIndex (transitionNewCode r)) r))
+
+news-right : T (below newTest 10)
+unfolding transitionUsed transitionNewCode both then newTest
+news-right = tt
+
+new-right : (r : ℕ) → r < 10 → isNew (transitionNewCode r) ≡ 1
+    → T (has (transitionNewCode r) transitionUsed) × (reuseIndex (transitionNewCode r) ≡ r)
+unfolding newTest
+new-right r h e =
+    let t = then-holds (eqb (isNew (transitionNewCode r)) 1) _ (all newTest 10 news-right r h) (eq→eqb _ _ e) in
+    (both-left _ _ t, eqb→eq _ _ (both-right _ _ t))
+
+pub new-index : (r : ℕ) → r < 10 → isNew (transitionNewCode r) ≡ 1 → reuseIndex (transitionNewCode r) ≡ r
+new-index r h e = new-right r h e .1
+
+-- no two of the sixteen have one edge
+codes-apart : T (eachTwo (λ c d. not (eqb (edgeOf c) (edgeOf d))) transitionUsed)
+unfolding transitionUsed eachTwo withEach both
+codes-apart = tt
+
+code-of-edge : (c d : ℕ) → T (has c transitionUsed) → T (has d transitionUsed) → edgeOf c ≡ edgeOf d → c ≡ d
+code-of-edge = one-of-edge transitionUsed codes-apart
+
+-- ---- a cell of a side
 
 module _ (s : Star) (side : ℕ) where
   -- 1 if the fine point (u2, v2) of the side is inside, else 0
   abbrev pub fineInside : ℕ → ℕ → ℕ
   fineInside u2 v2 = insideBit (s .threshold) (fineSample s side u2 v2)
 
-  fine-small : (u2 v2 : ℕ) → fineInside u2 v2 ≤ 1
+  pub fine-small : (u2 v2 : ℕ) → fineInside u2 v2 ≤ 1
   fine-small u2 v2 = bit-small (inside (s .threshold) (fineSample s side u2 v2))
+
+  -- where a point of the face agrees with the fine point there, as 8 asks
+  pub agreed-inside : (u v : ℕ) → facesAgree s side u v ≡ true → insideAt s (facePoint (subdivisions s) side u v) ≡ fineInside (2 * u) (2 * v)
+  unfolding facesAgree
+  agreed-inside u v e =
+      ap (λ (b : Bool). cond {A = ℕ} b 1 0)
+      (beq-eq (inside (s .threshold) (sampleOf (subdivisions s) (s .centre) (facePoint (subdivisions s) side u v)))
+      (inside (s .threshold) (fineSample s side (2 * u) (2 * v))) e)
 
   module _ (u v : ℕ) where
     -- whether the fine point k of the cell is inside
@@ -86,25 +130,50 @@ module _ (s : Star) (side : ℕ) where
     abbrev pub codeAt : ℕ → ℕ
     codeAt i = transitionCode (transitionCase s side u v) i
 
-  moved-inside : (u v a b p q : ℕ) → p < 13 → q < 13 → a ≤ u → b ≤ v → Moved a b p q
-      → transitionInside (transitionCase s side u v) p ≡ transitionInside (transitionCase s side (u - a) (v - b)) q
-  moved-inside u v a b p q hp hq hu hv m =
-      case-inside u v p hp ∙ ap₂ fineInside (fine-moved u a _ _ hu (m .u)) (fine-moved v b _ _ hv (m .v))
-      ∙ sym (case-inside (u - a) (v - b) q hq)
+    pub code-used : (i : ℕ) → i < codes → T (has (codeAt i) transitionUsed)
+    code-used i h = transition-lists .is-used (transitionCase s side u v) i case-small h
+
+    -- one end of a code's edge is inside and the other outside; a coarse point takes the side of the fine point there
+    abbrev pub CrossedAt : ℕ → Type 0
+    CrossedAt code =
+        fineInside (2 * u + pointU (pointA code)) (2 * v + pointV (pointA code))
+        ≢ fineInside (2 * u + pointU (pointB code)) (2 * v + pointV (pointB code))
+
+    -- each code of a cell stands for a crossed edge
+    pub code-crossed : (i : ℕ) → i < codes → CrossedAt (codeAt i)
+    code-crossed i h e =
+        let r = transition-used-right (codeAt i) (code-used i h) in
+        differ transition-lists (transitionCase s side u v) i case-small h
+        (case-inside _ (r .a-small) ∙ e ∙ sym (case-inside _ (r .b-small)))
+
+    -- each index whose edge is crossed has its new code
+    pub crossed-slot : (r : ℕ) → r < 10 → isNew (transitionNewCode r) ≡ 1 → CrossedAt (transitionNewCode r)
+        → (i : ℕ) × (i < codes) × (codeAt i ≡ transitionNewCode r)
+    crossed-slot r small new crossed =
+        let code = transitionNewCode r in
+        let used = new-right r small new .0 in
+        let right = transition-used-right code used in
+        let inside-at : ℕ → ℕ = transitionInside (transitionCase s side u v) in
+        let ends = byte-points code in
+        let i = crossing transition-lists (transitionCase s side u v) (edgeOf code) case-small (transition-lists .is-edge code used)
+        (λ e.
+        crossed
+        (sym (case-inside _ (right .a-small)) ∙ ap inside-at (sym (ends .0)) ∙ e ∙ ap inside-at (ends .1) ∙ case-inside _ (right .b-small))) in
+        (i .0, i .1, code-of-edge _ _ (code-used (i .0) (i .1)) used (i .2))
+
+  -- the edge of a code that is kept is crossed in the cell that it steps to as well
+  pub slot-crossed : (u v code : ℕ) → T (has code transitionUsed) → kept code ≡ 1 → stepX code ≤ u → stepY code ≤ v → CrossedAt u v code
+      → CrossedAt (u - stepX code) (v - stepY code) (transitionNewCode (reuseIndex code))
+  slot-crossed u v code used keep hu hv c =
+      let same = transition-used-right code used .slot keep .1 in
+      rw (
+        fine-moved u _ _ _ hu (same .a .u),
+        fine-moved v _ _ _ hv (same .a .v),
+        fine-moved u _ _ _ hu (same .b .u),
+        fine-moved v _ _ _ hv (same .b .v),
+      ) at c
 
 -- ---- a cell that is cut
-
--- the new code of each index that has one is one of the sixteen
-unfoldable newTest : ℕ → Bool
-newTest r = then (eqb (isNew (transitionNewCode r)) 1) (has (transitionNewCode r) transitionUsed)
-
-news-right : T (below newTest 10)
-unfolding transitionUsed transitionNewCode both then newTest
-news-right = tt
-
-new-used : (r : ℕ) → r < 10 → isNew (transitionNewCode r) ≡ 1 → T (has (transitionNewCode r) transitionUsed)
-unfolding newTest
-new-used r h e = then-holds (eqb (isNew (transitionNewCode r)) 1) _ (all newTest 10 news-right r h) (eq→eqb _ _ e)
 
 some-back : (a b : ℕ) → eqb a 0 && eqb b 0 ≡ false → 0 < a + b
 some-back zero zero e =
@@ -113,23 +182,23 @@ some-back zero zero e =
 some-back zero (suc b) e = omega arith
 some-back (suc a) b e = omega arith
 
-just-one : (a b c : ℕ) → a + b + c ≤ 1 → 0 < b + c → a + b + c ≡ 1
+pub just-one : (a b c : ℕ) → a + b + c ≤ 1 → 0 < b + c → a + b + c ≡ 1
 just-one a b c h some = omega arith
 
 nearer : (u v a b k : ℕ) → a ≤ u → b ≤ v → 0 < a + b → u + v < suc k → u - a + (v - b) < k
 nearer u v a b k hu hv some h = omega arith
 
-record StepsBack (u v code : ℕ) : Type 0 where
-  u-in : stepX code ≤ u
-  v-in : stepY code ≤ v
-  some : 0 < stepX code + stepY code
+pub record StepsBack (u v code : ℕ) : Type 0 where
+  pub u-in : stepX code ≤ u
+  pub v-in : stepY code ≤ v
+  pub some : 0 < stepX code + stepY code
 
 module _ (s : Star) (side : ℕ) where
-  -- a code that makes no vertex steps back, within the face
-  steps-back : (u v code : ℕ) → transitionUse s side u v code .makes ≡ false → StepsBack u v code
-  unfolding transitionUse transitionLeaves
+  -- a code that does not leave the face steps back, within the face
+  pub steps-back : (u v code : ℕ) → transitionLeaves u v code ≡ false → StepsBack u v code
+  unfolding transitionLeaves
   steps-back u v code e =
-      let stays = or-none _ _ (or-none (eqb (isNew code) 1) (transitionLeaves u v code) e .1) in
+      let stays = or-none _ _ e in
       let within = or-none _ _ (stays .1) in
       record { u-in = ltb-false _ _ (within .0); v-in = ltb-false _ _ (within .1); some = some-back _ _ (stays .0) }
 
@@ -138,23 +207,16 @@ module _ (s : Star) (side : ℕ) where
       → let code = codeAt s side u v i in StepsBack u v code → 0 < codes s side (u - stepX code) (v - stepY code)
   back-cut u v i h b =
       let code = codeAt s side u v i in
-      let case = transitionCase s side u v in
-      let behind = transitionCase s side (u - stepX code) (v - stepY code) in
-      let right = transition-code-right case i (case-small s side u v) h in
-      let slot = right .slot (just-one _ _ _ (right .one-way) (b .some)) in
-      let new = transitionNewCode (reuseIndex code) in
-      let used = new-used (reuseIndex code) (right .index-small) (slot .0 .new) in
-      let there = transition-used-right new used in
-      let ends = byte-points new in
-      let a : transitionInside case (pointA code) ≡ transitionInside behind (pointA new) =
-      moved-inside s side u v _ _ _ _ (right .a-small) (there .a-small) (b .u-in) (b .v-in) (slot .1 .a) in
-      let z : transitionInside case (pointB code) ≡ transitionInside behind (pointB new) =
-      moved-inside s side u v _ _ _ _ (right .b-small) (there .b-small) (b .u-in) (b .v-in) (slot .1 .b) in
-      let listed = crossing transition-lists behind (edgeOf new) (case-small s side _ _) (transition-lists .is-edge new used)
-      (λ e.
-      differ transition-lists case i (case-small s side u v) h
-      (a ∙ ap (transitionInside behind) (sym (ends .0)) ∙ e ∙ ap (transitionInside behind) (ends .1) ∙ sym z)) in
+      let used = code-used s side u v i h in
+      let right = transition-used-right code used in
+      let keep = just-one _ _ _ (right .one-way) (b .some) in
+      let listed = crossed-slot s side _ _ (reuseIndex code) (right .index-small) (right .slot keep .0 .new)
+      (slot-crossed s side u v code used keep (b .u-in) (b .v-in) (code-crossed s side u v i h)) in
       omega (arith, listed .1)
+
+  makes-none : (u v code : ℕ) → transitionUse s side u v code .makes ≡ false → transitionLeaves u v code ≡ false
+  unfolding transitionUse
+  makes-none u v code e = or-none (eqb (isNew code) 1) (transitionLeaves u v code) e .1
 
   -- the cell (u, v) makes a vertex
   abbrev pub Makes : ℕ → ℕ → Type 0
@@ -171,6 +233,6 @@ module _ (s : Star) (side : ℕ) where
         go true e before = made u v hu hv (0, cut, e)
         go false e before =
             let code = codeAt s side u v 0 in
-            let b = steps-back u v code e in
+            let b = steps-back u v code (makes-none u v code e) in
             before (u - stepX code) (v - stepY code) (nearer u v _ _ k (b .u-in) (b .v-in) (b .some) h)
             (back-in u (stepX code) n hu .0) (back-in v (stepY code) n hv .0) (back-cut u v 0 cut b)

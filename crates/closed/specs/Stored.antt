@@ -1,61 +1,25 @@
 -- The index store's invariant, over a code and over the codes of a cell: for every finished cell and every index whose edge is crossed, the
 -- stored index names a vertex on that edge. So an index that is taken from the store names the edge that its code stands for.
 use mathlib.Core.Path.{_≡_, refl, sym, ap, _∙_, subst}
-use mathlib.Core.Bool.{Bool, true, false, cond, _||_}
-use mathlib.Core.List.{List, [], _∷_, _++_, append-assoc, append-nil}
-use Prim.Native.Nat.{ℕ, zero, suc, _+_, _-_, _%_, _≤_, _<_}
-use native.Mathlib.Nat.{le-of-suc-le-suc, le-of-lt, not-suc-le-zero}
-use native.Mathlib.Numerals.{add-one}
-use native.Mathlib.Decide.{ℕ-discrete, decLt}
+use mathlib.Core.Bool.{Bool, true, false, _||_}
+use mathlib.Core.List.{List}
+use Prim.Native.Nat.{ℕ, _+_, _-_, _%_, _≤_, _<_}
+use native.Mathlib.Decide.{ℕ-discrete}
 use native.Mathlib.Omega.{arith}
 use borrow.Author.Tests.{eqb-true, eqb-false, ltb-false}
 use lib.Dec.{eqb}
-use lib.ListN.{length, getD, set, length-append, length-set, List·getD-append}
-use lib.Seq.{getD-append-seam, getD-set-same, getD-set-other}
+use lib.ListN.{getD}
 use Rattle.tables.specs.Codes.{stepX, stepY, stepZ, isNew, reuseIndex}
 use Rattle.tables.specs.RulesSlots.{RegularCode}
 use Rattle.model.specs.declared.Xyz.{Xyz}
 use Rattle.model.specs.Formulas.{vertexBetween}
 use Rattle.model.specs.Star.{Star, subdivisions}
 use Rattle.model.specs.Points.{regularPoint}
-use Rattle.model.specs.Mesh.{Made, CodeUse, Fill, madeBy, fillStep, fillTo, storeLength, regularEdge, regularVertex, regularLeaves, regularUse, regularCell}
-use Rattle.closed.specs.Clauses.{number, Crossed, noVertex, Names, IsCell, OnItsEdge, Lying}
+use Rattle.model.specs.Mesh.{Made, storeLength, regularEdge, regularVertex, regularLeaves, regularUse, regularCell}
+use Rattle.closed.specs.Clauses.{Edge, number, OfBlock, Crossed, Names, IsCell, vertexOn}
 use Rattle.closed.specs.Places.{rank, rank-less, place, place-one, place-in}
 use Rattle.closed.specs.Cells.{codeEdge, codes, codeAt, slotEdge, high-is, code-own, code-slot, new-slot, own-of-block, code-right, code-crossed}
-
--- ---- what a vertex list names
-
-pub names-more : (made more : List Made) {i g : ℕ} → Names made i g → Names (made ++ more) i g
-names-more made more {i} {g} p =
-    record {
-      there = rw length-append (omega (arith, p .there));
-      held = ap (λ (m : Made). m .edge) (List·getD-append made more noVertex i (p .there)) ∙ p .held;
-    }
-
-names-last : (made : List Made) (m : Made) {g : ℕ} → m .edge ≡ g → Names (made ++ (m ∷ [])) (length made) g
-names-last made m e =
-    record { there = rw length-append (omega arith); held = ap (λ (m : Made). m .edge) (getD-append-seam made m [] noVertex) ∙ e }
-
-pub names-as : {made : List Made} {i g h : ℕ} → g ≡ h → Names made i g → Names made i h
-names-as e p = record { there = p .there; held = p .held ∙ e }
-
--- below k + 1: below k, or k
-up-to : (P : ℕ → Type 0) (k : ℕ) → ((j : ℕ) → j < k → P j) → P k → (j : ℕ) → j < suc k → P j
-up-to P k before here j h = go (decLt j k)
-  where
-    go : Dec (j < k) → P j
-    go (yes l) = before j l
-    go (no l) =
-        let e : k ≡ j = omega arith in
-        subst P e here
-
--- after a store: the stored value where the places are one, and the old one where they are two
-after-set : (P : ℕ → Type 0) (l : List ℕ) (i j v : ℕ) → i < length l → (j ≡ i → P v) → P (getD l j 0) → P (getD (set l i v) j 0)
-after-set P l i j v h same other = go (ℕ-discrete j i)
-  where
-    go : Dec (j ≡ i) → P (getD (set l i v) j 0)
-    go (yes e) = rw (e, getD-set-same l i v 0 h) (same e)
-    go (no e) = rw (getD-set-other l i j v 0 e) other
+use Rattle.closed.specs.CellStep.{Pays, Fits, use-fits, FitsCell, names-as}
 
 -- ---- the invariants
 
@@ -69,15 +33,32 @@ module _ (s : Star) where
   Stored here made store =
       (x y z r : ℕ) → IsCell s x y z → 1 ≤ r → r < 4 → rank s x y z < here → Crossed s (slotEdge x y z r) → Holds made store x y z r
 
-lying-more : (s : Star) (made more : List Made) {i : ℕ} → OnItsEdge s made i → OnItsEdge s (made ++ more) i
-lying-more s made more {i} o =
-    record {
-      on = o .on;
-      of-block = o .of-block;
-      crossed = o .crossed;
-      named = names-more made more (o .named);
-      vertex-is = ap (λ (m : Made). m .vertex) (List·getD-append made more noVertex i (o .named .there)) ∙ o .vertex-is;
-    }
+-- the same by place: what is owed at the place p is a vertex on the grid edge g
+pub record Owed (s : Star) (here p g : ℕ) : Type 0 where
+  pub x : ℕ
+  pub y : ℕ
+  pub z : ℕ
+  pub r : ℕ
+  pub cell : IsCell s x y z
+  pub some : 1 ≤ r
+  pub small : r < 4
+  pub before : rank s x y z < here
+  pub crossed : Crossed s (slotEdge x y z r)
+  pub place-is : p ≡ place s x y z r
+  pub label-is : g ≡ number s (slotEdge x y z r)
+
+pub pays : (s : Star) (here : ℕ) (made : List Made) (store : List ℕ) → Stored s here made store → Pays (Owed s here) made store
+pays s here made store stored p g o =
+    rw (o .place-is)
+    (names-as (sym (o .label-is)) (stored (o .x) (o .y) (o .z) (o .r) (o .cell) (o .some) (o .small) (o .before) (o .crossed)))
+
+-- a vertex lies on a crossed grid edge of the block
+pub record LiesOn (s : Star) (m : Made) : Type 0 where
+  pub on : Edge
+  pub of-block : OfBlock s on
+  pub crossed : Crossed s on
+  pub edge-is : m .edge ≡ number s on
+  pub vertex-is : m .vertex ≡ vertexOn s on
 
 -- ---- a code
 
@@ -106,87 +87,29 @@ back-less x y z a b c ha hb hc h = omega arith
 pub back-in : (x a n : ℕ) → x < n → (x - a < n) × (x - a ≤ x) × (0 < n)
 back-in x a n h = (omega arith, omega arith, omega arith)
 
-module _ (s : Star) (x y z : ℕ) where
-  -- what a code comes to, where the vertices so far are `made`: those after it, its index, and the store after it
-  record Put (made : List Made) (store : List ℕ) (code : ℕ) (after : List Made) (index : ℕ) (store′ : List ℕ) : Type 0 where
-    named : Names after index (number s (codeEdge x y z code))
-    old : Stored s (rank s x y z) after store′
-    fresh : isNew code ≡ 1 → Holds s after store′ x y z (reuseIndex code)
-    kept : (r : ℕ) → Holds s made store x y z r → Holds s after store′ x y z r
-    lying : Lying s after
-    long : length store′ ≡ storeLength (subdivisions s)
+module _ (s : Star) (x y z : ℕ) (c : IsCell s x y z) where
+  -- what the cells before are owed, and the places of the store
+  abbrev pub owed : ℕ → ℕ → Type 0
+  owed = Owed s (rank s x y z)
 
-  -- regularUse, by whether the code is new and whether it leaves the block
-  useBy : ℕ → Bool → Bool → CodeUse
-  useBy code new leaves =
-      record {
-        made = record { vertex = regularVertex s x y z code; edge = number s (codeEdge x y z code) };
-        makes = new || leaves;
-        stores = new;
-        place = cond new (place s x y z (reuseIndex code))
-            (place s (x - stepX code) (y - stepY code) (z - stepZ code) (reuseIndex code));
-      }
+  abbrev pub size : ℕ
+  size = storeLength (subdivisions s)
 
-  abbrev PutBy : List Made → List ℕ → ℕ → CodeUse → Type 0
-  PutBy made store code t =
-      Put made store code (made ++ madeBy t) (cond (t .makes) (length made) (getD store (t .place) 0))
-      (cond (t .stores) (set store (t .place) (length made)) store)
+  -- where a code's index stands: at this cell, and at the cell that it steps to
+  abbrev here : ℕ → ℕ
+  here code = place s x y z (reuseIndex code)
 
-  module _ (c : IsCell s x y z) (made : List Made) (store : List ℕ) (old : Stored s (rank s x y z) made store) (lying : Lying s made)
-      (long : length store ≡ storeLength (subdivisions s)) (code : ℕ) (r : RegularCode code) (here : Crossed s (codeEdge x y z code)) where
-    -- one more vertex, that of the code's edge
-    made-one : (m : Made) → m .edge ≡ number s (codeEdge x y z code) → m .vertex ≡ regularVertex s x y z code → Lying s (made ++ (m ∷ []))
-    unfolding regularVertex
-    made-one m e v i h =
-        up-to (λ (i : ℕ). OnItsEdge s (made ++ (m ∷ [])) i) (length made)
-        (λ j l. lying-more s made (m ∷ []) (lying j l))
-        (record {
-          on = codeEdge x y z code;
-          of-block = own-of-block s x y z _ c (code-own x y z code r);
-          crossed = here;
-          named = names-last made m e;
-          vertex-is =
-              ap (λ (m : Made). m .vertex) (getD-append-seam made m [] noVertex) ∙ v
-              ∙ ap (λ (p : Xyz). vertexBetween (s .threshold) (regularPoint s (codeEdge x y z code .low)) (regularPoint s p))
-              (sym (high-is x y z code r));
-        })
-        i (rw (length-append, add-one) at h)
+  abbrev back : ℕ → ℕ
+  back code = place s (x - stepX code) (y - stepY code) (z - stepZ code) (reuseIndex code)
 
-    put-by : (new leaves : Bool) → eqb (isNew code) 1 ≡ new → regularLeaves x y z code ≡ leaves → PutBy made store code (useBy code new leaves)
-    unfolding useBy
-    put-by true leaves en el =
-        let m = useBy code true leaves .made in
-        let after = made ++ (m ∷ []) in
-        let i = reuseIndex code in
-        let p = place s x y z i in
-        let e : codeEdge x y z code ≡ slotEdge x y z i = new-slot x y z code r (eqb-true _ _ en) in
-        let «in» : p < length store = rw long (place-in s x y z i c (r .index-small)) in
-        let last : Names after (length made) (number s (slotEdge x y z i)) = names-last made m (ap (number s) e) in
-        record {
-          named = names-last made m refl;
-          old = λ u v w q cell some small before cr.
-              after-set (λ (k : ℕ). Names after k (number s (slotEdge u v w q))) store p (place s u v w q) (length made) «in»
-              (λ same. absurd (omega (arith, place-one s x y z i u v w q c cell same .0)))
-              (names-more made (m ∷ []) (old u v w q cell some small before cr));
-          fresh = λ h. rw (getD-set-same store p (length made) 0 «in») last;
-          kept = λ q h.
-              after-set (λ (k : ℕ). Names after k (number s (slotEdge x y z q))) store p (place s x y z q) (length made) «in»
-              (λ same. rw (place-one s x y z i x y z q c c same .1) last)
-              (names-more made (m ∷ []) h);
-          lying = made-one m refl refl;
-          long = length-set store p (length made) ∙ long;
-        }
-    put-by false true en el =
-        let m = useBy code false true .made in
-        record {
-          named = names-last made m refl;
-          old = λ u v w q cell some small before cr. names-more made (m ∷ []) (old u v w q cell some small before cr);
-          fresh = λ h. absurd (eqb-false _ _ en h);
-          kept = λ q h. names-more made (m ∷ []) h;
-          lying = made-one m refl refl;
-          long = long;
-        }
-    put-by false false en el =
+  module _ (code : ℕ) (r : RegularCode code) (crossed : Crossed s (codeEdge x y z code)) where
+    -- nothing is owed at this cell yet
+    not-owed : (g : ℕ) → owed (here code) g → ⊥
+    not-owed g o = omega (arith, o .before, place-one s x y z (reuseIndex code) (o .x) (o .y) (o .z) (o .r) c (o .cell) (sym (o .place-is)) .0)
+
+    -- at the cell that the code steps to a vertex on its edge is owed
+    back-owed : eqb (isNew code) 1 ≡ false → regularLeaves x y z code ≡ false → owed (back code) (number s (codeEdge x y z code))
+    back-owed en el =
         let n = subdivisions s in
         let h = stays x y z code el in
         let e = code-slot x y z code r (h .0) (h .1) (h .2) in
@@ -194,90 +117,66 @@ module _ (s : Star) (x y z : ℕ) where
         let by = back-in y (stepY code) n (c .y-in) in
         let bz = back-in z (stepZ code) n (c .z-in) in
         let less = back-less x y z _ _ _ (h .0) (h .1) (h .2) (some-step _ _ (eqb-false _ _ en) (r .new-or-back)) in
-        rw append-nil
-        (record {
-          named =
-              names-as (ap (number s) (sym e))
-              (old _ _ _ _ (record { x-in = bx .0; y-in = by .0; z-in = bz .0 }) (r .index-some) (r .index-small)
-              (rank-less s x y z _ _ _ (bx .2) (bx .1) (by .1) (bz .1) less) (subst (Crossed s) e here));
-          old = old;
-          fresh = λ h. absurd (eqb-false _ _ en h);
-          kept = λ q h. h;
-          lying = lying;
-          long = long;
-        })
+        record {
+          x = x - stepX code;
+          y = y - stepY code;
+          z = z - stepZ code;
+          r = reuseIndex code;
+          cell = record { x-in = bx .0; y-in = by .0; z-in = bz .0 };
+          some = r .index-some;
+          small = r .index-small;
+          before = rank-less s x y z _ _ _ (bx .2) (bx .1) (by .1) (bz .1) less;
+          crossed = subst (Crossed s) e crossed;
+          place-is = refl;
+          label-is = ap (number s) e;
+        }
 
-    put : PutBy made store code (regularUse s x y z code)
-    unfolding regularUse regularEdge useBy
-    put = put-by (eqb (isNew code) 1) (regularLeaves x y z code) refl refl
+    use-right : Fits owed size (regularUse s x y z code) (number s (codeEdge x y z code))
+    unfolding regularUse regularEdge
+    use-right =
+        use-fits owed size _ (here code) (back code) (number s (codeEdge x y z code)) (eqb (isNew code) 1) (regularLeaves x y z code) refl
+        (place-in s x y z (reuseIndex code) c (r .index-small)) not-owed back-owed
+
+    made-lies : LiesOn s (regularUse s x y z code .made)
+    unfolding regularUse regularEdge regularVertex
+    made-lies =
+        record {
+          on = codeEdge x y z code;
+          of-block = own-of-block s x y z _ c (code-own x y z code r);
+          crossed = crossed;
+          edge-is = refl;
+          vertex-is = ap (λ (p : Xyz). vertexBetween (s .threshold) (regularPoint s (codeEdge x y z code .low)) (regularPoint s p)) (sym (high-is x y z code r));
+        }
 
   -- ---- the codes of the cell
 
-  -- after its first k codes, where the vertices so far are `made`
-  pub record Filled (made : List Made) (k : ℕ) (f : Fill) : Type 0 where
-    pub many : length (f .index) ≡ k
-    pub named : (j : ℕ) → j < k → Names made (getD (f .index) j 0) (number s (codeEdge x y z (codeAt s x y z j)))
-    pub old : Stored s (rank s x y z) made (f .store)
-    pub fresh : (j : ℕ) → j < k → isNew (codeAt s x y z j) ≡ 1 → Holds s made (f .store) x y z (reuseIndex (codeAt s x y z j))
-    pub lying : Lying s made
-    pub long : length (f .store) ≡ storeLength (subdivisions s)
+  -- a new code's vertex is stored at its index
+  pub stored-at : (code : ℕ) → isNew code ≡ 1 → (regularUse s x y z code .stores ≡ true) × (regularUse s x y z code .place ≡ here code)
+  unfolding regularUse
+  stored-at code e = (rw e refl, rw e refl)
 
-  at-end : {made : List Made} {g : ℕ} (index : List ℕ) (i k : ℕ) → length index ≡ k → Names made i g
-      → Names made (getD (index ++ (i ∷ [])) k 0) g
-  at-end index i k e p = rw (← e, getD-append-seam) p
+  new-stored : (code : ℕ) → regularUse s x y z code .stores ≡ true → isNew code ≡ 1
+  unfolding regularUse
+  new-stored code e = eqb-true _ _ e
 
-  module _ (c : IsCell s x y z) where
-    fill-step : (made : List Made) (k next : ℕ) (f : Fill) → next ≡ length made → k < codes s x y z → Filled made k f
-        → let t = regularUse s x y z (codeAt s x y z k) in Filled (made ++ madeBy t) (suc k) (fillStep t next f)
-    unfolding fillStep
-    fill-step made k next f e h p =
-        let t = regularUse s x y z (codeAt s x y z k) in
-        let q = put c made (f .store) (p .old) (p .lying) (p .long) (codeAt s x y z k) (code-right s x y z k h) (code-crossed s x y z k h) in
-        rw e
-        (record {
-          many = rw (length-append, add-one) (ap suc (p .many));
-          named =
-              up-to
-              (λ (j : ℕ). Names (made ++ madeBy t) (getD (fillStep t (length made) f .index) j 0) (number s (codeEdge x y z (codeAt s x y z j)))) k
-              (λ j l. rw (List·getD-append (f .index) _ 0 j (rw (p .many) l)) (names-more made (madeBy t) (p .named j l)))
-              (at-end (f .index) _ k (p .many) (q .named));
-          old = q .old;
-          fresh =
-              up-to
-              (λ (j : ℕ). isNew (codeAt s x y z j) ≡ 1
-              → Holds s (made ++ madeBy t) (fillStep t (length made) f .store) x y z (reuseIndex (codeAt s x y z j))) k
-              (λ j l new. q .kept _ (p .fresh j l new))
-              (q .fresh);
-          lying = q .lying;
-          long = q .long;
-        })
+  -- the grid edge of code j
+  abbrev pub label : ℕ → ℕ
+  label j = number s (codeEdge x y z (codeAt s x y z j))
 
-    -- over the vertices and the store of the cells before
-    module _ (made : List Made) (store : List ℕ) where
-      abbrev pub FilledTo : ℕ → Type 0
-      FilledTo k = let f = fillTo (regularCell s x y z) (length made) store k in Filled (made ++ f .made) k f
+  slot-label : (j : ℕ) → j < codes s x y z → isNew (codeAt s x y z j) ≡ 1 → label j ≡ number s (slotEdge x y z (reuseIndex (codeAt s x y z j)))
+  slot-label j h new = ap (number s) (new-slot x y z _ (code-right s x y z j h) new)
 
-      fill-none : Stored s (rank s x y z) made store → Lying s made → length store ≡ storeLength (subdivisions s) → FilledTo 0
-      unfolding fillTo
-      fill-none old lying long =
-          rw append-nil
-          (record {
-            many = refl;
-            named = λ j l. absurd (not-suc-le-zero l);
-            old = old;
-            fresh = λ j l. absurd (not-suc-le-zero l);
-            lying = lying;
-            long = long;
-          })
+  pub cell-fits : FitsCell owed size (regularCell s x y z) label
+  unfolding regularCell
+  cell-fits =
+      record {
+        fits = λ j h. use-right _ (code-right s x y z j h) (code-crossed s x y z j h);
+        one-place = λ i j hi hj si sj e.
+            let ni = new-stored (codeAt s x y z i) si in
+            let nj = new-stored (codeAt s x y z j) sj in
+            let index = place-one s x y z _ x y z _ c c (sym (stored-at _ ni .1) ∙ e ∙ stored-at _ nj .1) .1 in
+            slot-label i hi ni ∙ ap (λ (r : ℕ). number s (slotEdge x y z r)) index ∙ sym (slot-label j hj nj);
+      }
 
-      fill-more : (k : ℕ) → k < codes s x y z → FilledTo k → FilledTo (suc k)
-      unfolding fillTo fillStep regularCell
-      fill-more k h p =
-          let f = fillTo (regularCell s x y z) (length made) store k in
-          rw (← append-assoc)
-          (fill-step (made ++ f .made) k (length made + length (f .made)) f (sym (length-append made (f .made))) h p)
-
-      pub cell-filled : Stored s (rank s x y z) made store → Lying s made → length store ≡ storeLength (subdivisions s)
-          → (k : ℕ) → k < suc (codes s x y z) → FilledTo k
-      cell-filled old lying long zero h = fill-none old lying long
-      cell-filled old lying long (suc k) h = fill-more k (le-of-suc-le-suc h) (cell-filled old lying long k (le-of-lt h))
+  pub cell-lies : (j : ℕ) → j < codes s x y z → LiesOn s (regularUse s x y z (codeAt s x y z j) .made)
+  cell-lies j h = made-lies _ (code-right s x y z j h) (code-crossed s x y z j h)

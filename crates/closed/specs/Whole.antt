@@ -1,26 +1,23 @@
 -- The mesh of the cells before each cell, and so of all: what its store, its vertices and its triangles name. Clause 2 is part of it.
-use mathlib.Core.Path.{_≡_, refl, sym, ap, _∙_}
-use mathlib.Core.List.{List, _++_}
-use Prim.Native.Nat.{ℕ, zero, suc, _+_, _-_, _*_, _≤_, _<_}
+use mathlib.Core.Path.{_≡_, refl, ap, _∙_}
+use mathlib.Core.List.{List}
+use Prim.Native.Nat.{ℕ, zero, suc, _+_, _*_, _≤_, _<_}
 use native.Mathlib.Nat.{add-zero, zero-mul, suc-mul, le-refl, le-of-lt, not-suc-le-zero}
-use native.Mathlib.Decide.{decLt}
 use native.Mathlib.Omega.{arith}
-use lib.ListN.{length, length-append, length-replicate, List·getD-append}
-use lib.Seq.{getD-append-add}
-use Rattle.tables.specs.Codes.{isNew, reuseIndex}
+use lib.ListN.{length, length-replicate}
+use Rattle.tables.specs.Codes.{isNew}
 use Rattle.tables.specs.Cases.{regularTriangles, regularCorner}
 use Rattle.tables.specs.RulesCorners.{regular-cell-right}
 use Rattle.tables.specs.RulesSlots.{regular-slot}
 use Rattle.model.specs.declared.Triangle.{Triangle}
-use Rattle.laws.specs.Steps.{listed}
-use Rattle.laws.specs.Lists.{length-listed, getD-listed}
 use Rattle.model.specs.Star.{Star, subdivisions}
 use Rattle.model.specs.Points.{regularCase}
-use Rattle.model.specs.Mesh.{Fill, Mesh, filled, cornerIndex, triangleOf, cellStep, emptyMesh, storeLength, regularCell, regularColumn, regularLayer, regularTo, regularMesh}
-use Rattle.closed.specs.Clauses.{number, Crossed, Names, triangleAt, IsCell, OwnVertex, OwnTriangle, Corners, Lying}
+use Rattle.model.specs.Mesh.{Made, Fill, Mesh, filled, cornerIndex, triangleOf, cellStep, emptyMesh, storeLength, regularCell, regularColumn, regularLayer, regularTo, regularMesh}
+use Rattle.closed.specs.Clauses.{number, Crossed, Names, triangleAt, IsCell, Sends, OwnVertex, Corners, Lying}
 use Rattle.closed.specs.Places.{rank, cells-up-to}
 use Rattle.closed.specs.Cells.{codeEdge, codes, codeAt, slotEdge, code-own, case-small, code-right, crossed-slot}
-use Rattle.closed.specs.Stored.{Holds, Stored, names-more, Filled, cell-filled}
+use Rattle.closed.specs.CellStep.{Filled, cell-filled, From, step-made, triangles-many, step-triangles, names-more, InReach}
+use Rattle.closed.specs.Stored.{Holds, Stored, pays, LiesOn, owed, size, label, stored-at, cell-fits, cell-lies}
 
 -- the mesh of the cells before the rank `here`
 pub record Whole (s : Star) (here : ℕ) (m : Mesh) : Type 0 where
@@ -33,130 +30,152 @@ pub record Whole (s : Star) (here : ℕ) (m : Mesh) : Type 0 where
 
 -- ---- one more cell
 
+lying : (s : Star) (made : List Made) → From (LiesOn s) 0 made → Lying s made
+lying s made all i h =
+    let l = all i (omega arith) h in
+    record { on = l .on; of-block = l .of-block; crossed = l .crossed; named = record { there = h; held = l .edge-is }; vertex-is = l .vertex-is }
+
+all-lie : (s : Star) (made : List Made) → Lying s made → From (LiesOn s) 0 made
+all-lie s made all i l h =
+    let o = all i h in
+    record { on = o .on; of-block = o .of-block; crossed = o .crossed; edge-is = o .named .held; vertex-is = o .vertex-is }
+
+-- the three corners of a triangle lie in the cell that sends it
+record Owns (s : Star) (m : Mesh) (t : ℕ) (corners : Triangle) : Type 0 where
+  x : ℕ
+  y : ℕ
+  z : ℕ
+  sent : Sends s x y z t
+  a : OwnVertex s m x y z (corners .a)
+  b : OwnVertex s m x y z (corners .b)
+  c : OwnVertex s m x y z (corners .c)
+
 module _ (s : Star) (x y z : ℕ) where
-  abbrev pub fill : Fill
-  fill = filled (regularCell s x y z) (regularTo s x y z)
+  abbrev before : Mesh
+  before = regularTo s x y z
 
-  abbrev cellTriangles : List Triangle
-  cellTriangles = listed (triangleOf (regularCell s x y z) (fill .index)) (regularTriangles (regularCase s x y z))
+  abbrev after : Mesh
+  after = regularTo s x y (suc z)
 
-  pub made-after : regularTo s x y (suc z) .made ≡ regularTo s x y z .made ++ fill .made
-  unfolding regularTo cellStep
-  made-after = refl
+  pub after-is : after ≡ cellStep (regularCell s x y z) before
+  unfolding regularTo
+  after-is = refl
 
-  triangles-after : regularTo s x y (suc z) .triangles ≡ regularTo s x y z .triangles ++ cellTriangles
-  unfolding regularTo cellStep regularCell
-  triangles-after = refl
-
-  store-after : regularTo s x y (suc z) .store ≡ fill .store
-  unfolding regularTo cellStep
-  store-after = refl
-
-  pub triangles-many : length (regularTo s x y (suc z) .triangles) ≡ length (regularTo s x y z .triangles) + regularTriangles (regularCase s x y z)
-  triangles-many = rw (triangles-after, length-append, length-listed)
-
-  -- the triangles of the cells before stay, and the cell sends its own after them
-  pub triangle-kept : (t : ℕ) → t < length (regularTo s x y z .triangles) → triangleAt (regularTo s x y (suc z)) t ≡ triangleAt (regularTo s x y z) t
-  triangle-kept t h = rw triangles-after (List·getD-append (regularTo s x y z .triangles) cellTriangles _ t h)
-
-  pub triangle-sent : (j : ℕ) → j < regularTriangles (regularCase s x y z)
-      → triangleAt (regularTo s x y (suc z)) (length (regularTo s x y z .triangles) + j) ≡ triangleOf (regularCell s x y z) (fill .index) j
-  triangle-sent j h =
-      rw triangles-after (getD-append-add (regularTo s x y z .triangles) cellTriangles j _ ∙ getD-listed _ (regularTriangles (regularCase s x y z)) j _ h)
+  abbrev fill : Fill
+  fill = filled (regularCell s x y z) before
 
   corner-below : (k : ℕ) → k < 3 * regularTriangles (regularCase s x y z)
       → regularCorner (regularCase s x y z) k < codes s x y z
   corner-below k h = regular-cell-right (regularCase s x y z) (case-small s x y z) .corner-below k h
 
-  module _ (c : IsCell s x y z) (p : Whole s (rank s x y z) (regularTo s x y z)) where
-    done : Filled s x y z (regularTo s x y (suc z) .made) (codes s x y z) fill
-    unfolding regularCell
-    done =
-        rw made-after
-        (cell-filled s x y z c (regularTo s x y z .made) (regularTo s x y z .store) (p .stored) (p .lying) (p .long)
-        (codes s x y z) (le-refl _))
+  module _ (c : IsCell s x y z) (p : Whole s (rank s x y z) before) where
+    done : Filled (owed s x y z c) (size s x y z c) (regularCell s x y z) (label s x y z c) (after .made) (codes s x y z) fill
+    unfolding regularTo regularCell
+    done = cell-filled (owed s x y z c) (size s x y z c) (regularCell s x y z) (label s x y z c) (cell-fits s x y z c) before
+        (pays s (rank s x y z) (before .made) (before .store) (p .stored)) (p .long)
 
     -- an index whose edge is crossed has been stored
-    slot-made : (r : ℕ) → 1 ≤ r → r < 4 → Crossed s (slotEdge x y z r)
-        → Holds s (regularTo s x y (suc z) .made) (fill .store) x y z r
+    slot-made : (r : ℕ) → 1 ≤ r → r < 4 → Crossed s (slotEdge x y z r) → Holds s (after .made) (fill .store) x y z r
+    unfolding regularCell
     slot-made r some small crossed =
         let i = crossed-slot s x y z r some small crossed in
         let slot = regular-slot r some small in
-        rw (ap reuseIndex (i .2) ∙ slot .index) at (done .fresh (i .0) (i .1) (ap isNew (i .2) ∙ slot .new))
+        let at = stored-at s x y z c (codeAt s x y z (i .0)) (ap isNew (i .2) ∙ slot .new) in
+        let f = done .fresh (i .0) (i .1) (at .0) in
+        rw (at .1, i .2, slot .index) at f
 
     -- ---- its triangles
 
     -- the corner k of its triangles
     pub corner-named : (k : ℕ) → k < 3 * regularTriangles (regularCase s x y z)
-        → Names (regularTo s x y (suc z) .made) (cornerIndex (regularCell s x y z) (fill .index) k)
+        → Names (after .made) (cornerIndex (regularCell s x y z) (fill .index) k)
         (number s (codeEdge x y z (codeAt s x y z (regularCorner (regularCase s x y z) k))))
     unfolding regularCell
     corner-named k h = done .named _ (corner-below k h)
 
     own-corner : (k : ℕ) → k < 3 * regularTriangles (regularCase s x y z)
-        → OwnVertex s (regularTo s x y (suc z)) x y z (cornerIndex (regularCell s x y z) (fill .index) k)
+        → OwnVertex s after x y z (cornerIndex (regularCell s x y z) (fill .index) k)
     own-corner k h =
         let n = corner-named k h in
         record { made = n .there; on = _; own = code-own x y z _ (code-right s x y z _ (corner-below k h)); named = n }
 
-    new-triangle : (j : ℕ) → j < regularTriangles (regularCase s x y z) → OwnTriangle s (regularTo s x y (suc z)) (length (regularTo s x y z .triangles) + j)
+    triangles-after : length (after .triangles) ≡ length (before .triangles) + regularTriangles (regularCase s x y z)
+    unfolding regularTo regularCell
+    triangles-after = triangles-many (regularCell s x y z) before
+
+    new-triangle : (j : ℕ) → j < regularTriangles (regularCase s x y z)
+        → Owns s after (length (before .triangles) + j) (triangleOf (regularCell s x y z) (fill .index) j)
     unfolding triangleOf
     new-triangle j h =
-        let e = triangle-sent j h in
         record {
           x = x;
           y = y;
           z = z;
-          sent = record { cell = c; not-before = omega arith; by-then = omega (arith, triangles-many) };
-          a = rw e (own-corner (3 * j) (omega arith));
-          b = rw e (own-corner (3 * j + 1) (omega arith));
-          c = rw e (own-corner (3 * j + 2) (omega arith));
+          sent = record { cell = c; not-before = omega arith; by-then = omega (arith, triangles-after) };
+          a = own-corner (3 * j) (omega arith);
+          b = own-corner (3 * j + 1) (omega arith);
+          c = own-corner (3 * j + 2) (omega arith);
         }
 
-    old-vertex : {u v w i : ℕ} → OwnVertex s (regularTo s x y z) u v w i → OwnVertex s (regularTo s x y (suc z)) u v w i
-    old-vertex o = record { made = o .made; on = o .on; own = o .own; named = rw made-after (names-more _ (fill .made) (o .named)) }
+    old-vertex : {u v w i : ℕ} → OwnVertex s before u v w i → OwnVertex s after u v w i
+    unfolding regularTo cellStep
+    old-vertex o = record { made = o .made; on = o .on; own = o .own; named = names-more (before .made) (fill .made) (o .named) }
 
-    old-triangle : (t : ℕ) → t < length (regularTo s x y z .triangles) → OwnTriangle s (regularTo s x y (suc z)) t
+    old-triangle : (t : ℕ) → t < length (before .triangles) → Owns s after t (triangleAt before t)
     old-triangle t h =
         let o = p .corners t h in
-        let e = triangle-kept t h in
-        record {
-          x = o .x;
-          y = o .y;
-          z = o .z;
-          sent = o .sent;
-          a = rw e (old-vertex (o .a));
-          b = rw e (old-vertex (o .b));
-          c = rw e (old-vertex (o .c));
-        }
+        record { x = o .x; y = o .y; z = o .z; sent = o .sent; a = old-vertex (o .a); b = old-vertex (o .b); c = old-vertex (o .c) }
 
-    corners-after : Corners s (regularTo s x y (suc z))
-    corners-after t h = go (decLt t (length (regularTo s x y z .triangles)))
-      where
-        go : Dec (t < length (regularTo s x y z .triangles)) → OwnTriangle s (regularTo s x y (suc z)) t
-        go (yes l) = old-triangle t l
-        go (no l) =
-            let e : length (regularTo s x y z .triangles) + (t - length (regularTo s x y z .triangles)) ≡ t = omega arith in
-            rw e at (new-triangle (t - length (regularTo s x y z .triangles)) (omega (arith, triangles-many)))
+    corners-after : Corners s after
+    unfolding regularTo regularCell
+    corners-after t h =
+        let o = step-triangles (regularCell s x y z) before (Owns s after) old-triangle new-triangle t h in
+        record { x = o .x; y = o .y; z = o .z; sent = o .sent; a = o .a; b = o .b; c = o .c }
 
-    whole-cell : Whole s (rank s x y (suc z)) (regularTo s x y (suc z))
+    lying-after : Lying s (after .made)
+    unfolding regularTo regularCell
+    lying-after =
+        lying s (after .made)
+        (step-made (LiesOn s) 0 (regularCell s x y z) before (λ j h makes. cell-lies s x y z c j h) (all-lie s (before .made) (p .lying)))
+
+    whole-cell : Whole s (rank s x y (suc z)) after
+    unfolding regularTo cellStep
     whole-cell =
         record {
           stored = λ u v w r cell some small before crossed.
-              rw store-after
-              (cells-up-to s x y z (λ (u v w : ℕ). (r : ℕ) → 1 ≤ r → r < 4 → Crossed s (slotEdge u v w r)
-              → Holds s (regularTo s x y (suc z) .made) (fill .store) u v w r) c
-              (λ u v w cell before r some small crossed. done .old u v w r cell some small before crossed)
-              slot-made u v w cell before r some small crossed);
-          long = rw store-after (done .long);
-          lying = done .lying;
+              cells-up-to s x y z (λ (u v w : ℕ). (r : ℕ) → 1 ≤ r → r < 4 → Crossed s (slotEdge u v w r)
+              → Holds s (after .made) (fill .store) u v w r) c
+              (λ u v w cell before r some small crossed.
+              done .old _ _
+              (record {
+                x = u;
+                y = v;
+                z = w;
+                r = r;
+                cell = cell;
+                some = some;
+                small = small;
+                before = before;
+                crossed = crossed;
+                place-is = refl;
+                label-is = refl;
+              }))
+              slot-made u v w cell before r some small crossed;
+          long = done .long;
+          lying = lying-after;
           carried =
               cells-up-to s x y z (λ (u v w : ℕ). (j : ℕ) → j < codes s u v w
-              → (i : ℕ) × Names (regularTo s x y (suc z) .made) i (number s (codeEdge u v w (codeAt s u v w j)))) c
-              (λ u v w cell before j h. let d = p .carried u v w cell before j h in (d .0, rw made-after (names-more _ (fill .made) (d .1))))
+              → (i : ℕ) × Names (after .made) i (number s (codeEdge u v w (codeAt s u v w j)))) c
+              (λ u v w cell earlier j h. let d = p .carried u v w cell earlier j h in (d .0, names-more (before .made) (fill .made) (d .1)))
               (λ j h. (_, done .named j h));
           corners = corners-after;
         }
+
+-- each corner names a vertex
+pub in-reach : (s : Star) (here : ℕ) (m : Mesh) → Whole s here m → InReach m
+in-reach s here m w t h =
+    let o = w .corners t h in
+    record { a = o .a .named .there; b = o .b .named .there; c = o .c .named .there }
 
 -- ---- all cells
 

@@ -29,10 +29,8 @@ firstOnly s =
     }
 
 -- the last triangle dropped
-abbrev pub lastDropped : Star → Mesh
-lastDropped s =
-    let all = regularMesh s in
-    record { made = all .made; triangles = take (length (all .triangles) - 1) (all .triangles); store = all .store }
+abbrev pub lastDropped : Mesh → Mesh
+lastDropped m = record { made = m .made; triangles = take (length (m .triangles) - 1) (m .triangles); store = m .store }
 
 -- the first triangle turned round: two of its corners exchanged
 abbrev pub turnedRound : Triangle → Triangle

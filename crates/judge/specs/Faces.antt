@@ -1,24 +1,27 @@
--- Document 01, 'Answers by number': 8 over one face, with the neighbour's samples at hand, and over the faces of the named sides.
-use Prim.Native.Nat.{ℕ, _+_, _*_}
+-- Document 01, 'Answers by number': 8 over one face, with the neighbour's samples at hand, and over the faces of the named sides; and what holds of a
+-- block that 8 passes.
+use Prim.Native.Nat.{ℕ, _+_, _*_, _≤_, _<_}
 use mathlib.Core.Path.{_≡_, refl, _∙_}
-use mathlib.Core.Bool.{Bool, Bool·beq}
+use mathlib.Core.Bool.{Bool, true, cond, Bool·beq}
 use mathlib.Core.List.{List}
 use native.Mathlib.Omega.{arith}
 use lib.Ieee.{Float, nan}
 use lib.ListN.{getD}
 use Rattle.model.specs.declared.Refusal.the-variants.{FaceMismatch}
 use Rattle.model.specs.declared.Verdict.{Verdict}
+use Rattle.model.specs.declared.Verdict.the-variants.{Passed}
 use Rattle.model.specs.Refusals.{unless, first}
 use Rattle.model.specs.Limits.{sideCount}
 use Rattle.model.specs.Samples.{sampleOf}
-use Rattle.model.specs.Sides.{neighbourOf}
+use Rattle.model.specs.Sides.{named, neighbourOf}
 use Rattle.model.specs.Rotations.{facePoint, neighbourPoint}
 use Rattle.model.specs.Formulas.{inside}
 use Rattle.model.specs.Star.{Star, subdivisions}
 use Rattle.model.specs.Points.{fineSample}
-use Rattle.model.specs.Judging.{facesAgree, judgeFaces}
+use Rattle.model.specs.Judging.{facesAgree, faceSpot, faceRow, faceSide, judgeFaces}
 use Rattle.grid.specs.RotationLaws.{OnFace, OnSide}
 use Rattle.grid.specs.Walks.{sidePlace, spot-read}
+use Rattle.judge.specs.First.{unless-passed, each-passed}
 use Rattle.judge.specs.NamedSides.{ofNamed}
 
 -- a face's point among the centre's samples, and the coinciding one among the neighbour's
@@ -64,3 +67,15 @@ pub face-by-face : (s : Star) →
     judgeFaces s ≡ first (ofNamed (s .mask) (pairFace (subdivisions s) (s .mask) (s .threshold) (s .centre) (s .neighbours))) sideCount
 unfolding judgeFaces facesAgree fineSample
 face-by-face s = refl
+
+-- where 8 passes, the samples agree at each point of each named side's face
+pub faces-agree : (s : Star) → judgeFaces s ≡ Passed → (side u v : ℕ) → side < sideCount → named (s .mask) side ≡ true
+    → u ≤ subdivisions s → v ≤ subdivisions s → facesAgree s side u v ≡ true
+unfolding judgeFaces
+faces-agree s passed side u v hs is-named hu hv =
+    let n = subdivisions s in
+    let at-side = each-passed (λ side. cond (named (s .mask) side) (faceSide s side (n + 1)) Passed) sideCount side passed hs in
+    let all-rows : faceSide s side (n + 1) ≡ Passed = rw is-named at at-side in
+    let at-row = each-passed (λ u. faceRow s side u (n + 1)) (n + 1) u all-rows (omega arith) in
+    let at-spot = each-passed (faceSpot s side u) (n + 1) v at-row (omega arith) in
+    unless-passed (facesAgree s side u v) (FaceMismatch (record { side = side; u = u; v = v })) at-spot

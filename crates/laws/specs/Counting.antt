@@ -102,6 +102,11 @@ every-item P (y ∷ ys) t x h = go (has-cases x y ys h) (every-item P ys (both-r
     go (inl e) rest = rw e (both-left _ _ t)
     go (inr h) rest = rest h
 
+-- the items that pass a test
+unfoldable pub only : (ℕ → Bool) → List ℕ → List ℕ
+only P [] = []
+only P (x ∷ xs) = pick (P x) (x ∷ only P xs) (only P xs)
+
 -- f at each two items, the one before in the list first
 unfoldable pub withEach : (ℕ → ℕ → Bool) → ℕ → List ℕ → Bool
 withEach f x [] = true

@@ -6,6 +6,7 @@ pub mod Lists
 pub mod Laying
 pub mod Gathered
 pub mod Sums
+pub mod Squares
 -- tests as Bools, and counting what passes one
 pub mod Tests
 pub mod Below

@@ -1,10 +1,12 @@
 -- Sums over a range, over a list and over a cube of cells, and how a sum over cells comes down to its border. Knows nothing of meshes.
 use mathlib.Core.Path.{_≡_, refl, sym, ap, ap₂}
+use mathlib.Core.Bool.{Bool, true, false}
 use mathlib.Core.List.{List, [], _∷_, _++_, map}
 use Prim.Native.Nat.{ℕ, zero, suc, _+_, _<_}
 use native.Mathlib.Nat.{add-zero, zero-add, add-suc, le-refl, le-step}
 use native.Mathlib.Omega.{arith}
-use Rattle.laws.specs.Counting.{gather, weighed}
+use lib.Dec.{T}
+use Rattle.laws.specs.Counting.{pick, gather, only, weighed}
 use Rattle.laws.specs.Steps.{total}
 
 -- ---- over a range
@@ -45,9 +47,28 @@ each-append : (P : ℕ → Type 0) (xs ys : List ℕ) → Each P xs → Each P y
 each-append P [] ys p q = q
 each-append P (x ∷ xs) ys p q = (p .0, each-append P xs ys (p .1) q)
 
-pub each-gather : (P : ℕ → Type 0) (f : ℕ → List ℕ) (n : ℕ) → ((k : ℕ) → Each P (f k)) → Each P (gather f n)
+pub each-gather : (P : ℕ → Type 0) (f : ℕ → List ℕ) (n : ℕ) → ((k : ℕ) → k < n → Each P (f k)) → Each P (gather f n)
 each-gather P f zero h = tt
-each-gather P f (suc n) h = each-append P (gather f n) (f n) (each-gather P f n h) (h n)
+each-gather P f (suc n) h = each-append P (gather f n) (f n) (each-gather P f n (λ k l. h k (le-step l))) (h n (le-refl _))
+
+pub each-as : {P Q : ℕ → Type 0} → ((x : ℕ) → P x → Q x) → (xs : List ℕ) → Each P xs → Each Q xs
+each-as h [] e = tt
+each-as h (x ∷ xs) e = (h x (e .0), each-as h xs (e .1))
+
+pub each-map : {P : ℕ → Type 0} (Q : ℕ → Type 0) (f : ℕ → ℕ) → ((x : ℕ) → P x → Q (f x)) → (xs : List ℕ) → Each P xs → Each Q (map f xs)
+each-map Q f h [] e = tt
+each-map Q f h (x ∷ xs) e = (h x (e .0), each-map Q f h xs (e .1))
+
+-- the items that pass a test have what all have, and pass it
+pub each-only : (P : ℕ → Type 0) (test : ℕ → Bool) (xs : List ℕ) → Each P xs → Each (λ x. P x × T (test x)) (only test xs)
+unfolding only
+each-only P test [] e = tt
+each-only P test (x ∷ xs) e = go (test x) (λ t. t) (each-only P test xs (e .1))
+  where
+    go : (b : Bool) → (T b → T (test x)) → Each (λ x. P x × T (test x)) (only test xs)
+        → Each (λ x. P x × T (test x)) (pick b (x ∷ only test xs) (only test xs))
+    go true passes rest = ((e .0, passes tt), rest)
+    go false passes rest = rest
 
 pub weighed-same : (w v : ℕ → ℕ) {P : ℕ → Type 0} → ((x : ℕ) → P x → w x ≡ v x) → (xs : List ℕ) → Each P xs → weighed w xs ≡ weighed v xs
 weighed-same w v h [] e = refl
@@ -69,7 +90,7 @@ pub square-none : (f : ℕ → ℕ → ℕ) (n : ℕ) → ((u v : ℕ) → u < n
 square-none f n h = total-none _ n (λ u hu. total-none _ n (λ v hv. h u v hu hv))
 
 -- f and g differ in each cell of a row by what a and b say of its two ends: over the row, by what they say of the row's ends
-telescope : (f g a b : ℕ → ℕ) (n : ℕ) → ((k : ℕ) → k < n → f k + a (suc k) + b k ≡ g k + b (suc k) + a k)
+pub telescope : (f g a b : ℕ → ℕ) (n : ℕ) → ((k : ℕ) → k < n → f k + a (suc k) + b k ≡ g k + b (suc k) + a k)
     → total f n + a n + b 0 ≡ total g n + b n + a 0
 telescope f g a b zero h = omega arith
 telescope f g a b (suc n) h = omega (arith, telescope f g a b n (λ k l. h k (le-step l)), h n (le-refl _))

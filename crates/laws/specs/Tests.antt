@@ -38,6 +38,11 @@ unfolding either
 either-left true b t n = tt
 either-left false b t n = absurd (n t)
 
+pub either-right : (a b : Bool) → T (either a b) → (T a → ⊥) → T b
+unfolding either
+either-right true b t n = absurd (n tt)
+either-right false b t n = t
+
 pub either-none : (a b : Bool) → (T a → ⊥) → (T b → ⊥) → T (either a b) → ⊥
 unfolding either
 either-none true b m n t = m tt

@@ -1,12 +1,13 @@
 -- Document 01, 'Regular cells' and 'Transition cells': the mesh, a step for each cell in document 01's order, from nothing and an
 -- index store of zeros. Both kinds of cell take the same step. Definitions only.
-use Prim.Native.Nat.{ℕ, _+_, _-_, _*_, _/_, _%_, _^_}
+use Prim.Native.Nat.{ℕ, _+_, _-_, _*_, _/_}
 use mathlib.Core.Bool.{Bool, cond, _&&_, _||_}
 use mathlib.Core.List.{List, [], _∷_, _++_}
 use lib.Dec.{eqb, ltb}
 use lib.ListN.{length, getD, set, replicate}
 use Rattle.tables.specs.Codes.{pointA, pointB, stepX, stepY, stepZ, isNew, reuseIndex}
 use Rattle.tables.specs.Cases.{regularCode, regularVertices, regularTriangles, regularCorner, transitionCode, transitionVertices, transitionTriangles, transitionCorner, transitionTurned}
+pub use Rattle.tables.specs.Cases.{sent}
 use Rattle.tables.specs.Points.{cellPoint}
 use Rattle.model.specs.declared.Vertex.{Vertex}
 use Rattle.model.specs.declared.Triangle.{Triangle}
@@ -193,10 +194,7 @@ transitionUse s side u v code =
           (transitionPlace n side (u - stepX code) (v - stepY code) (reuseIndex code));
     }
 
--- the winding: clear sends a triangle's corners out 1, 2, 3 and set sends them 3, 2, 1
-abbrev pub sent : Bool → ℕ → ℕ
-sent turned j = cond turned (3 * (j / 3) + (2 - j % 3)) j
-
+-- its corners go out by the winding, which the class's bit 0x80 tells
 unfoldable pub transitionCell : Star → ℕ → ℕ → ℕ → Cell
 transitionCell s side u v =
     let case = transitionCase s side u v in

@@ -14,6 +14,7 @@ use Rattle.promises.specs.NestingKept.{nesting-kept}
 use Rattle.promises.specs.PlaceKindsKept.{place-kinds-kept}
 use Rattle.promises.specs.BlankKept.{blank-kept}
 use Rattle.promises.specs.WeightsKept.{weights-kept}
+use Rattle.promises.specs.FinerKept.{no-gap-is-left}
 use Rattle.promises.specs.Views.{point, packed-record, subdivisions-apart, blank-apart, viewer-sample}
 
 pub kept : Promises
@@ -34,6 +35,7 @@ kept =
       };
       definition = record { mesh = equal-mesh; wanted = wanted; samples = samples-laid; bytes = bytes-laid };
       no-hole = no-hole-is-left;
+      no-gap = no-gap-is-left;
       round-trips = record { read-write = read-write; write-read = write-read };
       room = enough;
       stl = stl-kept;

@@ -15,7 +15,7 @@ use Rattle.model.specs.Samples.{sampleLength}
 use Rattle.model.specs.Sides.{neighboursLength}
 use Rattle.model.specs.Formulas.{vector}
 use Rattle.model.specs.Star.{Star}
-use Rattle.model.specs.Mesh.{Mesh, regularMesh, meshOf}
+use Rattle.model.specs.Mesh.{Made, Mesh, regularMesh, meshOf}
 use Rattle.model.specs.Extraction.{extract}
 use Rattle.closed.specs.Clauses.{edgeAt}
 
@@ -61,15 +61,19 @@ vertexIn b i =
 abbrev pub triangleIn : Lent → ℕ → Triangle
 triangleIn b t = record { a = cornerIn b t 0; b = cornerIn b t 1; c = cornerIn b t 2 }
 
--- what the regular cells have left in the buffers: they come first. A buffer does not tell a vertex's grid edge; it is that of the definition's vertex
--- with this index. The store plays no part in what is said of it
-abbrev pub regularPart : Star → Lent → Mesh
-regularPart s b =
+-- the first vertices and triangles in the buffers, so many of each, as a mesh. A buffer does not tell a vertex's grid edge; it is that of the vertex
+-- with this index in a list from the definition. The store plays no part in what is said of it
+abbrev pub meshIn : Lent → List Made → ℕ → ℕ → Mesh
+meshIn b defined vertices triangles =
     record {
-      made = listed (λ i. record { vertex = vertexIn b i; edge = edgeAt (meshOf s .made) i }) (length (regularMesh s .made));
-      triangles = listed (triangleIn b) (length (regularMesh s .triangles));
+      made = listed (λ i. record { vertex = vertexIn b i; edge = edgeAt defined i }) vertices;
+      triangles = listed (triangleIn b) triangles;
       store = b .store;
     }
+
+-- what the regular cells have left in the buffers: they come first
+abbrev pub regularPart : Star → Lent → Mesh
+regularPart s b = meshIn b (meshOf s .made) (length (regularMesh s .made)) (length (regularMesh s .triangles))
 
 -- the centre's samples and the neighbours', in a list that was read
 abbrev pub centreOf : Header → List Float → List Float

@@ -5,6 +5,7 @@ pub mod Nesting
 pub mod PlaceKinds
 pub mod Blank
 pub mod Weights
+pub mod Finer
 pub mod Orders
 pub mod Points
 pub mod Left
@@ -23,3 +24,4 @@ pub mod NestingKept
 pub mod PlaceKindsKept
 pub mod BlankKept
 pub mod WeightsKept
+pub mod FinerKept

@@ -42,6 +42,7 @@ use Rattle.promises.specs.Nesting.{NestingPromises}
 use Rattle.promises.specs.PlaceKinds.{PlaceKindPromises}
 use Rattle.promises.specs.Blank.{BlankPromises}
 use Rattle.promises.specs.Weights.{WeightsPromises}
+use Rattle.promises.specs.Finer.{NoGapIsLeft}
 
 -- ---- 1. every call is answered
 
@@ -97,7 +98,7 @@ pub record EqualToTheDefinition : Type 0 where
       → writeRecord h centre neighbours bytes .answer ≡ RecordWritten.Bytes k
       → Laid k (recordOf h (centre ++ neighbours)) bytes (writeRecord h centre neighbours bytes .bytes)
 
--- ---- 3. no hole: regular cells; not yet the fine sides, not the outer faces
+-- ---- 3. no hole: regular cells, and with Finer the named sides; not the outer faces where no neighbour is finer
 
 pub record NoHoleIsLeft (s : Star) (lent : Lent) (c : Counts) : Type 0 where
   -- of what the regular cells leave in the buffers: a grid edge carries a vertex exactly if it is crossed; each triangle corner names a vertex on an edge
@@ -155,6 +156,8 @@ pub record Promises : Type 0 where
   pub definition : EqualToTheDefinition
   -- accepted, the regular part of what extraction leaves has no hole
   pub no-hole : (s : Star) (lent : Lent) (c : Counts) → answered s lent ≡ Extraction.Mesh c → NoHoleIsLeft s lent c
+  -- and there is no gap at its named sides
+  pub no-gap : (s : Star) (lent : Lent) (c : Counts) → answered s lent ≡ Extraction.Mesh c → NoGapIsLeft s lent c
   pub round-trips : RecordsRoundTrip
   -- whatever the samples are
   pub room : (s : Star) → s .mask ≤ mostMask → Enough s

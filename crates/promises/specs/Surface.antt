@@ -74,7 +74,7 @@ module _ (s : Star) (b : Lent) (vertices : List Float) (triangles : List ℕ)
   corner-is : (t k : ℕ) → t < length (meshOf s .triangles) → k < 3 → cornerIn b t k ≡ getD (triangleIndices (getD (meshOf s .triangles) t noTriangle)) k 0
   corner-is t k h small = laid-at triangleIndices 3 (λ m. refl) (meshOf s .triangles) triangles (b .triangles) triangles-left t k noTriangle 0 h small
 
-  triangle-is : (t : ℕ) → t < length (meshOf s .triangles) → triangleIn b t ≡ getD (meshOf s .triangles) t noTriangle
+  pub triangle-is : (t : ℕ) → t < length (meshOf s .triangles) → triangleIn b t ≡ getD (meshOf s .triangles) t noTriangle
   triangle-is t h =
       λ j. record { a = corner-is t 0 h (omega arith) j; b = corner-is t 1 h (omega arith) j; c = corner-is t 2 h (omega arith) j }
 

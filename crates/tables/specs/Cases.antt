@@ -1,7 +1,7 @@
 -- The tables by case number and position: what every later definition reads of them. Outside a table the answer is 0.
-use mathlib.Core.Bool.{Bool}
+use mathlib.Core.Bool.{Bool, cond}
 use mathlib.Core.List.{List, []}
-use Prim.Native.Nat.{ℕ, _+_, _/_, _%_}
+use Prim.Native.Nat.{ℕ, _+_, _-_, _*_, _/_, _%_}
 use lib.Dec.{leb}
 use lib.ListN.{getD}
 use Rattle.tables.specs.RegularRows as regular
@@ -70,3 +70,7 @@ transitionCorner case j = cornerOf (transitionCell case) j
 -- bit 0x80 of the class: a triangle's corners go out 3, 2, 1
 unfoldable pub transitionTurned : ℕ → Bool
 transitionTurned case = leb 128 (transitionClass case)
+
+-- the winding: clear sends a triangle's corners out 1, 2, 3 and set sends them 3, 2, 1
+abbrev pub sent : Bool → ℕ → ℕ
+sent turned j = cond turned (3 * (j / 3) + (2 - j % 3)) j

@@ -8,15 +8,15 @@ use lib.Dec.{T, eqb, eqb→eq}
 use lib.ListN.{getD}
 use Rattle.tables.specs.Corners.{bit, regularEdges}
 use Rattle.laws.specs.Tests.{both, both-left, both-right, either, either-left, either-none, then, then-holds, below, all, all₂}
-use Rattle.laws.specs.Counting.{has, every, every-item, matches, matched, withEach, eachTwo, two-items, weighed}
+use Rattle.laws.specs.Counting.{has, every, every-item, only, matches, matched, withEach, eachTwo, two-items, weighed}
 use Rattle.tables.specs.RegularRows as regular
 use Rattle.tables.specs.Cases.{regularClass, regularCodes, regularCell}
-use Rattle.tables.specs.Sides.{side, back, sidesOf, rowSides, regularSides, runs, farEnds, nearEdge, commonFace, nearSide, onlyNear, farEdge, farSide, nearCorner, nearBits, farBits, spread, shown, nears, fars, inflow, outflow}
+use Rattle.tables.specs.Sides.{side, back, sidesOf, rowSides, regularSides, runs, farEnds, nearEdge, commonFace, nearSide, farEdge, farSide, nearCorner, nearBits, farBits, spread, shown, nears, fars, inflow, outflow}
 
 -- ---- for a block: whatever a side weighs, a case's sides with those that its faces show weigh as much as the same sides turned round
 
 flows-match : T (below (λ case. matches (inflow case) (outflow case)) 256)
-unfolding regular.classes regular.cellRows regular.vertexRows regularClass regularCodes regularCell side back sidesOf rowSides regularSides bit regularEdges farEnds nearEdge nearSide onlyNear farSide nearCorner nearBits farBits spread shown nears fars inflow outflow both
+unfolding regular.classes regular.cellRows regular.vertexRows regularClass regularCodes regularCell side back sidesOf rowSides regularSides bit regularEdges farEnds nearEdge nearSide only farSide nearCorner nearBits farBits spread shown nears fars inflow outflow both
 flows-match = tt
 
 pub balanced : (weight : ℕ → ℕ) (case : ℕ) → case < 256 → weighed weight (inflow case) ≡ weighed weight (outflow case)
@@ -61,7 +61,7 @@ unfoldable facesTest : ℕ → ℕ → Bool
 facesTest case d = eachTwo (faceTest d (regularSides case) (nears d case) (shown d (farBits d case))) (faceEdges d)
 
 faces-right : T (below (λ case. below (facesTest case) 3) 256)
-unfolding regular.classes regular.cellRows regular.vertexRows regularClass regularCodes regularCell side sidesOf rowSides regularSides runs bit regularEdges farEnds nearEdge nearSide onlyNear farEdge nearCorner nearBits farBits spread shown nears faceEdges faceTest facesTest withEach eachTwo both
+unfolding regular.classes regular.cellRows regular.vertexRows regularClass regularCodes regularCell side sidesOf rowSides regularSides runs bit regularEdges farEnds nearEdge nearSide only farEdge nearCorner nearBits farBits spread shown nears faceEdges faceTest facesTest withEach eachTwo both
 faces-right = tt
 
 face-right : (d case p q : ℕ) → d < 3 → case < 256 → T (nearEdge d p) → T (nearEdge d q)

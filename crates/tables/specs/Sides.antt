@@ -1,7 +1,7 @@
 -- The directed sides of a regular case's triangles, and what a face shows of them: the words of T4. An edge of the cell is its code's low byte;
 -- d is 0, 1, 2 for x, y, z; the near face in direction d has the corners whose bit d is clear, the far face those whose bit d is set.
 use mathlib.Core.Path.{_≡_, refl}
-use mathlib.Core.Bool.{Bool}
+use mathlib.Core.Bool.{Bool, false}
 use mathlib.Core.List.{List, [], _∷_, _++_, map}
 use Prim.Native.Nat.{ℕ, suc, _+_, _*_, _/_, _%_, _^_}
 use lib.Dec.{eqb}
@@ -9,8 +9,8 @@ use lib.ListN.{getD}
 use Rattle.tables.specs.Codes.{pointA, pointB, edgeOf}
 use Rattle.tables.specs.Corners.{bit, regularEdges}
 use Rattle.laws.specs.Tests.{both, either}
-use Rattle.laws.specs.Counting.{pick, one, gather, has, weighed}
-use Rattle.tables.specs.Cases.{trianglesOf, cornerOf, regularCodes, regularCell, regularCode, regularTriangles, regularCorner}
+use Rattle.laws.specs.Counting.{one, gather, has, only, weighed}
+use Rattle.tables.specs.Cases.{trianglesOf, cornerOf, regularCodes, regularCell, regularCode, regularTriangles, regularCorner, sent}
 
 -- a directed side: from the edge p to the edge q
 unfoldable pub side : ℕ → ℕ → ℕ
@@ -24,11 +24,12 @@ unfoldable pub sidesOf : (ℕ → ℕ) → ℕ → List ℕ
 sidesOf edge t =
     side (edge (3 * t)) (edge (3 * t + 1)) ∷ side (edge (3 * t + 1)) (edge (3 * t + 2)) ∷ side (edge (3 * t + 2)) (edge (3 * t)) ∷ []
 
-unfoldable pub rowSides : List ℕ → List ℕ → List ℕ
-rowSides codes cell = gather (sidesOf (λ j. edgeOf (getD codes (cornerOf cell j) 0))) (trianglesOf cell)
+-- those of all triangles of a row of codes and its class's row of cell data, as they are sent
+unfoldable pub rowSides : Bool → List ℕ → List ℕ → List ℕ
+rowSides turned codes cell = gather (sidesOf (λ j. edgeOf (getD codes (cornerOf cell (sent turned j)) 0))) (trianglesOf cell)
 
 unfoldable pub regularSides : ℕ → List ℕ
-regularSides case = rowSides (regularCodes case) (regularCell case)
+regularSides case = rowSides false (regularCodes case) (regularCell case)
 
 -- by case number and position
 pub regular-sides : (case : ℕ)
@@ -56,10 +57,6 @@ commonFace d p q = either (eqb (farEnds d p + farEnds d q) 0) (eqb (farEnds d p 
 
 unfoldable pub nearSide : ℕ → ℕ → Bool
 nearSide d s = both (nearEdge d (s / 256)) (nearEdge d (s % 256))
-
-unfoldable pub onlyNear : ℕ → List ℕ → List ℕ
-onlyNear d [] = []
-onlyNear d (s ∷ ss) = pick (nearSide d s) (s ∷ onlyNear d ss) (onlyNear d ss)
 
 -- an edge of the near face, as the cell on its other side has it: on its far face; and a side alike
 unfoldable pub farEdge : ℕ → ℕ → ℕ
@@ -89,7 +86,7 @@ spread d f =
 
 -- the sides that a near face with the bits f shows
 unfoldable pub shown : ℕ → ℕ → List ℕ
-shown d f = onlyNear d (regularSides (spread d f))
+shown d f = only (nearSide d) (regularSides (spread d f))
 
 -- ---- a case's sides, with what its six faces show of the neighbours
 

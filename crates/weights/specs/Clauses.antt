@@ -1,5 +1,5 @@
--- Weights between 0 and 1, and vertices between their ends: what is said of a weight, of a coordinate, and of each vertex of a block's mesh. Numbers are
--- whole, in units of 2 ^ -149 (Units). Definitions only.
+-- Weights between 0 and 1, and vertices between their ends: what is said of a weight, of a coordinate, of each vertex of a block's mesh, and of two that
+-- are worked out from the two ends of one edge. Numbers are whole, in units of 2 ^ -149 (Units). Definitions only.
 use Prim.Native.Nat.{ℕ, _+_, _-_, _*_, _≤_, _<_}
 use mathlib.Core.Path.{_≡_}
 use mathlib.Core.Logic.{_⊎_}
@@ -158,3 +158,19 @@ pub record VertexWeighed (s : Star) (i : ℕ) (v : Vertex) : Type 0 where
 -- every vertex of a mesh
 abbrev pub Weights : Star → Mesh → Type 0
 Weights s m = (i : ℕ) → i < length (m .made) → VertexWeighed s i (vertexAt (m .made) i)
+
+-- ---- a vertex from either end of its edge
+
+-- each of two may be off the exact point
+abbrev pub bothOff : ℕ
+bothOff = 2
+
+-- r is worked out from the end a and q from the end b: where the ends are at most c in size, they are apart by at most what both may be off
+abbrev pub FromBoth : Float → Float → Float → Float → Type 0
+FromBoth a b r q = (c : ℕ) → magnitude a ≤ c → magnitude b ≤ c → apart r q * parts ≤ bothOff * (7 * apart a b + c + parts)
+
+-- so are the positions of two vertices between the points a and b, in each coordinate
+pub record NearVertices (a b : GridPoint) (v w : Vertex) : Type 0 where
+  pub x : FromBoth (a .position .x) (b .position .x) (v .position .x) (w .position .x)
+  pub y : FromBoth (a .position .y) (b .position .y) (v .position .y) (w .position .y)
+  pub z : FromBoth (a .position .z) (b .position .z) (v .position .z) (w .position .z)

@@ -3,7 +3,7 @@
 use Prim.Native.Nat.{ℕ, _+_, _*_, _<_}
 use mathlib.Core.Path.{_≡_, refl, sym, ap₂, _∙_, subst}
 use mathlib.Core.Logic.{_≢_, _⊎_, inl, inr}
-use mathlib.Core.Bool.{Bool, true, false, cond, Bool·beq}
+use mathlib.Core.Bool.{Bool, true, false, cond}
 use native.Mathlib.Omega.{arith}
 use lib.Ieee.{Float, binary32}
 use lib.Ieee.Fits.{div-fits}
@@ -19,41 +19,31 @@ use Rattle.model.specs.declared.Xyz.{Xyz}
 use Rattle.model.specs.declared.GridPoint.{GridPoint}
 use Rattle.model.specs.declared.Verdict.the-variants.{Passed}
 use Rattle.model.specs.Limits.{mostSize}
-use Rattle.model.specs.Samples.{sampleOf}
-use Rattle.model.specs.Rotations.{facePoint}
-use Rattle.model.specs.Formulas.{inside, insideBit, between, vertexBetween}
+use Rattle.model.specs.Formulas.{inside, insideBit, vertexBetween}
 use Rattle.model.specs.Star.{Star, subdivisions}
 use Rattle.model.specs.Points.{cornerPoint, regularCase, regularPoint, fineGridPoint, transitionCase, transitionPoint}
 use Rattle.model.specs.Judging.{judgeStar, facesAgree, judgeFaces}
 use Rattle.grid.specs.Places.{Within}
 use Rattle.grid.specs.RotationLaws.{OnFace, OnFineFace, face-point-in, fine-point-in}
+use Rattle.judge.specs.Faces.{faces-agree}
 use Rattle.points.specs.CellPoints.{InCell, cell-point-in}
 use Rattle.closed.specs.Clauses.{insideAt, IsCell}
 use Rattle.closed.specs.Cells.{high-is, code-right, code-crossed}
-use Rattle.closed.specs.SideCells.{fineInside, case-small, case-inside}
+use Rattle.closed.specs.SideCells.{fineInside, agreed-inside, case-small, case-inside}
 use Rattle.closed.specs.Indices.{IsSideCell}
 use Rattle.weights.specs.Clauses.{OneInside, AreF32, Weighed}
 use Rattle.weights.specs.Small.{Small}
 use Rattle.weights.specs.Coordinates.{Reached, regular-reached, fine-reached}
 use Rattle.weights.specs.Weighing.{weigh}
 use Rattle.weights.specs.Segments.{coordinate}
-use Rattle.weights.specs.Samples.{shaped, threshold-small, measured, centre-small, fine-small, faces-agree}
-
-same-side : (t a b : Float) → Bool·beq (inside t a) (inside t b) ≡ true → insideBit t a ≡ insideBit t b
-same-side t a b = go (inside t a) (inside t b)
-  where
-    go : (p q : Bool) → Bool·beq p q ≡ true → cond {A = ℕ} p 1 0 ≡ cond {A = ℕ} q 1 0
-    go true true e = refl
-    go true false e = cc
-    go false true e = cc
-    go false false e = refl
+use Rattle.weights.specs.Samples.{shaped, threshold-small, measured, centre-small, fine-small}
 
 -- ---- a vertex between two points, one inside and the other outside
 
 -- a point whose sample and position can be reckoned with
-record Ready (p : GridPoint) : Type 0 where
-  sample : Small mostSize (p .sample)
-  position : Reached (p .position)
+pub record Ready (p : GridPoint) : Type 0 where
+  pub sample : Small mostSize (p .sample)
+  pub position : Reached (p .position)
 
 one-of-two : (t a b : Float) → insideBit t a ≢ insideBit t b → OneInside t a b
 one-of-two t a b d = go (inside t a) (inside t b) d
@@ -81,21 +71,24 @@ between-two t a b pt pa pb d =
 -- ---- regular cells: 1 to 7
 
 module _ (s : Star) (fit : AreF32 s) (passed : judgeStar s ≡ Passed) where
-  regular-ready : (p : Xyz) → Within (subdivisions s) p → Ready (regularPoint s p)
+  pub regular-ready : (p : Xyz) → Within (subdivisions s) p → Ready (regularPoint s p)
   unfolding regularPoint
   regular-ready p w = record { sample = centre-small s fit passed p w; position = regular-reached (s .block) (measured s fit passed) (s .mask) p w }
+
+  pub points-weighed : (p q : Xyz) → Within (subdivisions s) p → Within (subdivisions s) q → insideAt s p ≢ insideAt s q
+      → Weighed (s .threshold) (regularPoint s p) (regularPoint s q) (vertexBetween (s .threshold) (regularPoint s p) (regularPoint s q))
+  unfolding regularPoint
+  points-weighed p q wp wq = between-two (s .threshold) _ _ (threshold-small s fit passed) (regular-ready p wp) (regular-ready q wq)
 
   pub regular-weighed : (x y z k : ℕ) → IsCell s x y z → k < regularVertices (regularCase s x y z)
       → let code = regularCode (regularCase s x y z) k in
       let a = regularPoint s (cornerPoint x y z (pointA code)) in
       let b = regularPoint s (cornerPoint x y z (pointB code)) in
       Weighed (s .threshold) a b (vertexBetween (s .threshold) a b)
-  unfolding regularPoint
   regular-weighed x y z k c h =
       let code = regularCode (regularCase s x y z) k in
       let low = cornerPoint x y z (pointA code) in
-      between-two (s .threshold) _ _ (threshold-small s fit passed) (regular-ready low (omega arith))
-      (regular-ready (cornerPoint x y z (pointB code)) (omega arith))
+      points-weighed low (cornerPoint x y z (pointB code)) (omega arith) (omega arith)
       (subst (λ p. insideAt s low ≢ insideAt s p) (high-is x y z code (code-right s x y z k h)) (code-crossed s x y z k h))
 
   -- ---- transition cells: 1 to 8
@@ -125,7 +118,7 @@ module _ (s : Star) (fit : AreF32 s) (passed : judgeStar s ≡ Passed) where
     point-inside (Fine offset) h = refl
     point-inside (Coarse corner) h =
         let agree = faces-agree s faces side (u + corner .u) (v + corner .v) (cell .side-in) (cell .side-named) (omega arith) (omega arith) in
-        same-side (s .threshold) (sampleOf (subdivisions s) (s .centre) (facePoint (subdivisions s) side (u + corner .u) (v + corner .v))) _ agree
+        agreed-inside s side (u + corner .u) (v + corner .v) agree
         ∙ ap₂ (fineInside s side) (doubled u (corner .u)) (doubled v (corner .v))
       where
         doubled : (u c : ℕ) → 2 * (u + c) ≡ 2 * u + 2 * c

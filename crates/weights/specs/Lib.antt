@@ -3,6 +3,7 @@ pub mod Units
 pub mod Clauses
 -- that it holds
 pub mod Weights
+pub mod BothEnds
 -- how it is proved
 pub mod Rounding
 pub mod Values

@@ -1,57 +1,34 @@
--- A block that passes 1 to 7: its threshold, each sample that a cell reads, and the coordinates of its grid points are finite and not too large. And one
--- that passes 8 has faces that agree.
-use Prim.Native.Nat.{ℕ, suc, _+_, _-_, _*_, _≤_, _<_}
+-- A block that passes 1 to 7: its threshold, each sample that a cell reads, and the coordinates of its grid points are finite and not too large.
+use Prim.Native.Nat.{ℕ, _+_, _-_, _*_, _≤_, _<_}
 use mathlib.Core.Path.{_≡_, sym, ap, _∙_, subst}
-use mathlib.Core.Bool.{Bool, true, false, cond}
+use mathlib.Core.Bool.{true}
 use mathlib.Core.List.{_++_}
 use native.Mathlib.Omega.{arith}
 use lib.Ieee.{nan}
 use lib.ListN.{length, getD, length-append, List·getD-append}
 use lib.Seq.{getD-append-add, getD-take, getD-drop}
 use Rattle.model.specs.declared.Xyz.{Xyz}
-use Rattle.model.specs.declared.Refusal.the-variants.{Measure, BadSample, FaceMismatch}
-use Rattle.model.specs.declared.Verdict.{Verdict}
+use Rattle.model.specs.declared.Refusal.the-variants.{Measure, BadSample}
 use Rattle.model.specs.declared.Verdict.the-variants.{Passed}
-use Rattle.model.specs.Limits.{sideCount, mostSize}
-use Rattle.model.specs.Refusals.{unless, first}
+use Rattle.model.specs.Limits.{mostSize}
+use Rattle.model.specs.Refusals.{unless}
 use Rattle.model.specs.Samples.{sampleLength, sampleOf, inBlock}
 use Rattle.model.specs.Sides.{named, namedBelow, neighbourLength, neighbourOf}
 use Rattle.model.specs.Rotations.{neighbourPoint}
 use Rattle.model.specs.Star.{Star, subdivisions, neighbourAt}
 use Rattle.model.specs.Points.{fineSample}
-use Rattle.model.specs.Judging.{usable, judgeSubdivisions, judgeMask, measureUsable, judgeMeasures, judgeCentre, judgeMissing, judgeTooLong, sampleUsable, judgeSamples, judgeStar, facesAgree, faceSpot, faceRow, faceSide, judgeFaces}
+use Rattle.model.specs.Judging.{usable, judgeSubdivisions, judgeMask, measureUsable, judgeMeasures, judgeCentre, judgeMissing, judgeTooLong, sampleUsable, judgeSamples, judgeStar}
 use Rattle.grid.specs.Shape.{Shaped}
 use Rattle.grid.specs.Places.{Within, in-block, sample-is}
 use Rattle.grid.specs.RotationLaws.{OnFineFace, neighbour-point-in}
 use Rattle.grid.specs.SideLaws.{NeighbourThere, part-ends}
-use Rattle.judge.specs.First.{both-passed, unless-passed, first-append}
+use Rattle.judge.specs.First.{both-passed, unless-passed, each-passed}
 use Rattle.judge.specs.Passing.{star-shaped}
 use Rattle.weights.specs.Clauses.{AreF32}
 use Rattle.weights.specs.Small.{Small}
 use Rattle.weights.specs.Coordinates.{Measured, usable-small, usable-size-small}
 
 -- ---- what passes
-
--- where none of n is refused, none is
-passed-at : (f : ℕ → Verdict) (n k : ℕ) → first f n ≡ Passed → k < n → f k ≡ Passed
-passed-at f n k e h =
-    let cut : suc k + (n - suc k) ≡ n = omega arith in
-    let whole = sym (first-append f (suc k) (n - suc k)) ∙ ap (first f) cut ∙ e in
-    both-passed (first f k) (f k) (both-passed (first f (suc k)) _ whole .0) .1
-
-cond-passed : (b : Bool) (v : Verdict) → cond b v Passed ≡ Passed → b ≡ true → v ≡ Passed
-cond-passed true v e t = e
-cond-passed false v e t = cc
-
--- 8
-pub faces-agree : (s : Star) → judgeFaces s ≡ Passed → (side u v : ℕ) → side < sideCount → named (s .mask) side ≡ true → u ≤ subdivisions s
-    → v ≤ subdivisions s → facesAgree s side u v ≡ true
-unfolding judgeFaces
-faces-agree s e side u v hs is-named hu hv =
-    let n = subdivisions s in
-    let a = passed-at (λ side. cond (named (s .mask) side) (faceSide s side (n + 1)) Passed) sideCount side e hs in
-    let b = passed-at (λ u. faceRow s side u (n + 1)) (n + 1) u (cond-passed (named (s .mask) side) _ a is-named) (omega arith) in
-    unless-passed (facesAgree s side u v) (FaceMismatch (record { side = side; u = u; v = v })) (passed-at (faceSpot s side u) (n + 1) v b (omega arith))
 
 in-cube : (n x y z : ℕ) → x ≤ n → y ≤ n → z ≤ n → inBlock n x y z < sampleLength n
 in-cube n x y z hx hy hz = omega (arith, in-block n x y z hx hy hz)
@@ -77,7 +54,7 @@ module _ (s : Star) (fit : AreF32 s) (passed : judgeStar s ≡ Passed) where
   measure : (k : ℕ) → k < 5 → measureUsable (s .block) (s .threshold) k ≡ true
   unfolding judgeMeasures
   measure k h =
-      unless-passed _ (Measure k) (passed-at (λ k. unless (measureUsable (s .block) (s .threshold) k) (Measure k)) 5 k (three-and-seven .0) h)
+      unless-passed _ (Measure k) (each-passed (λ k. unless (measureUsable (s .block) (s .threshold) k) (Measure k)) 5 k (three-and-seven .0) h)
 
   pub threshold-small : Small mostSize (s .threshold)
   threshold-small = usable-small _ (fit .threshold) (measure 4 (omega arith))
@@ -97,7 +74,7 @@ module _ (s : Star) (fit : AreF32 s) (passed : judgeStar s ≡ Passed) where
 
   all-usable : (i : ℕ) → i < length (s .centre ++ s .neighbours) → usable (getD (s .centre ++ s .neighbours) i nan) ≡ true
   unfolding judgeSamples
-  all-usable i h = unless-passed _ (BadSample i) (passed-at (sampleUsable (s .centre ++ s .neighbours)) _ i (three-and-seven .1) h)
+  all-usable i h = unless-passed _ (BadSample i) (each-passed (sampleUsable (s .centre ++ s .neighbours)) _ i (three-and-seven .1) h)
 
   in-centre : (i : ℕ) → i < length (s .centre) → Small mostSize (getD (s .centre) i nan)
   in-centre i h =
