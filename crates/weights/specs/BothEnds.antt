@@ -27,12 +27,6 @@ use Rattle.weights.specs.Ends.{regular-ready, points-weighed}
 
 -- ---- over plain numbers
 
-ahead : (m n : ℕ) → n ≤ m → m ≡ n + distance m n
-ahead m n h = omega arith
-
-behind : (m n : ℕ) → m ≤ n → n ≡ m + distance m n
-behind m n h = omega arith
-
 no-gap : (m n : ℕ) → m - n ≡ 0 → m ≤ n
 no-gap m n e = omega arith
 
@@ -42,17 +36,17 @@ turned m n = omega arith
 apart-turned : (x y : Float) → apart x y ≡ apart y x
 apart-turned x y = omega arith
 
--- each value is p - n; b lies g above a, and t lies x above a
-module _ (pa na pb nb pt nt g x : ℕ) (hb : pb + na ≡ nb + pa + g) (ht : pt + na ≡ nt + pa + x) where
-  not-past : x ≤ g → pt + nb ≤ nt + pb
-  not-past h = omega arith
+-- each value is p - n; b and t lie above a
+module _ (pa na pb nb pt nt : ℕ) (up-b : nb + pa ≤ pb + na) (up-t : nt + pa ≤ pt + na) where
+  -- t no farther than b: from a to t and on to b is the whole way
+  whole-way : distance (pt + na) (nt + pa) ≤ distance (pb + na) (nb + pa)
+      → distance (pt + na) (nt + pa) + distance (pt + nb) (nt + pb) ≡ distance (pb + na) (nb + pa)
+  whole-way not-more = omega arith
 
-  -- q lies y below b
-  from-two : (pq nq y : ℕ) → nq + pb ≡ pq + nb + y → nq + pt + g ≡ pq + nt + (x + y)
-  from-two pq nq y e = omega arith
-
-  whole-way : (y : ℕ) → nt + pb ≡ pt + nb + y → x + y ≡ g
-  whole-way y e = omega arith
+  -- q lies below b: t and q differ by what the way to each is more or less, together, than the whole
+  from-two : (pq nq : ℕ) → nb + pq ≤ pb + nq
+      → nq + pt + distance (pb + na) (nb + pa) ≡ pq + nt + (distance (pt + na) (nt + pa) + distance (pq + nb) (nq + pb))
+  from-two pq nq down-q = omega arith
 
 -- where the ends are g apart, and x and y are near n and m parts of it in n + m, x and y together are near g
 near-together : (g x y n m e : ℕ) → 0 < n + m → Within (x * (n + m) * parts) (n * g * parts) ((n + m) * e)
@@ -65,27 +59,16 @@ near-each p q g x y e same h = omega arith
 
 -- ---- the threshold: from the one sample to it and on to the other is the whole way
 
-module _ (a b t : Float) (not-more : apart a t ≤ apart a b) where
-  way-up : above a + below b ≤ above b + below a → above a + below t ≤ above t + below a → apart a t + apart b t ≡ apart a b
-  way-up hb ht =
-      let eb = ahead (above b + below a) (below b + above a) (omega arith) in
-      let et = ahead (above t + below a) (below t + above a) (omega arith) in
-      whole-way (above a) (below a) (above b) (below b) (above t) (below t) _ _ eb et _
-      (behind _ _ (not-past (above a) (below a) (above b) (below b) (above t) (below t) _ _ eb et not-more))
-
-  way-down : above b + below a ≤ above a + below b → above t + below a ≤ above a + below t → apart a t + apart b t ≡ apart a b
-  way-down hb ht =
-      let eb = behind (above b + below a) (below b + above a) (omega arith) in
-      let et = behind (above t + below a) (below t + above a) (omega arith) in
-      whole-way (below a) (above a) (below b) (above b) (below t) (above t) _ _ eb et _
-      (ahead _ _ (not-past (below a) (above a) (below b) (above b) (below t) (above t) _ _ eb et not-more))
-
 quotients-add : (a b t w : Float) → Weight a b t w → numerator a b t + numerator b a t ≡ denominator a b t
 unfolding numerator denominator
 quotients-add a b t w h =
     ⊎-elim
-    (λ e. way-up a b t (h .not-more) (omega (arith, no-gap _ _ (e .0))) (omega (arith, no-gap _ _ (e .1))))
-    (λ e. way-down a b t (h .not-more) (omega (arith, no-gap _ _ (e .0))) (omega (arith, no-gap _ _ (e .1))))
+    (λ e. whole-way (above a) (below a) (above b) (below b) (above t) (below t) (omega (arith, no-gap _ _ (e .0))) (omega (arith, no-gap _ _ (e .1))) (h .not-more))
+    (λ e. omega (
+      arith,
+      whole-way (below a) (above a) (below b) (above b) (below t) (above t) (omega (arith, no-gap _ _ (e .0))) (omega (arith, no-gap _ _ (e .1)))
+          (omega (arith, h .not-more)),
+    ))
     (h .one-sign)
 
 same-denominator : (a b t : Float) → denominator a b t ≡ denominator b a t
@@ -115,18 +98,21 @@ module _ (a b r q : Float) (na : Number a) (nb : Number b) (nr : Number r) (nq :
     met-up up =
         let le = order a b na nb .units-le up in
         near-each (below q + above r) (above q + below r) (apart a b) (apart a r) (apart b q) bound
-        (from-two (above a) (below a) (above b) (below b) (above r) (below r) (apart a b) (apart a r)
-        (ahead _ _ (omega arith)) (ahead _ _ (omega (arith, order a r na nr .le-units (there .from-a-up le)))) (above q) (below q) (apart b q)
-        (behind _ _ (omega (arith, order q b nq nb .le-units (back .from-a-down le))))) near-both
+        (from-two (above a) (below a) (above b) (below b) (above r) (below r) (omega arith)
+        (omega (arith, order a r na nr .le-units (there .from-a-up le))) (above q) (below q)
+        (omega (arith, order q b nq nb .le-units (back .from-a-down le)))) near-both
 
     met-down : above b + below a ≤ above a + below b → apart r q * parts ≤ bothOff * bound
     met-down down =
         let le = order b a nb na .units-le down in
         subst (λ (k : ℕ). k * parts ≤ bothOff * bound) (turned (below q + above r) (above q + below r))
         (near-each (above q + below r) (below q + above r) (apart a b) (apart a r) (apart b q) bound
-        (from-two (below a) (above a) (below b) (above b) (below r) (above r) (apart a b) (apart a r)
-        (behind _ _ (omega arith)) (behind _ _ (omega (arith, order r a nr na .le-units (there .from-a-down le)))) (below q) (above q) (apart b q)
-        (ahead _ _ (omega (arith, order b q nb nq .le-units (back .from-a-up le))))) near-both)
+        (omega (
+          arith,
+          from-two (below a) (above a) (below b) (above b) (below r) (above r) (omega arith)
+              (omega (arith, order r a nr na .le-units (there .from-a-down le))) (below q) (above q)
+              (omega (arith, order b q nb nq .le-units (back .from-a-up le))),
+        )) near-both)
 
   from-both : FromBoth a b r q
   from-both c ha hb = go (decLe (above a + below b) (above b + below a))
