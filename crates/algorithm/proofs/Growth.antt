@@ -1,23 +1,23 @@
 -- Laws of the counting pass: what steps taken in order add, whatever was there before them.
-use Prim.Native.Nat.{ℕ, _+_, _*_, _/_, _%_, _^_, _≤_, _<_}
+use Prim.Native.Nat.{ℕ, _+_, _^_, _≤_, _<_}
 use native.Mathlib.Nat.{add-zero}
 use native.Mathlib.Numerals.{add-one}
 use native.Mathlib.Omega.{arith}
-use mathlib.Core.Path.{_≡_, sym, subst, _∙_}
+use mathlib.Core.Path.{_≡_, sym, subst}
 use mathlib.Core.List.{List}
-use lib.ListN.{length, getD}
+use lib.ListN.{length}
 use Rattle.laws.specs.Steps.{iterate}
 use Rattle.model.specs.declared.Counts.{Counts}
-use Rattle.model.specs.Limits.{mostSubdivisions, sideCount}
+use Rattle.model.specs.Limits.{sideCount}
 use Rattle.model.specs.Star.{Star, subdivisions}
 use Rattle.model.specs.Mesh.{Cell, Mesh, emptyMesh, cellStep, regularLayer, regularMesh, transitionSide, meshOf}
 use Rattle.cells.specs.declared.SheetIndex.{SheetIndex}
 use Rattle.cells.specs.SheetCells.{sheetCell}
 use Rattle.cells.specs.Puts.{Adds, Few}
-use Rattle.cases.specs.Sheets.{rowWidth}
-use Rattle.cases.specs.Scans.{NextCut}
-use Rattle.algorithm.specs.Passes.{plus, SheetOf, SheetIn, wholeSheet, sheetTo, Grows, Counted}
-use Rattle.algorithm.proofs.Walk.{sheet-skip, sheet-cell, case-there, sheet-whole}
+use Rattle.cases.specs.Sheets.{rowStart}
+use Rattle.cases.specs.Marks.{NextMarked}
+use Rattle.algorithm.specs.Passes.{plus, Held, SheetIn, rowTo, rowsTo, wholeSheet, Grows, Counted}
+use Rattle.algorithm.proofs.Walk.{row-skip, sheet-whole}
 use Rattle.algorithm.proofs.Holding.{cell-made, cell-triangles}
 
 abbrev none : Counts
@@ -71,25 +71,24 @@ grows-more f k g h = rw add-one (grows-then g h)
 
 -- ---- a sheet of cells
 
-module _ {cell : ℕ → ℕ → Cell} {case : ℕ → ℕ → ℕ} {all n : ℕ} {cases : List ℕ} (o : SheetOf cell case all n cases) where
-  pub grows-start : (next : ℕ) → NextCut n all cases 0 next → Grows (λ m. sheetTo cell n m next) none
-  grows-start next step = grows-as (λ m. sym (sheet-skip cell n o 0 next step m)) grows-none
+module _ (s : Star) (sheet : SheetIndex) {n : ℕ} {layer side marks : List ℕ} (held : Held s sheet n layer side marks) (u : ℕ) (u-in : u < n) where
+  pub grows-start : (next : ℕ) → NextMarked n marks (rowStart n u) 0 next → Grows (rowTo (sheetCell s sheet u) next) none
+  grows-start next step = grows-as (λ m. sym (row-skip s sheet held u 0 next u-in step m)) grows-none
 
-  -- a cell, and the places up to the next one that may be cut
-  pub grows-on : (i next : ℕ) (counts more : Counts) → i < rowWidth * n → i % rowWidth < n → NextCut n all cases (i + 1) next
-      → Grows (λ m. sheetTo cell n m i) counts → ((getD cases i 0 ≡ case (i / rowWidth) (i % rowWidth)) → Adds (cell (i / rowWidth) (i % rowWidth)) (more .vertices) (more .triangles))
-      → Grows (λ m. sheetTo cell n m next) (plus counts more)
-  grows-on i next counts more h is step g adds =
-      grows-as (λ m. sym (sheet-skip cell n o (i + 1) next step m) ∙ sheet-cell cell n m i is)
-      (grows-then g (grows-cell _ more (adds (case-there cell n o i h is))))
+  -- a cell, and those up to the next one that is marked
+  pub grows-on : (v next : ℕ) (counts more : Counts) → NextMarked n marks (rowStart n u) (v + 1) next → Grows (rowTo (sheetCell s sheet u) v) counts
+      → Adds (sheetCell s sheet u v) (more .vertices) (more .triangles) → Grows (rowTo (sheetCell s sheet u) next) (plus counts more)
+  grows-on v next counts more step g adds =
+      grows-as (λ m. sym (row-skip s sheet held u (v + 1) next u-in step m))
+      (grows-more (λ v. cellStep (sheetCell s sheet u v)) v g (grows-cell _ more adds))
 
 -- a whole sheet
-pub sheet-grows : (s : Star) (n i : ℕ) {counts : Counts} → subdivisions s ≡ n → n ≤ mostSubdivisions → i ≡ rowWidth * n → (sheet : SheetIndex)
-    → SheetIn s sheet → Grows (λ m. sheetTo (sheetCell s sheet) n m i) counts → Grows (wholeSheet s sheet) counts
-sheet-grows s n i {counts} n-is few end sheet is g =
-    let to-end = subst (λ (k : ℕ). Grows (λ m. sheetTo (sheetCell s sheet) n m k) counts) end g in
-    grows-as (λ m. sym (sheet-whole s (omega arith) sheet is m))
-    (subst (λ (k : ℕ). Grows (λ m. sheetTo (sheetCell s sheet) k m (rowWidth * k)) counts) (sym n-is) to-end)
+pub sheet-grows : (s : Star) (n u : ℕ) {counts : Counts} → subdivisions s ≡ n → u ≡ n → (sheet : SheetIndex) → SheetIn s sheet
+    → Grows (rowsTo (sheetCell s sheet) n u) counts → Grows (wholeSheet s sheet) counts
+sheet-grows s n u {counts} n-is end sheet is g =
+    let to-end = subst (λ (k : ℕ). Grows (rowsTo (sheetCell s sheet) n k) counts) end g in
+    grows-as (λ m. sym (sheet-whole s sheet is m))
+    (subst (λ (k : ℕ). Grows (rowsTo (sheetCell s sheet) k k) counts) (sym n-is) to-end)
 
 pub counted-mesh : (s : Star) (regular transition : Counts) → Grows (iterate (regularLayer s) (subdivisions s)) regular
     → Grows (iterate (transitionSide s) sideCount) transition → Counted (meshOf s) (plus regular transition)

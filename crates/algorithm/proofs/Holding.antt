@@ -1,5 +1,6 @@
 -- Laws of the writing pass: a cell is written into the buffers, and what stands in them at the end.
-use Prim.Native.Nat.{ℕ, _+_, _*_, _/_, _%_, _≤_, _<_}
+use Prim.Native.Nat.{ℕ, _+_, _*_, _≤_, _<_}
+use native.Mathlib.Numerals.{add-one}
 use native.Mathlib.Omega.{arith}
 use mathlib.Core.Path.{_≡_, refl, sym, _∙_}
 use mathlib.Core.List.{List}
@@ -17,15 +18,15 @@ use Rattle.points.specs.CellPoints.{centred}
 use Rattle.cells.specs.declared.SheetIndex.{SheetIndex}
 use Rattle.cells.specs.declared.SheetIndex.the-variants.{Layer, Side}
 use Rattle.cells.specs.Kinds.{Ready as CellReady}
-use Rattle.cells.specs.SheetCells.{cellAt}
+use Rattle.cells.specs.SheetCells.{cellAt, sheetCell}
 use Rattle.cells.specs.Buffers.{layVertices, layTriangles}
 use Rattle.laws.specs.Lists.{length-listed, each-append}
 use Rattle.laws.specs.Laying.{take-lay}
-use Rattle.cases.specs.Sheets.{rowWidth}
-use Rattle.cases.specs.Scans.{NextCut}
+use Rattle.cases.specs.Sheets.{rowStart}
+use Rattle.cases.specs.Marks.{NextMarked}
 use Rattle.cells.specs.Puts.{Room, CellPut}
-use Rattle.algorithm.specs.Passes.{SheetOf, SheetIn, sheetTo, Fits, Holds, SameLengths, Exact, Written}
-use Rattle.algorithm.proofs.Walk.{Upto, upto-trans, sheet-upto, sheet-skip, sheet-cell}
+use Rattle.algorithm.specs.Passes.{Held, SheetIn, rowTo, rowBefore, sheetBefore, Fits, Holds, SameLengths, Exact, Written}
+use Rattle.algorithm.proofs.Walk.{Upto, upto-trans, row-skip, cell-upto, sheet-after, after-upto}
 
 module _ (c : Cell) (m : Mesh) where
   pub cell-made : length (cellStep c m .made) ≡ length (m .made) + length (filled c m .made)
@@ -96,34 +97,49 @@ module _ {s : Star} {c : Cell} {m : Mesh} {counts : Counts} {vertices : List Flo
 
 -- each of its cells is one of the block's, and what it reads is there
 pub cell-ready : (s : Star) (fractions : List Float) → Shaped s → Fractions (subdivisions s) fractions → (sheet : SheetIndex) → SheetIn s sheet
-    → (i : ℕ) → i < rowWidth * subdivisions s → i % rowWidth < subdivisions s → CellReady s fractions (cellAt sheet (i / rowWidth) (i % rowWidth))
-cell-ready s fractions shaped are (Layer x) is i h here =
-    record { centred = centred s fractions shaped are; placed = record { x-in = is; y-in = omega arith; z-in = here }; beside = tt }
-cell-ready s fractions shaped are (Side side) is i h here =
+    → (u v : ℕ) → u < subdivisions s → v < subdivisions s → CellReady s fractions (cellAt sheet u v)
+cell-ready s fractions shaped are (Layer x) is u v hu hv =
+    record { centred = centred s fractions shaped are; placed = record { x-in = is; y-in = hu; z-in = hv }; beside = tt }
+cell-ready s fractions shaped are (Side side) is u v hu hv =
     record {
       centred = centred s fractions shaped are;
-      placed = record { side-in = is .0; u-in = omega arith; v-in = here };
+      placed = record { side-in = is .0; u-in = hu; v-in = hv };
       beside = record { few = shaped .few; sides = shaped .sides; side-is = is .0; is-named = is .1; neighbours-are = shaped .neighbours-are };
     }
 
-module _ {cell : ℕ → ℕ → Cell} {case : ℕ → ℕ → ℕ} {all n : ℕ} {cases : List ℕ} (o : SheetOf cell case all n cases) (m : Mesh) where
-  -- the places that a scan passes over add nothing
-  pub holds-skip : {counts : Counts} {vertices : List Float} {triangles store : List ℕ} (from next : ℕ) → NextCut n all cases from next
-      → Holds (sheetTo cell n m from) counts vertices triangles store → Holds (sheetTo cell n m next) counts vertices triangles store
-  holds-skip from next step h = rw (sheet-skip cell n o from next step m) at h
+module _ (s : Star) (sheet : SheetIndex) (u : ℕ) (u-in : u < subdivisions s) where
+  abbrev cell : ℕ → Cell
+  cell = sheetCell s sheet u
 
-  -- a cell can be written, if the mesh after the sheet fits
-  pub ready-at : (s : Star) (i : ℕ) {counts : Counts} {vertices : List Float} {triangles store : List ℕ} → i < rowWidth * n → i % rowWidth < n
-      → Upto (sheetTo cell n m (rowWidth * n)) (meshOf s) → Fits s vertices triangles store
-      → Holds (sheetTo cell n m i) counts vertices triangles store
-      → Ready s (cell (i / rowWidth) (i % rowWidth)) (sheetTo cell n m i) counts vertices triangles store
-  ready-at s i h is upto fits holds = record { holds = holds; upto = upto-trans (sheet-upto cell n m i h is) upto; fits = fits }
+  -- the mesh before a cell of the row
+  abbrev before : ℕ → Mesh
+  before v = rowTo cell v (rowBefore s sheet u)
 
-  -- a cell written, and the places up to the next one that may be cut
-  pub holds-on : (i next : ℕ) {counts : Counts} {vertices : List Float} {triangles store : List ℕ} → i % rowWidth < n → NextCut n all cases (i + 1) next
-      → Holds (cellStep (cell (i / rowWidth) (i % rowWidth)) (sheetTo cell n m i)) counts vertices triangles store
-      → Holds (sheetTo cell n m next) counts vertices triangles store
-  holds-on i next is step h = holds-skip (i + 1) next step (rw (sheet-cell cell n m i is) h)
+  module _ {layer side marks : List ℕ} (held : Held s sheet (subdivisions s) layer side marks)
+      {counts : Counts} {vertices : List Float} {triangles store : List ℕ} where
+    -- the cells that are not marked add nothing
+    pub holds-skip : (from next : ℕ) → NextMarked (subdivisions s) marks (rowStart (subdivisions s) u) from next
+        → Holds (before from) counts vertices triangles store → Holds (before next) counts vertices triangles store
+    holds-skip from next step h = rw (row-skip s sheet held u from next u-in step (rowBefore s sheet u)) at h
+
+    -- a cell written, and those up to the next one that is marked
+    pub holds-on : (v next : ℕ) → NextMarked (subdivisions s) marks (rowStart (subdivisions s) u) (v + 1) next
+        → Holds (cellStep (cell v) (before v)) counts vertices triangles store → Holds (before next) counts vertices triangles store
+    holds-on v next step h = holds-skip (v + 1) next step (rw add-one h)
+
+  -- a cell can be written, if the mesh fits
+  pub ready-at : (v : ℕ) {counts : Counts} {vertices : List Float} {triangles store : List ℕ} → v < subdivisions s → SheetIn s sheet
+      → Fits s vertices triangles store → Holds (before v) counts vertices triangles store → Ready s (cell v) (before v) counts vertices triangles store
+  ready-at v v-in is fits holds =
+      record {
+        holds = holds;
+        upto = upto-trans (cell-upto (sheetCell s sheet) (subdivisions s) (sheetBefore s sheet) u v u-in v-in) (rw (sheet-after s sheet is) (after-upto s sheet is));
+        fits = fits;
+      }
+
+-- after its last cell the next row begins
+pub row-done : (s : Star) (sheet : SheetIndex) (u v : ℕ) → v ≡ subdivisions s → rowTo (sheetCell s sheet u) v (rowBefore s sheet u) ≡ rowBefore s sheet (u + 1)
+row-done s sheet u v e = rw (e, add-one)
 
 -- ---- at the end
 

@@ -1,31 +1,28 @@
--- Laws of the walk over the cells: sheet by sheet, and over a sheet place by place; nothing that was made is taken away.
-use Prim.Native.Nat.{ℕ, zero, suc, _+_, _*_, _/_, _%_, _≤_, _<_}
-use native.Mathlib.Nat.{le-refl, le-trans, div-add-mod}
-use native.Mathlib.Decide.{decLt}
+-- Laws of the walk over the cells: sheet by sheet, and over a sheet row by row; nothing that was made is taken away.
+use Prim.Native.Nat.{ℕ, zero, suc, _≤_, _<_}
+use native.Mathlib.Nat.{le-refl, le-trans}
 use native.Mathlib.Numerals.{add-one}
 use native.Mathlib.Omega.{arith}
-use mathlib.Core.Path.{_≡_, refl, sym, ap, _∙_}
+use mathlib.Core.Path.{_≡_, refl, sym, _∙_}
 use mathlib.Core.Bool.{Bool, true, false, cond}
 use mathlib.Core.List.{List}
-use borrow.Author.Tests.{lt-ltb, le-ltb}
-use lib.Dec.{ltb}
-use lib.ListN.{length, getD, length-append}
+use lib.ListN.{length, length-append}
 use Rattle.laws.specs.Steps.{iterate}
-use Rattle.laws.specs.Iterated.{iterate-upto, steps-skip, placed, rows-placed}
+use Rattle.laws.specs.Iterated.{iterate-upto, steps-skip}
 use Rattle.model.specs.Limits.{mostSubdivisions, sideCount}
 use Rattle.model.specs.Sides.{named}
 use Rattle.model.specs.Star.{Star, subdivisions}
 use Rattle.model.specs.Mesh.{Cell, Mesh, emptyMesh, cellStep, regularCell, regularColumn, regularLayer, regularMesh, regularTo, transitionCell, transitionRow, transitionSide, transitionTo, meshOf}
 use Rattle.grid.specs.SideLaws.{NextSide}
-use Rattle.cases.specs.Sheets.{rowWidth, Sheet}
-use Rattle.cases.specs.Scans.{uncut, NextCut}
+use Rattle.cases.specs.Sheets.{rowStart, sheetPlaces}
+use Rattle.cases.specs.Marks.{uncut, NextMarked}
 use Rattle.cells.specs.declared.SheetIndex.{SheetIndex}
 use Rattle.cells.specs.declared.SheetIndex.the-variants.{Layer, Side}
-use Rattle.cells.specs.SheetCells.{sheetCell, caseAt, allOf}
+use Rattle.cells.specs.SheetCells.{sheetOf, sheetCell, caseAt, allOf}
 use Rattle.cells.specs.SheetNumbers.{case-small}
 use Rattle.cells.specs.Puts.{Nothing}
 use Rattle.cells.specs.Uncut.{nothing-step, regular-nothing, transition-nothing}
-use Rattle.algorithm.specs.Passes.{SheetOf, Numbered, SheetIn, wholeSheet, sheetBefore, sheetAfter, sheetStep, sheetTo}
+use Rattle.algorithm.specs.Passes.{Sheeted, Held, SheetIn, rowTo, rowsTo, rowBefore, wholeSheet, sheetAfter}
 
 -- ---- what a later mesh has at least
 
@@ -53,68 +50,44 @@ module _ (f : ℕ → Mesh → Mesh) (grows : (k : ℕ) (m : Mesh) → Upto m (f
 
 -- ---- a sheet of cells
 
-module _ (cell : ℕ → ℕ → Cell) (n : ℕ) where
-  sheet-place : (i : ℕ) → i % rowWidth < n → (m : Mesh) → sheetStep cell n i m ≡ cellStep (cell (i / rowWidth) (i % rowWidth)) m
-  unfolding placed
-  sheet-place i h m = rw (lt-ltb (i % rowWidth) n h)
+unmarked : (cut : Bool) → _≡_ {A = ℕ} (cond cut 0 1) 0 → cut ≡ true
+unmarked true e = refl
+unmarked false e = absurd (let x : ⊥ = omega arith in x)
 
-  sheet-beyond : (i : ℕ) → n ≤ i % rowWidth → (m : Mesh) → sheetStep cell n i m ≡ m
-  unfolding placed
-  sheet-beyond i h m = rw (le-ltb (i % rowWidth) n h)
+nothing : (s : Star) (sheet : SheetIndex) (u v : ℕ) → uncut (caseAt s sheet u v) (allOf sheet) ≡ true → Nothing (sheetCell s sheet u v)
+nothing s (Layer x) = regular-nothing s x
+nothing s (Side side) = transition-nothing s side
 
-  pub sheet-cell : (m : Mesh) (i : ℕ) → i % rowWidth < n → sheetTo cell n m (i + 1) ≡ cellStep (cell (i / rowWidth) (i % rowWidth)) (sheetTo cell n m i)
-  sheet-cell m i h = rw add-one (sheet-place i h (sheetTo cell n m i))
+module _ (s : Star) (sheet : SheetIndex) {n : ℕ} {layer side marks : List ℕ} (held : Held s sheet n layer side marks) where
+  -- the cells of a row that are not marked are stepped over
+  pub row-skip : (u from next : ℕ) → u < n → NextMarked n marks (rowStart n u) from next → (m : Mesh)
+      → rowTo (sheetCell s sheet u) from m ≡ rowTo (sheetCell s sheet u) next m
+  row-skip u from next u-in step m =
+      steps-skip (λ v. cellStep (sheetCell s sheet u v)) m from next (step .ordered)
+      (λ v l h m.
+      nothing-step _
+      (nothing s sheet u v (unmarked _ (sym (held .marked .case-at u v u-in (omega (arith, step .within))) ∙ step .none-marked v l h))) m)
 
-  pub sheet-end : n ≤ mostSubdivisions → (m : Mesh) (i : ℕ) → i ≡ rowWidth * n → sheetTo cell n m i ≡ iterate (λ j. iterate (λ k. cellStep (cell j k)) n) n m
-  sheet-end few m i e = rw e (rows-placed rowWidth n (omega arith) (omega arith) (λ j k. cellStep (cell j k)) n m)
+  -- the numbers are the tables'
+  pub held-sheeted : n ≤ mostSubdivisions → length (sheetOf sheet layer side) ≡ sheetPlaces → length marks ≡ sheetPlaces → Sheeted n sheet layer side marks
+  held-sheeted few long marks-long =
+      record {
+        few = few;
+        long = long;
+        marks-long = marks-long;
+        number-at = λ u v hu hv. omega (arith, held .numbers .case-at u v hu hv, case-small s sheet u v);
+      }
 
-  upto-place : (i : ℕ) (m : Mesh) → Upto m (sheetStep cell n i m)
-  upto-place i m = by (decLt (i % rowWidth) n)
-    where
-      by : Dec (i % rowWidth < n) → Upto m (sheetStep cell n i m)
-      by (yes h) = rw (sheet-place i h m) (upto-cell (cell (i / rowWidth) (i % rowWidth)) m)
-      by (no h) = rw (sheet-beyond i (omega arith) m) (upto-same m)
+module _ (cell : ℕ → ℕ → Cell) (n : ℕ) (m : Mesh) where
+  upto-rows : (u : ℕ) (m : Mesh) → Upto m (rowTo (cell u) n m)
+  upto-rows u m = upto-iterate (λ v. cellStep (cell u v)) (λ v. upto-cell (cell u v)) m 0 n (omega arith)
 
   -- after a cell there is at most what there is after the sheet
-  pub sheet-upto : (m : Mesh) (i : ℕ) → i < rowWidth * n → i % rowWidth < n
-      → Upto (cellStep (cell (i / rowWidth) (i % rowWidth)) (sheetTo cell n m i)) (sheetTo cell n m (rowWidth * n))
-  sheet-upto m i h is = rw (← sheet-place i is (sheetTo cell n m i)) (upto-iterate (sheetStep cell n) upto-place m (suc i) (rowWidth * n) h)
-
-  module _ {case : ℕ → ℕ → ℕ} {all : ℕ} {cases : List ℕ} (o : SheetOf cell case all n cases) where
-    -- the number at a place is its cell's
-    pub case-there : (i : ℕ) → i < rowWidth * n → i % rowWidth < n → getD cases i 0 ≡ case (i / rowWidth) (i % rowWidth)
-    case-there i h is =
-        ap (λ (k : ℕ). getD cases k 0) (sym (div-add-mod i rowWidth)) ∙ o .sheet .case-at (i / rowWidth) (i % rowWidth) (omega arith) is
-
-    -- places without a cell, and cells that are not cut, are stepped over
-    pub sheet-skip : (from next : ℕ) → NextCut n all cases from next → (m : Mesh) → sheetTo cell n m from ≡ sheetTo cell n m next
-    sheet-skip from next step m =
-        steps-skip (sheetStep cell n) m from next (step .between .ordered) (λ i l h m. by i l h m (decLt (i % rowWidth) n))
-      where
-        by : (i : ℕ) → from ≤ i → i < next → (m : Mesh) → Dec (i % rowWidth < n) → sheetStep cell n i m ≡ m
-        by i l h m (no is) = sheet-beyond i (omega arith) m
-        by i l h m (yes is) =
-            sheet-place i is m
-            ∙ nothing-step _
-            (o .none (i / rowWidth) (i % rowWidth)
-            (ap (λ (c : ℕ). uncut c all) (sym (case-there i (omega (arith, step .within)) is)) ∙ step .between .none-cut i l h is)) m
-
--- a sheet of either kind
-module _ (s : Star) (sheet : SheetIndex) (n : ℕ) (cases : List ℕ) (there : Sheet (caseAt s sheet) n n cases) where
-  pub sheet-of : SheetOf (sheetCell s sheet) (caseAt s sheet) (allOf sheet) n cases
-  sheet-of = record { none = nothing sheet; sheet = there }
-    where
-      nothing : (sheet : SheetIndex) (j k : ℕ) → uncut (caseAt s sheet j k) (allOf sheet) ≡ true → Nothing (sheetCell s sheet j k)
-      nothing (Layer x) = regular-nothing s x
-      nothing (Side side) = transition-nothing s side
-
-  pub sheet-numbered : Numbered n (allOf sheet) cases
-  sheet-numbered =
-      record { number-at = λ i h is. omega (arith, case-there (sheetCell s sheet) n sheet-of i h is, case-small s sheet (i / rowWidth) (i % rowWidth)) }
-
--- the number that a scan steps over by another name
-pub scan-as : {n all all′ from next : ℕ} {cases : List ℕ} → all ≡ all′ → NextCut n all cases from next → NextCut n all′ cases from next
-scan-as e step = rw e at step
+  pub cell-upto : (u v : ℕ) → u < n → v < n
+      → Upto (cellStep (cell u v) (rowTo (cell u) v (rowsTo cell n u m))) (rowsTo cell n n m)
+  cell-upto u v hu hv =
+      upto-trans (upto-iterate (λ v. cellStep (cell u v)) (λ v. upto-cell (cell u v)) (rowsTo cell n u m) (suc v) n hv)
+      (upto-iterate (λ u. rowTo (cell u) n) upto-rows m (suc u) n hu)
 
 -- ---- layers and sides
 
@@ -141,18 +114,16 @@ module _ (s : Star) where
 
   -- ---- a sheet of either kind
 
-  module _ (few : subdivisions s ≤ mostSubdivisions) where
-    pub sheet-whole : (sheet : SheetIndex) → SheetIn s sheet → (m : Mesh)
-        → sheetTo (sheetCell s sheet) (subdivisions s) m (rowWidth * subdivisions s) ≡ wholeSheet s sheet m
-    unfolding regularLayer regularColumn transitionSide transitionRow
-    sheet-whole (Layer x) is m = sheet-end (regularCell s x) (subdivisions s) few m _ refl
-    sheet-whole (Side side) is m = rw (is .1) (sheet-end (transitionCell s side) (subdivisions s) few m _ refl)
+  pub sheet-whole : (sheet : SheetIndex) → SheetIn s sheet → (m : Mesh)
+      → rowsTo (sheetCell s sheet) (subdivisions s) (subdivisions s) m ≡ wholeSheet s sheet m
+  unfolding regularLayer regularColumn transitionSide transitionRow
+  sheet-whole (Layer x) is m = refl
+  sheet-whole (Side side) is m = rw (is .1)
 
-    pub sheet-after : (sheet : SheetIndex) → SheetIn s sheet
-        → sheetTo (sheetCell s sheet) (subdivisions s) (sheetBefore s sheet) (rowWidth * subdivisions s) ≡ sheetAfter s sheet
-    unfolding regularTo transitionTo
-    sheet-after (Layer x) is = rw add-one (sheet-whole (Layer x) is (iterate (regularLayer s) x (emptyMesh (subdivisions s))))
-    sheet-after (Side side) is = rw add-one (sheet-whole (Side side) is (iterate (transitionSide s) side (regularMesh s)))
+  pub sheet-after : (sheet : SheetIndex) → SheetIn s sheet → rowBefore s sheet (subdivisions s) ≡ sheetAfter s sheet
+  unfolding regularTo transitionTo
+  sheet-after (Layer x) is = rw add-one (sheet-whole (Layer x) is (iterate (regularLayer s) x (emptyMesh (subdivisions s))))
+  sheet-after (Side side) is = rw add-one (sheet-whole (Side side) is (iterate (transitionSide s) side (regularMesh s)))
 
   pub after-upto : (sheet : SheetIndex) → SheetIn s sheet → Upto (sheetAfter s sheet) (meshOf s)
   unfolding regularTo transitionTo regularMesh meshOf

@@ -1,5 +1,5 @@
 -- What extraction's functions ask for and what they leave, by name. One set of names serves both kinds of cell.
-use Prim.Native.Nat.{ℕ, _+_, _*_, _%_, _≤_, _<_}
+use Prim.Native.Nat.{ℕ, _+_, _*_, _≤_, _<_}
 use mathlib.Core.Path.{_≡_}
 use mathlib.Core.Bool.{true}
 use mathlib.Core.List.{List}
@@ -10,7 +10,6 @@ use Rattle.model.specs.declared.Header.{Header}
 use Rattle.model.specs.declared.Verdict.{Verdict}
 use Rattle.model.specs.declared.Extraction.{Extraction}
 use Rattle.laws.specs.Steps.{iterate, each}
-use Rattle.laws.specs.Iterated.{placed}
 use Rattle.model.specs.Refusals.{orElse}
 use Rattle.model.specs.Limits.{mostSubdivisions, mostMask, sideCount}
 use Rattle.model.specs.Sides.{named, neighboursLength}
@@ -18,11 +17,12 @@ use Rattle.model.specs.Star.{Star, subdivisions}
 use Rattle.model.specs.Mesh.{Cell, Mesh, cellStep, storeLength, regularLayer, regularTo, transitionSide, transitionTo, meshOf}
 use Rattle.model.specs.Judging.{judgeFaces, judgeStore, judgeRoom, judgeStar}
 use Rattle.model.specs.Extraction.{vertexFloats, triangleIndices, Outcome, outcome}
-use Rattle.cases.specs.Sheets.{rowWidth, sheetPlaces, Sheet}
-use Rattle.cases.specs.Scans.{uncut}
+use Rattle.cases.specs.Sheets.{rowStart, sheetPlaces, Sheet}
+use Rattle.cases.specs.Marks.{markOf}
 use Rattle.cells.specs.declared.SheetIndex.{SheetIndex}
 use Rattle.cells.specs.declared.SheetIndex.the-variants.{Layer, Side}
-use Rattle.cells.specs.Puts.{Room, Nothing}
+use Rattle.cells.specs.SheetCells.{sheetOf, sheetCell, caseAt, allOf}
+use Rattle.cells.specs.Puts.{Room}
 
 -- 1 to 9, in that order
 abbrev pub judged : Star → ℕ → Verdict
@@ -41,15 +41,6 @@ plus a b = record { vertices = a .vertices + b .vertices; triangles = a .triangl
 abbrev pub mostCells : ℕ
 mostCells = sheetPlaces * mostSubdivisions + sheetPlaces * sideCount
 
--- a sheet with the case numbers of cells, of which those that are not cut add nothing
-pub record SheetOf (cell : ℕ → ℕ → Cell) (case : ℕ → ℕ → ℕ) (all n : ℕ) (cases : List ℕ) : Type 0 where
-  pub none : (j k : ℕ) → uncut (case j k) all ≡ true → Nothing (cell j k)
-  pub sheet : Sheet case n n cases
-
--- the numbers of a sheet's cells are at most so many
-pub record Numbered (n all : ℕ) (cases : List ℕ) : Type 0 where
-  pub number-at : (i : ℕ) → i < rowWidth * n → i % rowWidth < n → getD cases i 0 ≤ all
-
 -- the neighbours of the named sides are all there
 pub record SidesThere (h : Header) (neighbours : List Float) : Type 0 where
   pub some : 1 ≤ h .block .subdivisions
@@ -64,6 +55,18 @@ abbrev pub SheetIn : Star → SheetIndex → Type 0
 SheetIn s (Layer x) = x < subdivisions s
 SheetIn s (Side side) = (side < sideCount) × (named (s .mask) side ≡ true)
 
+-- the sheet and its marks as they are lent: as long as sheets are, and each number one of its table's
+pub record Sheeted (n : ℕ) (sheet : SheetIndex) (layer side marks : List ℕ) : Type 0 where
+  pub few : n ≤ mostSubdivisions
+  pub long : length (sheetOf sheet layer side) ≡ sheetPlaces
+  pub marks-long : length marks ≡ sheetPlaces
+  pub number-at : (u v : ℕ) → u < n → v < n → getD (sheetOf sheet layer side) (rowStart n u + v) 0 ≤ allOf sheet
+
+-- they hold the case numbers of its cells, and mark those that are cut
+pub record Held (s : Star) (sheet : SheetIndex) (n : ℕ) (layer side marks : List ℕ) : Type 0 where
+  pub numbers : Sheet (caseAt s sheet) n n (sheetOf sheet layer side)
+  pub marked : Sheet (λ u v. markOf (allOf sheet) (caseAt s sheet u v)) n n marks
+
 -- the steps of all its cells, and the mesh before them and after them
 abbrev pub wholeSheet : Star → SheetIndex → Mesh → Mesh
 wholeSheet s (Layer x) = regularLayer s x
@@ -77,13 +80,16 @@ abbrev pub sheetAfter : Star → SheetIndex → Mesh
 sheetAfter s (Layer x) = regularTo s (x + 1) 0 0
 sheetAfter s (Side side) = transitionTo s (side + 1) 0 0
 
--- place i of a sheet of cells: the cell there takes its step, if there is one
-abbrev pub sheetStep : (ℕ → ℕ → Cell) → ℕ → ℕ → Mesh → Mesh
-sheetStep cell n = placed rowWidth n (λ j k. cellStep (cell j k))
+-- the steps of the first cells of a row, and of the first rows of a sheet
+abbrev pub rowTo : (ℕ → Cell) → ℕ → Mesh → Mesh
+rowTo cell = iterate (λ v. cellStep (cell v))
 
--- the mesh before place i of a sheet, which began with m
-abbrev pub sheetTo : (ℕ → ℕ → Cell) → ℕ → Mesh → ℕ → Mesh
-sheetTo cell n m i = iterate (sheetStep cell n) i m
+abbrev pub rowsTo : (ℕ → ℕ → Cell) → ℕ → ℕ → Mesh → Mesh
+rowsTo cell n = iterate (λ u. rowTo (cell u) n)
+
+-- the mesh before row u of a sheet
+abbrev pub rowBefore : Star → SheetIndex → ℕ → Mesh
+rowBefore s sheet u = rowsTo (sheetCell s sheet) (subdivisions s) u (sheetBefore s sheet)
 
 -- what a step adds, whatever was there before it
 pub record Grows (step : Mesh → Mesh) (counts : Counts) : Type 0 where

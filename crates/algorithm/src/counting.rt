@@ -11,19 +11,21 @@ ghost use Rattle.model.specs.Samples.{sampleLength};
 ghost use Rattle.model.specs.Star.{Star, star, subdivisions};
 ghost use Rattle.model.specs.Mesh.{regularLayer, transitionSide, meshOf};
 ghost use Rattle.grid.specs.Shape.{Shaped};
-ghost use Rattle.cases.specs.Sheets.{sheetPlaces, Sheet};
+ghost use Rattle.cases.specs.Sheets.{sheetPlaces};
 ghost use Rattle.cells.specs.Puts.{Few};
-ghost use Rattle.cells.specs.SheetCells.{caseAt, allOf, Tables};
-ghost use Rattle.algorithm.specs.Passes.{mostCells, plus, Numbered, SidesThere, SheetIn, wholeSheet, Grows, Counted};
+ghost use Rattle.cells.specs.SheetCells.{sheetCell, Tables};
+ghost use Rattle.algorithm.specs.Passes.{mostCells, plus, Sheeted, Held, SidesThere, SheetIn, rowTo, wholeSheet, Grows, Counted};
+use crate::NO_LAYER;
+use crate::NO_SIDE;
 use crate::NONE;
-use cases::regular::layer_cases;
-use cases::scan::ROW;
-use cases::scan::SHEET;
-use cases::scan::next_cut;
+use cases::SHEET;
+use cases::marks::next_marked;
+use cases::pairs::layer_cases;
+use cases::pairs::pair_layer;
 use cases::transition::face_cases;
 use cells::SheetIndex;
-use cells::sheet_cells::all_inside;
 use cells::sheet_cells::count_sheet_cell;
+use cells::sheet_cells::number_at;
 use grid::transition_sides::SIDES;
 use grid::transition_sides::next_side;
 use model::Counts;
@@ -45,6 +47,35 @@ fn plus(a: Counts, b: Counts) -> Counts
     }
 }
 
+// The cells of a row of a sheet.
+fn count_row(
+    n: usize,
+    sheet: SheetIndex,
+    classes: &[u8],
+    cells: &[u8],
+    codes: &[u16],
+    layer: &[u8],
+    side: &[u16],
+    marks: &[u8],
+    u: usize,
+) -> Counts
+    requires { ⌜ Tables sheet (now classes) (now cells) (now codes) ⌝ }
+    requires { ⌜ (u < n) × Sheeted n sheet (now layer) (now side) (now marks) ⌝ }
+    ensures { λ r. ⌜ Few n r ⌝ }
+    ensures { λ r. ⌜ ((s : Star) → Held s sheet n (now (layer .entry)) (now (side .entry)) (now (marks .entry)) → Grows (rowTo (sheetCell s sheet u) n) r) ⌝ }
+{
+    let start = (n + 1) * u;
+    let mut counts = NONE;
+    let mut v = next_marked(n, marks, start, 0);
+    while v < n {
+        let case = number_at(sheet, layer, side, start + v);
+        let more = count_sheet_cell(sheet, classes, cells, codes, case, u, v);
+        counts = plus(counts, more);
+        v = next_marked(n, marks, start, v + 1);
+    }
+    counts
+}
+
 // The cells of a sheet.
 fn count_sheet(
     n: usize,
@@ -52,22 +83,21 @@ fn count_sheet(
     classes: &[u8],
     cells: &[u8],
     codes: &[u16],
-    cases: &[u16],
+    layer: &[u8],
+    side: &[u16],
+    marks: &[u8],
 ) -> Counts
     requires { ⌜ Tables sheet (now classes) (now cells) (now codes) ⌝ }
-    requires { ⌜ (n ≤ mostSubdivisions) × (length (now cases) ≡ sheetPlaces) ⌝ }
-    requires { ⌜ Numbered n (allOf sheet) (now cases) ⌝ }
+    requires { ⌜ Sheeted n sheet (now layer) (now side) (now marks) ⌝ }
     ensures { λ r. ⌜ Few sheetPlaces r ⌝ }
-    ensures { λ r. ⌜ ((s : Star) → subdivisions s ≡ n → SheetIn s sheet → Sheet (caseAt s sheet) n n (now (cases .entry)) → Grows (wholeSheet s sheet) r) ⌝ }
+    ensures { λ r. ⌜ ((s : Star) → subdivisions s ≡ n → SheetIn s sheet → Held s sheet n (now (layer .entry)) (now (side .entry)) (now (marks .entry)) → Grows (wholeSheet s sheet) r) ⌝ }
 {
-    let all = all_inside(sheet);
-    let end = ROW * n;
     let mut counts = NONE;
-    let mut i = next_cut(n, all, cases, 0);
-    while i < end {
-        let more = count_sheet_cell(sheet, classes, cells, codes, cases[i], i / ROW, i % ROW);
+    let mut u = 0;
+    while u < n {
+        let more = count_row(n, sheet, classes, cells, codes, layer, side, marks, u);
         counts = plus(counts, more);
-        i = next_cut(n, all, cases, i + 1);
+        u += 1;
     }
     counts
 }
@@ -81,12 +111,24 @@ fn count_regular_cells(header: Header, centre: &[f32]) -> Counts
     let classes = regular_cell_class();
     let cells = regular_cell_data();
     let codes = regular_vertex_data();
-    let mut cases = [0u16; SHEET];
+    let mut pairs = [0u8; SHEET];
+    let mut cases = [0u8; SHEET];
+    let mut marks = [0u8; SHEET];
     let mut counts = NONE;
+    pair_layer(header, centre, 0, &mut pairs);
     let mut x = 0;
     while x < n {
-        layer_cases(header, centre, x, &mut cases);
-        let more = count_sheet(n, SheetIndex::Layer(x), &classes, &cells, &codes, &cases);
+        layer_cases(header, centre, x, &mut pairs, &mut cases, &mut marks);
+        let more = count_sheet(
+            n,
+            SheetIndex::Layer(x),
+            &classes,
+            &cells,
+            &codes,
+            &cases,
+            &NO_SIDE,
+            &marks,
+        );
         counts = plus(counts, more);
         x += 1;
     }
@@ -104,11 +146,21 @@ fn count_named_sides(header: Header, neighbours: &[f32]) -> Counts
     let cells = transition_cell_data();
     let codes = transition_vertex_data();
     let mut cases = [0u16; SHEET];
+    let mut marks = [0u8; SHEET];
     let mut counts = NONE;
     let mut side = next_side(mask, 0);
     while side < SIDES {
-        face_cases(header, neighbours, side, &mut cases);
-        let more = count_sheet(n, SheetIndex::Side(side), &classes, &cells, &codes, &cases);
+        face_cases(header, neighbours, side, &mut cases, &mut marks);
+        let more = count_sheet(
+            n,
+            SheetIndex::Side(side),
+            &classes,
+            &cells,
+            &codes,
+            &NO_LAYER,
+            &cases,
+            &marks,
+        );
         counts = plus(counts, more);
         side = next_side(mask, side + 1);
     }

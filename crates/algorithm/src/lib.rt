@@ -29,6 +29,11 @@ const NONE: Counts = Counts {
     triangles: 0,
 };
 
+// In the place of the sheet that the other kind of cell has.
+const NO_LAYER: [u8; 0] = [];
+
+const NO_SIDE: [u16; 0] = [];
+
 // 1 to 9, in that order.
 fn judge(header: Header, centre: &[f32], neighbours: &[f32], held: usize) -> Verdict
     ensures { λ r. ⌜ r ≡ judged (star header (now (centre .entry)) (now (neighbours .entry))) held ⌝ }

@@ -1,22 +1,23 @@
 // The writing pass: the mesh into the lent buffers, cell by cell in document 01's order. Each kind of cell has a loop over its
 // sheets; that over a sheet's cells that are cut serves both.
 ghost use mathlib.Core.Path.{_≡_};
+ghost use Prim.Native.Nat.{_+_, _<_};
 ghost use lib.ListN.{length, replicate};
 ghost use Rattle.model.specs.Star.{star};
 ghost use Rattle.model.specs.Mesh.{storeLength, regularMesh, meshOf};
 ghost use Rattle.grid.specs.Shape.{Shaped};
 ghost use Rattle.points.specs.Fractions.{Fractions};
-ghost use Rattle.cases.specs.Sheets.{sheetPlaces, Sheet};
-ghost use Rattle.cells.specs.SheetCells.{caseAt, Tables};
-ghost use Rattle.algorithm.specs.Passes.{SheetIn, sheetBefore, sheetAfter, Fits, Holds, Exact, Written};
+ghost use Rattle.cells.specs.SheetCells.{Tables};
+ghost use Rattle.algorithm.specs.Passes.{Sheeted, Held, SheetIn, rowBefore, sheetBefore, sheetAfter, Fits, Holds, Exact, Written};
+use crate::NO_LAYER;
+use crate::NO_SIDE;
 use crate::NONE;
+use cases::SHEET;
+use cases::marks::next_marked;
 use cases::regular::layer_cases;
-use cases::scan::ROW;
-use cases::scan::SHEET;
-use cases::scan::next_cut;
 use cases::transition::face_cases;
 use cells::SheetIndex;
-use cells::sheet_cells::all_inside;
+use cells::sheet_cells::number_at;
 use cells::sheet_cells::write_sheet_cell;
 use grid::transition_sides::SIDES;
 use grid::transition_sides::next_side;
@@ -31,6 +32,59 @@ use tables::transition_cell_class;
 use tables::transition_cell_data;
 use tables::transition_vertex_data;
 
+// The cells of a row of a sheet.
+fn write_row(
+    header: Header,
+    fractions: &[f32; FRACTIONS],
+    centre: &[f32],
+    neighbours: &[f32],
+    sheet: SheetIndex,
+    classes: &[u8],
+    cells: &[u8],
+    codes: &[u16],
+    layer: &[u8],
+    side: &[u16],
+    marks: &[u8],
+    u: usize,
+    mut counts: Counts,
+    store: &mut [u32],
+    vertices: &mut [f32],
+    triangles: &mut [u32],
+) -> Counts
+    requires { ⌜ Tables sheet (now classes) (now cells) (now codes) ⌝ }
+    requires { ⌜ Shaped (star header (now centre) (now neighbours)) × Fractions (header .block .subdivisions) (now fractions) ⌝ }
+    requires { ⌜ Sheeted (header .block .subdivisions) sheet (now layer) (now side) (now marks) × Held (star header (now centre) (now neighbours)) sheet (header .block .subdivisions) (now layer) (now side) (now marks) ⌝ }
+    requires { ⌜ SheetIn (star header (now centre) (now neighbours)) sheet ⌝ }
+    requires { ⌜ Fits (star header (now centre) (now neighbours)) (now vertices) (now triangles) (now store) ⌝ }
+    requires { ⌜ (u < header .block .subdivisions) × Holds (rowBefore (star header (now centre) (now neighbours)) sheet u) counts (now vertices) (now triangles) (now store) ⌝ }
+    ensures { λ r. ⌜ Holds (rowBefore (star header (now (centre .entry)) (now (neighbours .entry))) sheet (u + 1)) r (now (vertices .exit)) (now (triangles .exit)) (now (store .exit)) ⌝ }
+{
+    let n = header.block.subdivisions;
+    let start = (n + 1) * u;
+    let mut v = next_marked(n, marks, start, 0);
+    while v < n {
+        counts = write_sheet_cell(
+            header,
+            fractions,
+            centre,
+            neighbours,
+            sheet,
+            classes,
+            cells,
+            codes,
+            number_at(sheet, layer, side, start + v),
+            u,
+            v,
+            counts,
+            store,
+            vertices,
+            triangles,
+        );
+        v = next_marked(n, marks, start, v + 1);
+    }
+    counts
+}
+
 // The cells of a sheet.
 fn write_sheet(
     header: Header,
@@ -41,7 +95,9 @@ fn write_sheet(
     classes: &[u8],
     cells: &[u8],
     codes: &[u16],
-    cases: &[u16],
+    layer: &[u8],
+    side: &[u16],
+    marks: &[u8],
     mut counts: Counts,
     store: &mut [u32],
     vertices: &mut [f32],
@@ -49,18 +105,16 @@ fn write_sheet(
 ) -> Counts
     requires { ⌜ Tables sheet (now classes) (now cells) (now codes) ⌝ }
     requires { ⌜ Shaped (star header (now centre) (now neighbours)) × Fractions (header .block .subdivisions) (now fractions) ⌝ }
-    requires { ⌜ (length (now cases) ≡ sheetPlaces) × Sheet (caseAt (star header (now centre) (now neighbours)) sheet) (header .block .subdivisions) (header .block .subdivisions) (now cases) ⌝ }
+    requires { ⌜ Sheeted (header .block .subdivisions) sheet (now layer) (now side) (now marks) × Held (star header (now centre) (now neighbours)) sheet (header .block .subdivisions) (now layer) (now side) (now marks) ⌝ }
     requires { ⌜ SheetIn (star header (now centre) (now neighbours)) sheet ⌝ }
     requires { ⌜ Fits (star header (now centre) (now neighbours)) (now vertices) (now triangles) (now store) ⌝ }
     requires { ⌜ Holds (sheetBefore (star header (now centre) (now neighbours)) sheet) counts (now vertices) (now triangles) (now store) ⌝ }
     ensures { λ r. ⌜ Holds (sheetAfter (star header (now (centre .entry)) (now (neighbours .entry))) sheet) r (now (vertices .exit)) (now (triangles .exit)) (now (store .exit)) ⌝ }
 {
     let n = header.block.subdivisions;
-    let all = all_inside(sheet);
-    let end = ROW * n;
-    let mut i = next_cut(n, all, cases, 0);
-    while i < end {
-        counts = write_sheet_cell(
+    let mut u = 0;
+    while u < n {
+        counts = write_row(
             header,
             fractions,
             centre,
@@ -69,15 +123,16 @@ fn write_sheet(
             classes,
             cells,
             codes,
-            cases[i],
-            i / ROW,
-            i % ROW,
+            layer,
+            side,
+            marks,
+            u,
             counts,
             store,
             vertices,
             triangles,
         );
-        i = next_cut(n, all, cases, i + 1);
+        u += 1;
     }
     counts
 }
@@ -100,11 +155,12 @@ fn write_regular_cells(
     let classes = regular_cell_class();
     let cells = regular_cell_data();
     let codes = regular_vertex_data();
-    let mut cases = [0u16; SHEET];
+    let mut cases = [0u8; SHEET];
+    let mut marks = [0u8; SHEET];
     let mut counts = NONE;
     let mut x = 0;
     while x < n {
-        layer_cases(header, centre, x, &mut cases);
+        layer_cases(header, centre, x, &mut cases, &mut marks);
         counts = write_sheet(
             header,
             fractions,
@@ -115,6 +171,8 @@ fn write_regular_cells(
             &cells,
             &codes,
             &cases,
+            &NO_SIDE,
+            &marks,
             counts,
             store,
             vertices,
@@ -145,9 +203,10 @@ fn write_named_sides(
     let cells = transition_cell_data();
     let codes = transition_vertex_data();
     let mut cases = [0u16; SHEET];
+    let mut marks = [0u8; SHEET];
     let mut side = next_side(mask, 0);
     while side < SIDES {
-        face_cases(header, neighbours, side, &mut cases);
+        face_cases(header, neighbours, side, &mut cases, &mut marks);
         counts = write_sheet(
             header,
             fractions,
@@ -157,7 +216,9 @@ fn write_named_sides(
             &classes,
             &cells,
             &codes,
+            &NO_LAYER,
             &cases,
+            &marks,
             counts,
             store,
             vertices,

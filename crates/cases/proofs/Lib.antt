@@ -1,4 +1,5 @@
 mod Rows
 mod Lines
-mod Cuts
+mod Marking
+mod Pairing
 mod Fine

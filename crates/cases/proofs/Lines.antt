@@ -10,13 +10,14 @@ use lib.Seq.{getD-take, getD-drop}
 use Rattle.model.specs.declared.PlaceKind.the-variants.{InBlock}
 use Rattle.model.specs.declared.Reading.{Reading}
 use Rattle.model.specs.declared.Reading.the-variants.{Value}
-use Rattle.model.specs.Samples.{inBlock, valueOf, valueAt, sampleOf}
+use Rattle.model.specs.Samples.{inBlock, valueOf, valueAt}
 use Rattle.model.specs.Rotations.{xyz}
 use Rattle.model.specs.Formulas.{insideBit}
 use Rattle.model.specs.Star.{Star, subdivisions}
 use Rattle.model.specs.Points.{regularCase}
 use Rattle.grid.specs.Kinds.{in-block-reading}
 use Rattle.cases.specs.Sheets.{fourInside, lineCase, Line}
+use Rattle.cases.specs.Pairs.{pointBit}
 
 -- ---- a line
 
@@ -37,14 +38,11 @@ module _ (n : ℕ) (centre : List Float) (x y start end : ℕ) (hx : x ≤ n) (h
 
 -- ---- the case number
 
-abbrev cornerBit : Star → ℕ → ℕ → ℕ → ℕ
-cornerBit s x y z = insideBit (s .threshold) (sampleOf (subdivisions s) (s .centre) (xyz x y z))
-
-abbrev fourCorners : Star → ℕ → ℕ → ℕ → ℕ → ℕ
+abbrev pub fourCorners : Star → ℕ → ℕ → ℕ → ℕ → ℕ
 fourCorners s x y z w =
-    w * cornerBit s x y z + 2 * w * cornerBit s (x + 1) y z + 4 * w * cornerBit s x (y + 1) z + 8 * w * cornerBit s (x + 1) (y + 1) z
+    w * pointBit s x y z + 2 * w * pointBit s (x + 1) y z + 4 * w * pointBit s x (y + 1) z + 8 * w * pointBit s (x + 1) (y + 1) z
 
-eight-are : (s : Star) (x y z : ℕ) → fourCorners s x y z 1 + fourCorners s x y (z + 1) 16 ≡ regularCase s x y z
+pub eight-are : (s : Star) (x y z : ℕ) → fourCorners s x y z 1 + fourCorners s x y (z + 1) 16 ≡ regularCase s x y z
 unfolding regularCase
 eight-are s x y z = simp add-zero (omega arith)
 
@@ -52,7 +50,7 @@ module _ (s : Star) (x y : ℕ) (a b c d : List Float) (la : Line (subdivisions 
     (lb : Line (subdivisions s) (s .centre) (x + 1) y b) (lc : Line (subdivisions s) (s .centre) x (y + 1) c)
     (ld : Line (subdivisions s) (s .centre) (x + 1) (y + 1) d) where
   bit-is : (p q : ℕ) (line : List Float) → Line (subdivisions s) (s .centre) p q line → (z : ℕ) → z ≤ subdivisions s
-      → insideBit (s .threshold) (getD line z nan) ≡ cornerBit s p q z
+      → insideBit (s .threshold) (getD line z nan) ≡ pointBit s p q z
   unfolding valueAt
   bit-is p q line l z hz = ap (λ (r : Reading). insideBit (s .threshold) (valueOf r)) (l .reading-at z hz)
 

@@ -1,4 +1,7 @@
 pub mod Sheets
+pub mod RowPlaces
+pub mod Marks
+pub mod Pairs
+pub mod PairLaws
 pub mod Faces
-pub mod Scans
 pub mod Numbers

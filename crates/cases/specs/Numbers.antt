@@ -2,15 +2,19 @@
 use Prim.Native.Nat.{ℕ, _+_, _*_, _/_, _%_, _≤_}
 use mathlib.Core.Bool.{Bool, true, false, cond}
 use native.Mathlib.Omega.{arith}
+use lib.Ieee.{Float}
 use Rattle.model.specs.Formulas.{inside, insideBit}
 use Rattle.model.specs.Samples.{sampleOf}
 use Rattle.model.specs.Star.{Star, subdivisions}
 use Rattle.model.specs.Points.{cornerPoint, regularCase, fineSample, transitionCase}
-use Rattle.cases.specs.Scans.{allRegular, allTransition}
+use Rattle.cases.specs.Marks.{allRegular, allTransition}
 
 inside-small : (b : Bool) → cond b 1 0 ≤ 1
 inside-small true = omega arith
 inside-small false = omega arith
+
+pub bit-small : (threshold sample : Float) → insideBit threshold sample ≤ 1
+bit-small threshold sample = inside-small (inside threshold sample)
 
 -- the eight contributions add up to 255
 pub regular-case-small : (s : Star) (x y z : ℕ) → regularCase s x y z ≤ allRegular

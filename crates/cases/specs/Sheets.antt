@@ -4,25 +4,28 @@ use mathlib.Core.Path.{_≡_}
 use mathlib.Core.List.{List}
 use lib.Ieee.{Float, nan}
 use lib.ListN.{getD, length}
+use Rattle.model.specs.Limits.{mostSubdivisions}
 use Rattle.model.specs.Samples.{readingAt}
 use Rattle.model.specs.Formulas.{insideBit}
 use Rattle.grid.specs.Kinds.{inBlockReading}
 
--- the places of a row, and those of a sheet, which has as many rows
-abbrev pub rowWidth : ℕ
-rowWidth = 64
+-- rows lie as far apart as the lines of a layer's points do
+abbrev pub rowStart : ℕ → ℕ → ℕ
+rowStart n j = (n + 1) * j
 
+-- the places of a sheet: a layer of the largest block's points, and eight more, so that a word can be read at each
 abbrev pub sheetPlaces : ℕ
-sheetPlaces = rowWidth * rowWidth
+sheetPlaces = (mostSubdivisions + 1) * (mostSubdivisions + 1) + 8
 
 -- the rows below so many hold the numbers of their cells
 pub record Sheet (case : ℕ → ℕ → ℕ) (n rows : ℕ) (cases : List ℕ) : Type 0 where
-  pub case-at : (j k : ℕ) → j < rows → k < n → getD cases (rowWidth * j + k) 0 ≡ case j k
+  pub case-at : (j k : ℕ) → j < rows → k < n → getD cases (rowStart n j + k) 0 ≡ case j k
 
--- the numbers of a row's cells stand from its start on, and every place before it is as it was
+-- the numbers of a row's cells stand from its start on, and every other place is as it was
 pub record RowPut (case : ℕ → ℕ) (start n : ℕ) (before after : List ℕ) : Type 0 where
   pub filled : (k : ℕ) → k < n → getD after (start + k) 0 ≡ case k
   pub kept : (i : ℕ) → i < start → getD after i 0 ≡ getD before i 0
+  pub beyond : (i : ℕ) → start + n ≤ i → getD after i 0 ≡ getD before i 0
 
 -- ---- regular cells
 
@@ -30,6 +33,17 @@ pub record RowPut (case : ℕ → ℕ) (start n : ℕ) (before after : List ℕ)
 pub record Line (n : ℕ) (centre : List Float) (x y : ℕ) (line : List Float) : Type 0 where
   pub long : length line ≡ n + 1
   pub reading-at : (z : ℕ) → z ≤ n → inBlockReading line z ≡ readingAt n centre (x + 1) (y + 1) (z + 1)
+
+-- how many numbers are worked out side by side
+abbrev pub sideBySide : ℕ
+sideBySide = 16
+
+-- so many cells on from z lie between the lines
+pub record Ahead (z : ℕ) (a b c d : List Float) : Type 0 where
+  pub a-long : z + sideBySide < length a
+  pub b-long : z + sideBySide < length b
+  pub c-long : z + sideBySide < length c
+  pub d-long : z + sideBySide < length d
 
 -- what four lines add at z, as the Rust numbers the corners, the first adding w if it is inside
 abbrev pub fourInside : Float → List Float → List Float → List Float → List Float → ℕ → ℕ → ℕ

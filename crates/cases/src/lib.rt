@@ -1,17 +1,26 @@
-// The case numbers. A sheet holds those of a layer of regular cells, or of a side's transition cells: rows of sixty-four places, of which
-// the first n are cells. Each cell reads its own samples; a scan steps over the cells that are not cut.
+// The case numbers. A sheet holds those of a layer of regular cells, or of a side's transition cells, row by row; beside it stand marks,
+// which tell the cells that are cut. The writing pass has each cell read its own samples (regular, transition); the counting pass reads a
+// regular sample once (pairs).
 ghost use mathlib.Core.Path.{_≡_};
 ghost use Prim.Native.Nat.{_*_, _≤_, _<_};
 ghost use lib.Ieee.{nan};
 ghost use lib.ListN.{length, getD};
 ghost use Rattle.model.specs.Formulas.{insideBit};
 
+pub mod marks;
+pub mod pairs;
 pub mod regular;
-pub mod scan;
+mod sixteens;
 pub mod transition;
 
 use grid::readings::value_in_block;
+use grid::voxel_blocks::MOST_SUBDIVISIONS;
 use grid::voxel_blocks::inside;
+
+const MOST_POINTS: usize = MOST_SUBDIVISIONS + 1;
+
+// The places of a sheet: a layer of the largest block's points, and eight more, so that a word can be read at each.
+pub const SHEET: usize = MOST_POINTS * MOST_POINTS + 8;
 
 // What the sample at an in-block place adds if it is inside.
 fn weighed(threshold: f32, samples: &[f32], at: usize, w: u32) -> u32

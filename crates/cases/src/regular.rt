@@ -8,14 +8,18 @@ ghost use Rattle.model.specs.Limits.{mostSubdivisions};
 ghost use Rattle.model.specs.Samples.{sampleLength};
 ghost use Rattle.model.specs.Star.{star};
 ghost use Rattle.model.specs.Points.{regularCase};
-ghost use Rattle.cases.specs.Sheets.{rowWidth, sheetPlaces, Sheet, RowPut, Line, fourInside, lineCase};
-use crate::scan::ROW;
+ghost use Rattle.laws.specs.Steps.{listed};
+ghost use Rattle.cases.specs.Marks.{allRegular, markOf};
+ghost use Rattle.cases.specs.Sheets.{rowStart, sheetPlaces, sideBySide, Sheet, RowPut, Line, Ahead, fourInside, lineCase};
+use crate::marks::mark_layer;
+use crate::sixteens::SIDE_BY_SIDE;
+use crate::sixteens::put_sixteen;
 use crate::weighed;
 use grid::voxel_blocks::in_block;
 use model::Header;
 
-// What a cell's first corner adds. One sum in the top byte keeps the compiler's lanes at thirty-two bits: lower down, or of two halves, it
-// narrows them, and packs after each comparison.
+// What a cell's first corner adds where cells are worked out one after another. One sum in the top byte keeps the compiler's lanes at
+// thirty-two bits: lower down, or of two halves, it narrows them, and packs after each comparison.
 const TOP_BYTE: u32 = 0x100_0000;
 
 // The four corners at one z, as the Rust numbers them, the first adding w to the sum.
@@ -40,6 +44,71 @@ fn four(
         + weighed(threshold, d, z, 8 * w)
 }
 
+// The number of the cell k on from z, its sum in the low byte: sixteen of these side by side are worked out in lanes of eight bits.
+fn cell(threshold: f32, a: &[f32], b: &[f32], c: &[f32], d: &[f32], z: usize, k: usize) -> u8
+    requires { ⌜ (k < sideBySide) × Ahead z (now a) (now b) (now c) (now d) ⌝ }
+    ensures { λ r. ⌜ r ≡ lineCase threshold (now (a .entry)) (now (b .entry)) (now (c .entry)) (now (d .entry)) (z + k) ⌝ }
+{
+    let low = four(threshold, a, b, c, d, z + k, 1, 0);
+    let sum = four(threshold, a, b, c, d, z + k + 1, 16, low);
+    sum as u8
+}
+
+fn sixteen(
+    threshold: f32,
+    a: &[f32],
+    b: &[f32],
+    c: &[f32],
+    d: &[f32],
+    z: usize,
+) -> [u8; SIDE_BY_SIDE]
+    requires { ⌜ Ahead z (now a) (now b) (now c) (now d) ⌝ }
+    ensures { λ r. ⌜ r ≡ listed (λ k. lineCase threshold (now (a .entry)) (now (b .entry)) (now (c .entry)) (now (d .entry)) (z + k)) sideBySide ⌝ }
+{
+    [
+        cell(threshold, a, b, c, d, z, 0),
+        cell(threshold, a, b, c, d, z, 1),
+        cell(threshold, a, b, c, d, z, 2),
+        cell(threshold, a, b, c, d, z, 3),
+        cell(threshold, a, b, c, d, z, 4),
+        cell(threshold, a, b, c, d, z, 5),
+        cell(threshold, a, b, c, d, z, 6),
+        cell(threshold, a, b, c, d, z, 7),
+        cell(threshold, a, b, c, d, z, 8),
+        cell(threshold, a, b, c, d, z, 9),
+        cell(threshold, a, b, c, d, z, 10),
+        cell(threshold, a, b, c, d, z, 11),
+        cell(threshold, a, b, c, d, z, 12),
+        cell(threshold, a, b, c, d, z, 13),
+        cell(threshold, a, b, c, d, z, 14),
+        cell(threshold, a, b, c, d, z, 15),
+    ]
+}
+
+// The cells between four lines, as far as sixteen at a time go. Answers the first that is left.
+fn by_sixteens(
+    n: usize,
+    threshold: f32,
+    a: &[f32],
+    b: &[f32],
+    c: &[f32],
+    d: &[f32],
+    cases: &mut [u8],
+    start: usize,
+) -> usize
+    requires { ⌜ (n ≤ mostSubdivisions) × (start + n ≤ length (now cases)) ⌝ }
+    requires { ⌜ (length (now a) ≡ n + 1) × ((length (now b) ≡ n + 1) × ((length (now c) ≡ n + 1) × (length (now d) ≡ n + 1))) ⌝ }
+    ensures { λ r. ⌜ (r ≤ n) × RowPut (lineCase threshold (now (a .entry)) (now (b .entry)) (now (c .entry)) (now (d .entry))) start r (now (cases .entry)) (now (cases .exit)) ⌝ }
+{
+    let mut z = 0;
+    while z + SIDE_BY_SIDE <= n {
+        let numbers = sixteen(threshold, a, b, c, d, z);
+        put_sixteen(cases, start + z, &numbers);
+        z += SIDE_BY_SIDE;
+    }
+    z
+}
+
 // The cells between four lines, their numbers from start on.
 fn row_between(
     n: usize,
@@ -48,18 +117,19 @@ fn row_between(
     b: &[f32],
     c: &[f32],
     d: &[f32],
-    cases: &mut [u16],
+    cases: &mut [u8],
     start: usize,
 )
     requires { ⌜ (n ≤ mostSubdivisions) × (start + n ≤ length (now cases)) ⌝ }
     requires { ⌜ (length (now a) ≡ n + 1) × ((length (now b) ≡ n + 1) × ((length (now c) ≡ n + 1) × (length (now d) ≡ n + 1))) ⌝ }
+    requires { ⌜ length (now cases) ≡ sheetPlaces ⌝ }
     ensures { λ _. ⌜ RowPut (lineCase threshold (now (a .entry)) (now (b .entry)) (now (c .entry)) (now (d .entry))) start n (now (cases .entry)) (now (cases .exit)) ⌝ }
 {
-    let mut z = 0;
+    let mut z = by_sixteens(n, threshold, a, b, c, d, cases, start);
     while z < n {
         let low = four(threshold, a, b, c, d, z, TOP_BYTE, 0);
         let sum = four(threshold, a, b, c, d, z + 1, 16 * TOP_BYTE, low);
-        cases[start + z] = (sum / TOP_BYTE) as u16;
+        cases[start + z] = (sum / TOP_BYTE) as u8;
         z += 1;
     }
 }
@@ -75,21 +145,20 @@ fn line(n: usize, centre: &[f32], x: usize, y: usize) -> &[f32]
     &centre[start..end]
 }
 
-fn row(header: Header, centre: &[f32], x: usize, y: usize, cases: &mut [u16])
+fn row(header: Header, centre: &[f32], x: usize, y: usize, cases: &mut [u8])
     requires { ⌜ (header .block .subdivisions ≤ mostSubdivisions) × (length (now centre) ≡ sampleLength (header .block .subdivisions)) ⌝ }
     requires { ⌜ (x < header .block .subdivisions) × ((y < header .block .subdivisions) × (length (now cases) ≡ sheetPlaces)) ⌝ }
-    ensures { λ _. ⌜ ((ns : List Float) → RowPut (regularCase (star header (now (centre .entry)) ns) x y) (rowWidth * y) (header .block .subdivisions) (now (cases .entry)) (now (cases .exit))) ⌝ }
+    ensures { λ _. ⌜ ((ns : List Float) → RowPut (regularCase (star header (now (centre .entry)) ns) x y) (rowStart (header .block .subdivisions) y) (header .block .subdivisions) (now (cases .entry)) (now (cases .exit))) ⌝ }
 {
     let n = header.block.subdivisions;
     let a = line(n, centre, x, y);
     let b = line(n, centre, x + 1, y);
     let c = line(n, centre, x, y + 1);
     let d = line(n, centre, x + 1, y + 1);
-    row_between(n, header.threshold, a, b, c, d, cases, ROW * y);
+    row_between(n, header.threshold, a, b, c, d, cases, (n + 1) * y);
 }
 
-// The case numbers of the cells at x.
-pub fn layer_cases(header: Header, centre: &[f32], x: usize, cases: &mut [u16])
+fn layer_rows(header: Header, centre: &[f32], x: usize, cases: &mut [u8])
     requires { ⌜ (header .block .subdivisions ≤ mostSubdivisions) × (length (now centre) ≡ sampleLength (header .block .subdivisions)) ⌝ }
     requires { ⌜ (x < header .block .subdivisions) × (length (now cases) ≡ sheetPlaces) ⌝ }
     ensures { λ _. ⌜ ((ns : List Float) → Sheet (regularCase (star header (now (centre .entry)) ns) x) (header .block .subdivisions) (header .block .subdivisions) (now (cases .exit))) ⌝ }
@@ -100,4 +169,15 @@ pub fn layer_cases(header: Header, centre: &[f32], x: usize, cases: &mut [u16])
         row(header, centre, x, y, cases);
         y += 1;
     }
+}
+
+// The case numbers of the cells at x, and their marks.
+pub fn layer_cases(header: Header, centre: &[f32], x: usize, cases: &mut [u8], marks: &mut [u8])
+    requires { ⌜ (header .block .subdivisions ≤ mostSubdivisions) × (length (now centre) ≡ sampleLength (header .block .subdivisions)) ⌝ }
+    requires { ⌜ (x < header .block .subdivisions) × ((length (now cases) ≡ sheetPlaces) × (length (now marks) ≡ sheetPlaces)) ⌝ }
+    ensures cases { λ _. ⌜ ((ns : List Float) → Sheet (regularCase (star header (now (centre .entry)) ns) x) (header .block .subdivisions) (header .block .subdivisions) (now (cases .exit))) ⌝ }
+    ensures marks { λ _. ⌜ ((ns : List Float) → Sheet (λ y z. markOf allRegular (regularCase (star header (now (centre .entry)) ns) x y z)) (header .block .subdivisions) (header .block .subdivisions) (now (marks .exit))) ⌝ }
+{
+    layer_rows(header, centre, x, cases);
+    mark_layer(header.block.subdivisions, cases, marks);
 }

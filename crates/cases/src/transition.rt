@@ -11,9 +11,9 @@ ghost use Rattle.model.specs.Star.{star};
 ghost use Rattle.model.specs.Points.{transitionCase};
 ghost use Rattle.grid.specs.SideLaws.{NeighbourThere};
 ghost use Rattle.grid.specs.Walks.{walkOf, alongBy, Leads};
-ghost use Rattle.cases.specs.Sheets.{rowWidth, sheetPlaces, Sheet, RowPut};
+ghost use Rattle.cases.specs.Sheets.{rowStart, sheetPlaces, Sheet, RowPut};
+ghost use Rattle.cases.specs.Marks.{allTransition, markOf};
 ghost use Rattle.cases.specs.Faces.{Spot, Lined, weighedAt, threeInside, nineInside};
-use crate::scan::ROW;
 use crate::weighed;
 use grid::face_walk::FaceWalk;
 use grid::face_walk::Stride;
@@ -24,6 +24,13 @@ use model::Header;
 
 // A contribution of 1: the nine stand in the top bits of one sum, for the reason that regular.rt tells.
 const ONE: u32 = 0x80_0000;
+
+// What marks a cell: whether it is cut.
+fn side_mark(case: u16) -> u8
+    ensures { λ r. ⌜ r ≡ markOf allTransition case ⌝ }
+{
+    if (case == 0) | (case == 511) { 0 } else { 1 }
+}
 
 // The first places of the three lines that a row of cells lies on, and their step.
 struct Lines {
@@ -91,15 +98,26 @@ fn nine(threshold: f32, fine: &[f32], lines: Lines, v: usize) -> u16
     (sum / ONE) as u16
 }
 
-// The cells on three lines, their numbers from start on.
-fn row_on(n: usize, threshold: f32, fine: &[f32], lines: Lines, cases: &mut [u16], start: usize)
-    requires { ⌜ (n ≤ mostSubdivisions) × (start + n ≤ length (now cases)) ⌝ }
+// The cells on three lines, their numbers and marks from start on.
+fn row_on(
+    n: usize,
+    threshold: f32,
+    fine: &[f32],
+    lines: Lines,
+    cases: &mut [u16],
+    marks: &mut [u8],
+    start: usize,
+)
+    requires { ⌜ (n ≤ mostSubdivisions) × ((start + n ≤ length (now cases)) × (start + n ≤ length (now marks))) ⌝ }
     requires { ⌜ ((v2 : ℕ) → v2 ≤ 2 * n → Lined (length (now fine)) lines v2) ⌝ }
-    ensures { λ _. ⌜ RowPut (nineInside threshold (now (fine .entry)) lines) start n (now (cases .entry)) (now (cases .exit)) ⌝ }
+    ensures cases { λ _. ⌜ RowPut (nineInside threshold (now (fine .entry)) lines) start n (now (cases .entry)) (now (cases .exit)) ⌝ }
+    ensures marks { λ _. ⌜ RowPut (λ v. markOf allTransition (nineInside threshold (now (fine .entry)) lines v)) start n (now (marks .entry)) (now (marks .exit)) ⌝ }
 {
     let mut v = 0;
     while v < n {
-        cases[start + v] = nine(threshold, fine, lines, v);
+        let number = nine(threshold, fine, lines, v);
+        cases[start + v] = number;
+        marks[start + v] = side_mark(number);
         v += 1;
     }
 }
@@ -118,35 +136,45 @@ fn lines_at(walk: FaceWalk, u: usize) -> Lines
     }
 }
 
-fn row(header: Header, fine: &[f32], walk: FaceWalk, side: usize, u: usize, cases: &mut [u16])
+fn row(
+    header: Header,
+    fine: &[f32],
+    walk: FaceWalk,
+    side: usize,
+    u: usize,
+    cases: &mut [u16],
+    marks: &mut [u8],
+)
     requires { ⌜ (header .block .subdivisions ≤ mostSubdivisions) × (length (now fine) ≡ neighbourLength (header .block .subdivisions)) ⌝ }
     requires { ⌜ (side < sideCount) × (walk ≡ walkOf (2 * header .block .subdivisions) side (2 * header .block .subdivisions)) ⌝ }
-    requires { ⌜ (u < header .block .subdivisions) × (length (now cases) ≡ sheetPlaces) ⌝ }
-    ensures { λ _. ⌜ ((centre ns : List Float) → now (fine .entry) ≡ neighbourOf (header .block .subdivisions) (header .mask) ns side → RowPut (transitionCase (star header centre ns) side u) (rowWidth * u) (header .block .subdivisions) (now (cases .entry)) (now (cases .exit))) ⌝ }
+    requires { ⌜ (u < header .block .subdivisions) × ((length (now cases) ≡ sheetPlaces) × (length (now marks) ≡ sheetPlaces)) ⌝ }
+    ensures cases { λ _. ⌜ ((centre ns : List Float) → now (fine .entry) ≡ neighbourOf (header .block .subdivisions) (header .mask) ns side → RowPut (transitionCase (star header centre ns) side u) (rowStart (header .block .subdivisions) u) (header .block .subdivisions) (now (cases .entry)) (now (cases .exit))) ⌝ }
+    ensures marks { λ _. ⌜ ((centre ns : List Float) → now (fine .entry) ≡ neighbourOf (header .block .subdivisions) (header .mask) ns side → RowPut (λ v. markOf allTransition (transitionCase (star header centre ns) side u v)) (rowStart (header .block .subdivisions) u) (header .block .subdivisions) (now (marks .entry)) (now (marks .exit))) ⌝ }
 {
+    let n = header.block.subdivisions;
     let lines = lines_at(walk, u);
-    row_on(
-        header.block.subdivisions,
-        header.threshold,
-        fine,
-        lines,
-        cases,
-        ROW * u,
-    );
+    row_on(n, header.threshold, fine, lines, cases, marks, (n + 1) * u);
 }
 
-// The case numbers of the cells of a named side.
-pub fn face_cases(header: Header, neighbours: &[f32], side: usize, cases: &mut [u16])
+// The case numbers of the cells of a named side, and their marks.
+pub fn face_cases(
+    header: Header,
+    neighbours: &[f32],
+    side: usize,
+    cases: &mut [u16],
+    marks: &mut [u8],
+)
     requires { ⌜ NeighbourThere (header .block .subdivisions) (header .mask) (now neighbours) side ⌝ }
-    requires { ⌜ (1 ≤ header .block .subdivisions) × (length (now cases) ≡ sheetPlaces) ⌝ }
-    ensures { λ _. ⌜ ((centre : List Float) → Sheet (transitionCase (star header centre (now (neighbours .entry))) side) (header .block .subdivisions) (header .block .subdivisions) (now (cases .exit))) ⌝ }
+    requires { ⌜ (1 ≤ header .block .subdivisions) × ((length (now cases) ≡ sheetPlaces) × (length (now marks) ≡ sheetPlaces)) ⌝ }
+    ensures cases { λ _. ⌜ ((centre : List Float) → Sheet (transitionCase (star header centre (now (neighbours .entry))) side) (header .block .subdivisions) (header .block .subdivisions) (now (cases .exit))) ⌝ }
+    ensures marks { λ _. ⌜ ((centre : List Float) → Sheet (λ u v. markOf allTransition (transitionCase (star header centre (now (neighbours .entry))) side u v)) (header .block .subdivisions) (header .block .subdivisions) (now (marks .exit))) ⌝ }
 {
     let n = header.block.subdivisions;
     let fine = neighbour(n, header.mask, neighbours, side);
     let walk = face_walk(2 * n, side, 2 * n);
     let mut u = 0;
     while u < n {
-        row(header, fine, walk, side, u, cases);
+        row(header, fine, walk, side, u, cases, marks);
         u += 1;
     }
 }

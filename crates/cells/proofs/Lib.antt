@@ -5,3 +5,4 @@ mod Uses
 mod Making
 mod ByCase
 mod Inside
+mod Inners

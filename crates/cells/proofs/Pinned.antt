@@ -10,11 +10,11 @@ use Rattle.model.specs.declared.Counts.{Counts}
 use Rattle.model.specs.Mesh.{Cell}
 use Rattle.model.specs.Pinned.{pinned}
 use Rattle.cells.specs.Puts.{CellPut}
-use Rattle.cells.proofs.sheet_cells.all_inside.Reads as all-inside
+use Rattle.cells.proofs.sheet_cells.number_at.Reads as number-at
 use Rattle.cells.proofs.sheet_cells.write_sheet_cell.Reads as write-sheet-cell
 
-pub all-inside-pinned : (κs : Lfts 0) (a : _) (r r′ : _) (e e′ : _) → all-inside.Learnt κs a r e → all-inside.Learnt κs a r′ e′ → r ≡ r′
-all-inside-pinned κs a r r′ e e′ h k = pinned h k
+pub number-at-pinned : (κs : Lfts 2) (a : _) (r r′ : _) (e e′ : _) → number-at.Learnt κs a r e → number-at.Learnt κs a r′ e′ → r ≡ r′
+number-at-pinned κs a r r′ e e′ h k = pinned h k
 
 -- two outcomes of one cell
 module _ {c : Cell} {nv nt : ℕ} {vertices v v′ : List Float} {triangles store t t′ s s′ : List ℕ} {r r′ : Counts}

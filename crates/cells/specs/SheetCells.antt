@@ -10,7 +10,7 @@ use Rattle.tables.specs.Cases.{regularCell as regularRow, transitionCell as tra
 use Rattle.model.specs.Star.{Star}
 use Rattle.model.specs.Points.{regularCase, transitionCase}
 use Rattle.model.specs.Mesh.{Cell, regularCell, transitionCell}
-use Rattle.cases.specs.Scans.{allRegular, allTransition}
+use Rattle.cases.specs.Marks.{allRegular, allTransition}
 use Rattle.cells.specs.declared.CellIndex.{CellIndex}
 use Rattle.cells.specs.declared.CellIndex.the-variants.{Regular, Transition}
 use Rattle.cells.specs.declared.SheetIndex.{SheetIndex}
@@ -34,6 +34,11 @@ caseAt s (Side side) = transitionCase s side
 abbrev pub allOf : SheetIndex → ℕ
 allOf (Layer x) = allRegular
 allOf (Side side) = allTransition
+
+-- the sheet that has its case numbers: a layer's, or a side's
+abbrev pub sheetOf : SheetIndex → List ℕ → List ℕ → List ℕ
+sheetOf (Layer x) layer side = layer
+sheetOf (Side at) layer side = side
 
 -- a regular cell that touches no low face of the block
 abbrev pub awayFromLow : CellIndex → Bool

@@ -13,7 +13,7 @@ use Rattle.tables.specs.Cases.{regularCell as regularRow, transitionCell as tra
 use Rattle.model.specs.Star.{Star}
 use Rattle.model.specs.Points.{regularCase, transitionCase}
 use Rattle.model.specs.Mesh.{Cell, Mesh, fillTo, cellStep, regularCell, transitionCell}
-use Rattle.cases.specs.Scans.{allRegular, allTransition, uncut}
+use Rattle.cases.specs.Marks.{allRegular, allTransition, uncut}
 use Rattle.cells.specs.Puts.{Nothing}
 
 pub nothing-step : (c : Cell) → Nothing c → (m : Mesh) → cellStep c m ≡ m

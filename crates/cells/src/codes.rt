@@ -40,7 +40,7 @@ pub fn makes(at: CellIndex, code: u16) -> bool
     }
 }
 
-fn regular_back(at: Xyz, code: u16) -> Xyz
+pub fn regular_back(at: Xyz, code: u16) -> Xyz
     requires { ⌜ regularLeaves (at .x) (at .y) (at .z) code ≡ false ⌝ }
     ensures { λ r. ⌜ r ≡ regularBack at code ⌝ }
 {

@@ -1,12 +1,12 @@
 // A sheet's cells by their case numbers, written or counted. What the tables and a cell's place are for each kind stands here alone.
 ghost use mathlib.Core.Path.{_≡_};
-ghost use Prim.Native.Nat.{_+_, _≤_};
-ghost use lib.ListN.{length};
+ghost use Prim.Native.Nat.{_+_, _≤_, _<_};
+ghost use lib.ListN.{length, getD};
 ghost use Rattle.model.specs.Star.{Star, star};
 ghost use Rattle.model.specs.Mesh.{storeLength, fillTo};
 ghost use Rattle.cells.specs.Kinds.{Ready};
 ghost use Rattle.cells.specs.Puts.{Room, CellPut, Adds, Few};
-ghost use Rattle.cells.specs.SheetCells.{cellAt, allOf, caseAt, sheetCell, classArray, cellArray, codeArray, Tables, codesOf, rowOf, turnedOf, awayFromLow};
+ghost use Rattle.cells.specs.SheetCells.{cellAt, allOf, caseAt, sheetOf, sheetCell, classArray, cellArray, codeArray, Tables, codesOf, rowOf, turnedOf, awayFromLow};
 use crate::CellIndex;
 use crate::SheetIndex;
 use crate::cell::count_cell;
@@ -24,13 +24,14 @@ use tables::transition_case_cell;
 use tables::transition_case_codes;
 use tables::transition_turned;
 
-// The case number with every point inside.
-pub fn all_inside(sheet: SheetIndex) -> u16
-    ensures { λ r. ⌜ r ≡ allOf sheet ⌝ }
+// The case number at a place: a layer's sheet has them in a byte, a side's in two.
+pub fn number_at(sheet: SheetIndex, layer: &[u8], side: &[u16], i: usize) -> usize
+    requires { ⌜ i < length (sheetOf sheet (now layer) (now side)) ⌝ }
+    ensures { λ r. ⌜ r ≡ getD (sheetOf sheet (now (layer .entry)) (now (side .entry))) i 0 ⌝ }
 {
     match sheet {
-        SheetIndex::Layer(_) => 255,
-        SheetIndex::Side(_) => 511,
+        SheetIndex::Layer(_) => layer[i] as usize,
+        SheetIndex::Side(_) => side[i] as usize,
     }
 }
 
@@ -87,7 +88,7 @@ pub fn write_sheet_cell(
     classes: &[u8],
     cells: &[u8],
     codes: &[u16],
-    case: u16,
+    case: usize,
     u: usize,
     v: usize,
     counts: Counts,
@@ -103,16 +104,15 @@ pub fn write_sheet_cell(
     requires { ⌜ Room 3 (counts .triangles + sheetCell (star header (now centre) (now neighbours)) sheet u v .triangles) (now triangles) ⌝ }
     ensures { λ r. ⌜ CellPut (sheetCell (star header (now (centre .entry)) (now (neighbours .entry))) sheet u v) (counts .vertices) (counts .triangles) (now (vertices .entry)) (now (triangles .entry)) (now (store .entry)) (r .vertices) (r .triangles) (now (vertices .exit)) (now (triangles .exit)) (now (store .exit)) ⌝ }
 {
-    let number = case as usize;
     write_cell(
         header,
         fractions,
         centre,
         neighbours,
         cell_at(sheet, u, v),
-        case_codes(sheet, codes, number),
-        case_cell(sheet, classes, cells, number),
-        turned(sheet, classes, number),
+        case_codes(sheet, codes, case),
+        case_cell(sheet, classes, cells, case),
+        turned(sheet, classes, case),
         counts,
         store,
         vertices,
@@ -136,7 +136,7 @@ pub fn count_sheet_cell(
     classes: &[u8],
     cells: &[u8],
     codes: &[u16],
-    case: u16,
+    case: usize,
     u: usize,
     v: usize,
 ) -> Counts
@@ -145,14 +145,13 @@ pub fn count_sheet_cell(
     ensures { λ r. ⌜ Few 1 r ⌝ }
     ensures { λ r. ⌜ ((s : Star) → case ≡ caseAt s sheet u v → Adds (sheetCell s sheet u v) (r .vertices) (r .triangles)) ⌝ }
 {
-    let number = case as usize;
     let at = cell_at(sheet, u, v);
-    let row = case_cell(sheet, classes, cells, number);
+    let row = case_cell(sheet, classes, cells, case);
     if is_away_from_low(at) {
         return Counts {
-            vertices: count_made_inside(number),
+            vertices: count_made_inside(case),
             triangles: triangle_count(row),
         };
     }
-    count_cell(at, case_codes(sheet, codes, number), row)
+    count_cell(at, case_codes(sheet, codes, case), row)
 }

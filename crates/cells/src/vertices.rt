@@ -1,10 +1,12 @@
 // A cell's vertices: each is made and put into the buffer, or taken from the index store.
 ghost use mathlib.Core.Path.{_≡_};
-ghost use mathlib.Core.Bool.{false};
+ghost use mathlib.Core.Bool.{false, cond};
 ghost use mathlib.Core.List.{List};
 ghost use Prim.Native.Nat.{_+_, _≤_, _<_};
 ghost use lib.Ieee.{Float};
+ghost use lib.Dec.{eqb};
 ghost use lib.ListN.{length};
+ghost use Rattle.tables.specs.Codes.{isNew};
 ghost use Rattle.tables.specs.Cases.{verticesOf};
 ghost use Rattle.model.specs.Limits.{mostSubdivisions};
 ghost use Rattle.model.specs.Star.{star};
@@ -12,11 +14,13 @@ ghost use Rattle.model.specs.Points.{cornerPoint};
 ghost use Rattle.model.specs.Mesh.{storeLength, madeBy, fillTo, regularVertex, transitionVertex};
 ghost use Rattle.points.specs.CellPoints.{Centred};
 ghost use Rattle.cells.specs.Kinds.{useAt, placeAt, InBlock, Placed, slots, Ready, Usable, cellOf, Coded};
+ghost use Rattle.cells.specs.Inner.{between, innerAt, regularAt, Inner};
 ghost use Rattle.cells.specs.Puts.{Room, CodePut, FillPut};
 use crate::CellIndex;
 use crate::buffers::put_vertex;
 use crate::codes::back;
 use crate::codes::makes;
+use crate::codes::regular_back;
 use crate::triangles::vertex_count;
 use grid::shared_vertex_indices::regular_place;
 use grid::shared_vertex_indices::transition_place;
@@ -30,6 +34,7 @@ use points::formulas::vertex_between;
 use points::fractions::FRACTIONS;
 use points::grid_point::regular_vertex_between;
 use points::grid_point::transition_point;
+use points::grid_point::vertex_inside;
 use tables::aux_tables::cell_point;
 use tables::tables_wrapper::new_vertex;
 use tables::tables_wrapper::reuse_index;
@@ -129,7 +134,7 @@ fn vertex(
 
 // New: make and store. Otherwise, if the steps asked for stay inside, take the stored index of that cell; if one does not, make a new
 // vertex that is not stored.
-fn put_code(
+fn put_any(
     header: Header,
     fractions: &[f32; FRACTIONS],
     centre: &[f32],
@@ -168,6 +173,134 @@ fn put_code(
     let shared = place(n, back(at, code), r);
     let taken = store[shared];
     Indexed { index: taken, next }
+}
+
+// The vertex of a cell that touches no block face.
+fn inner_vertex(
+    header: Header,
+    fractions: &[f32; FRACTIONS],
+    centre: &[f32],
+    at: Xyz,
+    code: u16,
+) -> Vertex
+    requires { ⌜ Centred (header .block .subdivisions) (now fractions) (now centre) ⌝ }
+    requires { ⌜ Inner (header .block .subdivisions) at × Usable (CellIndex.Regular at) code ⌝ }
+    ensures { λ r. ⌜ ((ns : List Float) → r ≡ regularVertex (star header (now (centre .entry)) ns) (at .x) (at .y) (at .z) code) ⌝ }
+{
+    let a = corner_point(at, voxel_a_index(code));
+    let b = corner_point(at, voxel_b_index(code));
+    vertex_inside(header, fractions, centre, a, b)
+}
+
+// The same in a cell that touches no block face, where no step leaves the block.
+fn put_inner(
+    header: Header,
+    fractions: &[f32; FRACTIONS],
+    centre: &[f32],
+    at: Xyz,
+    code: u16,
+    store: &mut [u32],
+    vertices: &mut [f32],
+    next: usize,
+) -> Indexed
+    requires { ⌜ Centred (header .block .subdivisions) (now fractions) (now centre) ⌝ }
+    requires { ⌜ Inner (header .block .subdivisions) at × Usable (CellIndex.Regular at) code ⌝ }
+    requires { ⌜ length (now store) ≡ storeLength (header .block .subdivisions) ⌝ }
+    requires { ⌜ Room 6 (next + cond (eqb (isNew code) 1) 1 0) (now vertices) ⌝ }
+    ensures { λ r. ⌜ ((ns : List Float) → CodePut (useAt (star header (now (centre .entry)) ns) (CellIndex.Regular at) code) next (now (vertices .entry)) (now (store .entry)) (r .index) (r .next) (now (vertices .exit)) (now (store .exit))) ⌝ }
+{
+    let n = header.block.subdivisions;
+    let r = reuse_index(code);
+    if new_vertex(code) {
+        put_vertex(
+            vertices,
+            next,
+            inner_vertex(header, fractions, centre, at, code),
+        );
+        let index = next as u32;
+        let own = regular_place(n, at.x, at.y, at.z, r);
+        store[own] = index;
+        return Indexed {
+            index,
+            next: next + 1,
+        };
+    }
+    let from = regular_back(at, code);
+    let shared = regular_place(n, from.x, from.y, from.z, r);
+    let taken = store[shared];
+    Indexed { index: taken, next }
+}
+
+// Whether it is a regular cell that touches no block face.
+fn is_inner(n: usize, at: CellIndex) -> bool
+    requires { ⌜ (n ≤ mostSubdivisions) × Placed n at ⌝ }
+    ensures { λ r. ⌜ r ≡ innerAt n at ⌝ }
+{
+    match at {
+        CellIndex::Regular(cell) => is_between(n, cell.x)
+            & (is_between(n, cell.y) & is_between(n, cell.z)),
+        CellIndex::Transition(_) => false,
+    }
+}
+
+fn is_between(n: usize, c: usize) -> bool
+    requires { ⌜ c < mostSubdivisions ⌝ }
+    ensures { λ r. ⌜ r ≡ between n c ⌝ }
+{
+    (0 < c) & (c + 1 < n)
+}
+
+// A regular cell's own coordinates.
+fn regular_at(at: CellIndex) -> Xyz
+    ensures { λ r. ⌜ r ≡ regularAt at ⌝ }
+{
+    match at {
+        CellIndex::Regular(cell) => cell,
+        CellIndex::Transition(_) => Xyz { x: 0, y: 0, z: 0 },
+    }
+}
+
+// One vertex of a cell. Most cells touch no block face; what tells that is the same for a cell's codes, and is found once.
+fn put_code(
+    header: Header,
+    fractions: &[f32; FRACTIONS],
+    centre: &[f32],
+    neighbours: &[f32],
+    at: CellIndex,
+    code: u16,
+    store: &mut [u32],
+    vertices: &mut [f32],
+    next: usize,
+) -> Indexed
+    requires { ⌜ Ready (star header (now centre) (now neighbours)) (now fractions) at ⌝ }
+    requires { ⌜ Usable at code ⌝ }
+    requires { ⌜ length (now store) ≡ storeLength (header .block .subdivisions) ⌝ }
+    requires { ⌜ Room 6 (next + length (madeBy (useAt (star header (now centre) (now neighbours)) at code))) (now vertices) ⌝ }
+    ensures { λ r. ⌜ CodePut (useAt (star header (now (centre .entry)) (now (neighbours .entry))) at code) next (now (vertices .entry)) (now (store .entry)) (r .index) (r .next) (now (vertices .exit)) (now (store .exit)) ⌝ }
+{
+    if is_inner(header.block.subdivisions, at) {
+        return put_inner(
+            header,
+            fractions,
+            centre,
+            regular_at(at),
+            code,
+            store,
+            vertices,
+            next,
+        );
+    }
+    put_any(
+        header,
+        fractions,
+        centre,
+        neighbours,
+        at,
+        code,
+        store,
+        vertices,
+        next,
+    )
 }
 
 // The vertices of a cell, after base others.

@@ -22,7 +22,7 @@ pub record Within (n : ℕ) (p : Xyz) : Type 0 where
 
 -- ---- places in range
 
--- a neighbour of a block of 16 subdivisions has 32
+-- up to the most subdivisions that a neighbour has, neither power wraps
 pub record Small (n : ℕ) : Type 0 where
   pub square : (n + 1) * (n + 1) ≤ (mostFine + 1) * (mostFine + 1)
   pub cube : (n + 1) * (n + 1) * (n + 1) ≤ (mostFine + 1) * (mostFine + 1) * (mostFine + 1)

@@ -22,7 +22,7 @@ pub record TransitionCell (n side u v r : ℕ) : Type 0 where
   pub v-in : v < n
   pub reuse : r < 10
 
--- n up to 16: neither store wraps
+-- up to the most subdivisions, neither power wraps
 pub record SmallStore (n : ℕ) : Type 0 where
   pub square : n * n ≤ mostSubdivisions * mostSubdivisions
   pub cube : n * n * n ≤ mostSubdivisions * mostSubdivisions * mostSubdivisions

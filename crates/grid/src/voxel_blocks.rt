@@ -15,7 +15,7 @@ use model::PlaceKind;
 use model::Reading;
 use model::Xyz;
 
-pub const MOST_SUBDIVISIONS: usize = 16;
+pub const MOST_SUBDIVISIONS: usize = 64;
 
 pub fn inside(threshold: f32, sample: f32) -> bool
     ensures { λ r. ⌜ r ≡ Formulas.inside threshold sample ⌝ }

@@ -57,7 +57,9 @@ fn places(t: Tally) -> Tally {
     let t = refuses(t, judge_store(2, 271), 9, 272, 0, 0);
     let t = passes(t, judge_store(2, 272));
     let t = refuses(t, judge_store(16, 31743), 9, 31744, 0, 0);
-    passes(t, judge_store(16, 31744))
+    let t = passes(t, judge_store(16, 31744));
+    let t = refuses(t, judge_store(64, 1294335), 9, 1294336, 0, 0);
+    passes(t, judge_store(64, 1294336))
 }
 
 fn rooms(t: Tally) -> Tally {

@@ -18,8 +18,10 @@ const BELOW_LEAST: f32 = 0.00097656244;
 
 fn kinds(t: Tally) -> Tally {
     let t = refuses(t, judged_alone(block(0), 0, 0.5), 1, 0, 0, 0);
-    let t = refuses(t, judged_alone(block(17), 0, 0.5), 1, 17, 0, 0);
-    let t = refuses(t, judged_alone(block(17), 64, 0.5), 1, 17, 0, 0);
+    let t = refuses(t, judged_alone(block(65), 0, 0.5), 1, 65, 0, 0);
+    let t = refuses(t, judged_alone(block(65), 64, 0.5), 1, 65, 0, 0);
+    let t = refuses(t, judged_alone(block(17), 0, 0.5), 4, 7776, 0, 0);
+    let t = refuses(t, judged_alone(block(64), 0, 0.5), 4, 299975, 0, 0);
     let t = refuses(t, judged_alone(block(2), 64, 0.5), 2, 64, 0, 0);
     let t = refuses(t, judged_alone(block(2), 255, 0.0 / 0.0), 2, 255, 0, 0);
     passes(t, judged_alone(block(2), 0, 0.5))

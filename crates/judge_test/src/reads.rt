@@ -165,7 +165,8 @@ fn read_all(t: Tally, n: usize, samples: &[f32]) -> Tally
 fn refusals(t: Tally) -> Tally {
     let samples = [0f32; 82];
     let t = read_refuses(t, read_point(0, &samples[..81], -5, 0, 0), 1, 0);
-    let t = read_refuses(t, read_point(17, &samples[..81], 0, 0, 0), 1, 17);
+    let t = read_refuses(t, read_point(65, &samples[..81], 0, 0, 0), 1, 65);
+    let t = read_refuses(t, read_point(64, &samples[..81], 0, 0, 0), 4, 299975);
     let t = read_refuses(t, read_point(2, &samples[..80], -5, 0, 0), 4, 81);
     let t = read_refuses(t, read_point(2, &samples[..82], 0, 0, 0), 4, 81);
     let t = read_refuses(t, read_point(2, &samples[..81], -1, -1, 0), 15, 2);
@@ -185,7 +186,7 @@ fn small(t: Tally) -> Tally {
     read_all(t, 2, &samples)
 }
 
-fn largest(t: Tally) -> Tally {
+fn large(t: Tally) -> Tally {
     let mut samples = [0f32; 6647];
     lay_all(16, &mut samples);
     read_all(t, 16, &samples)
@@ -195,5 +196,5 @@ pub fn run(t: Tally) -> Tally {
     let t = refusals(t);
     let t = smallest(t);
     let t = small(t);
-    largest(t)
+    large(t)
 }

@@ -1,5 +1,5 @@
--- Document 01, 'Figures to agree with': those it marks with a star, worked out by the definitions, beside what it states, and of a point
--- never sampled what document 02, [4], makes of it.
+-- Document 01, 'Figures to agree with': those it marks with a star, worked out by the definitions, beside what it states. Of the limit of
+-- subdivisions and of a point never sampled stands what document 02, [9] and [4], makes of it: 64 passes, and 65 takes the place of 17.
 use Prim.Native.Nat.{ℕ, _+_, _*_}
 use mathlib.Core.Path.{_≡_, refl}
 use mathlib.Core.List.{List, [], _∷_, map}
@@ -53,8 +53,8 @@ lowX = 0
 
 abbrev pub figures : List Figure
 figures =
-    figure (numberOf (judgeSubdivisions 16) ∷ []) (0 ∷ []) ∷
-    figure (numberOf (judgeSubdivisions 17) ∷ numberOf (judgeSubdivisions 0) ∷ []) (1 ∷ 1 ∷ []) ∷
+    figure (numberOf (judgeSubdivisions 16) ∷ numberOf (judgeSubdivisions 64) ∷ []) (0 ∷ 0 ∷ []) ∷
+    figure (numberOf (judgeSubdivisions 65) ∷ numberOf (judgeSubdivisions 0) ∷ []) (1 ∷ 1 ∷ []) ∷
     figure (numberOf (judgeMask 63) ∷ []) (0 ∷ []) ∷
     figure (numberOf (judgeMask 64) ∷ []) (2 ∷ []) ∷
     figure (placeAt 2 (pos 1) (pos 2) (pos 0) ∷ []) (15 ∷ []) ∷

@@ -1,9 +1,9 @@
--- Document 01, 'Answers by number': the limits, each by its one name. Definitions only.
+-- Document 01, 'Answers by number', and document 02, [9]: the limits, each by its one name. Definitions only.
 use Prim.Native.Nat.{ℕ, _+_, _*_, _^_}
 
 -- n is at most this; a neighbour block has twice as many subdivisions
 abbrev pub mostSubdivisions : ℕ
-mostSubdivisions = 16
+mostSubdivisions = 64
 
 abbrev pub mostFine : ℕ
 mostFine = 2 * mostSubdivisions

@@ -17,6 +17,7 @@ use Rattle.points.proofs.formulas.vertex_between.Reads as vertex-betwee
 use Rattle.points.proofs.fractions.fractions_of.Reads as fractions-of
 use Rattle.points.proofs.grid_point.regular_vertex_between.Reads as regular-vertex-between
 use Rattle.points.proofs.grid_point.transition_point.Reads as transition-point
+use Rattle.points.proofs.grid_point.vertex_inside.Reads as vertex-inside
 
 -- the lent samples, after those of the named sides below
 module _ (n mask side : ℕ) (fine : List Float) (e : length fine ≡ neighbourLength n) where
@@ -44,6 +45,9 @@ fractions-of-pinned κs a r r′ e e′ h k = pinned (h .are) (k .are)
 
 pub regular-vertex-between-pinned : (κs : Lfts 2) (a : _) (r r′ : _) (e e′ : _) → regular-vertex-between.Learnt κs a r e → regular-vertex-between.Learnt κs a r′ e′ → r ≡ r′
 regular-vertex-between-pinned κs a r r′ e e′ h k = pinned (h []) (k [])
+
+pub vertex-inside-pinned : (κs : Lfts 2) (a : _) (r r′ : _) (e e′ : _) → vertex-inside.Learnt κs a r e → vertex-inside.Learnt κs a r′ e′ → r ≡ r′
+vertex-inside-pinned κs a r r′ e e′ h k = pinned (h []) (k [])
 
 pub transition-point-pinned : (κs : Lfts 3) (a : _) (r r′ : _) (e e′ : _) → transition-point.Asked κs a
     → transition-point.Learnt κs a r e → transition-point.Learnt κs a r′ e′ → r ≡ r′

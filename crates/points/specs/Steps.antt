@@ -6,6 +6,7 @@ use mathlib.Core.List.{List}
 use lib.Dec.{ltb}
 use lib.Ieee.{Float, nan}
 use lib.ListN.{getD}
+use Rattle.model.specs.declared.Xyz.{Xyz}
 use Rattle.model.specs.declared.PlaceKind.{PlaceKind}
 use Rattle.model.specs.declared.PlaceKind.the-variants.{InBlock, Face}
 use Rattle.model.specs.declared.Reading.{Reading}
@@ -48,3 +49,17 @@ downReading samples n at stride low c i j = Value (getD samples (downFrom c at s
 abbrev pub differenceAt : List Float → ℕ → ℕ → ℕ → ℕ → ℕ → ℕ → ℕ → Float
 differenceAt samples n at stride low c i j =
     valueOf (upReading samples n at stride low c i j) ⊖ valueOf (downReading samples n at stride low c i j)
+
+-- ---- a point that no block face touches
+
+pub record Inside (n : ℕ) (p : Xyz) : Type 0 where
+  pub x-low : 0 < p .x
+  pub x-high : p .x < n
+  pub y-low : 0 < p .y
+  pub y-high : p .y < n
+  pub z-low : 0 < p .z
+  pub z-high : p .z < n
+
+-- both steps are one stride from its place
+abbrev pub differenceInside : List Float → ℕ → ℕ → Float
+differenceInside samples at stride = getD samples (at + stride) nan ⊖ getD samples (at - stride) nan

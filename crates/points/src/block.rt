@@ -25,7 +25,7 @@ fn regular_coordinate(base: f32, size: f32, fractions: &[f32; FRACTIONS], index:
     base + size * fractions[index]
 }
 
-fn original_position(block: Block, fractions: &[f32; FRACTIONS], p: Xyz) -> Vector
+pub(crate) fn original_position(block: Block, fractions: &[f32; FRACTIONS], p: Xyz) -> Vector
     requires { ⌜ Fractions (block .subdivisions) (now fractions) × Within (block .subdivisions) p ⌝ }
     ensures { λ r. ⌜ r ≡ originalPosition block p ⌝ }
 {

@@ -16,13 +16,15 @@ ghost use Rattle.model.specs.Points.{regularPoint, fineGridPoint, transitionPoi
 ghost use Rattle.grid.specs.Places.{Within};
 ghost use Rattle.grid.specs.RotationLaws.{OnFineFace};
 ghost use Rattle.points.specs.CellPoints.{Centred, Bordered, InCell, fineGradient};
-ghost use Rattle.points.specs.Steps.{Reach, upReading, downReading, differenceAt};
+ghost use Rattle.points.specs.Steps.{Reach, upReading, downReading, differenceAt, Inside, differenceInside};
 use crate::block::fine_position;
+use crate::block::original_position;
 use crate::block::regular_position;
 use crate::formulas::between_vectors;
 use crate::formulas::weight;
 use crate::fractions::FRACTIONS;
 use grid::readings::reading_at;
+use grid::readings::value_in_block;
 use grid::readings::value_of;
 use grid::rotation::face_point;
 use grid::rotation::fine_points;
@@ -114,6 +116,28 @@ fn gradient(n: usize, samples: &[f32], p: Xyz) -> Vector
     }
 }
 
+// The same at a point that no block face touches: both steps stay in the block.
+fn difference_inside(samples: &[f32], at: usize, stride: usize) -> f32
+    requires { ⌜ (at + stride < length (now samples)) × (stride ≤ at) ⌝ }
+    ensures { λ r. ⌜ r ≡ differenceInside (now (samples .entry)) at stride ⌝ }
+{
+    value_in_block(samples, at + stride) - value_in_block(samples, at - stride)
+}
+
+fn gradient_inside(n: usize, samples: &[f32], p: Xyz) -> Vector
+    requires { ⌜ (n ≤ mostFine) × (length (now samples) ≡ sampleLength n) ⌝ }
+    requires { ⌜ Inside n p ⌝ }
+    ensures { λ r. ⌜ r ≡ gradientAt n (now (samples .entry)) p ⌝ }
+{
+    let m = n + 1;
+    let at = in_block(n, p.x, p.y, p.z);
+    Vector {
+        x: difference_inside(samples, at, m * m),
+        y: difference_inside(samples, at, m),
+        z: difference_inside(samples, at, 1),
+    }
+}
+
 fn regular_point(header: Header, fractions: &[f32; FRACTIONS], centre: &[f32], p: Xyz) -> GridPoint
     requires { ⌜ Centred (header .block .subdivisions) (now fractions) (now centre) × Within (header .block .subdivisions) p ⌝ }
     ensures { λ r. ⌜ ((ns : List Float) → r ≡ regularPoint (star header (now (centre .entry)) ns) p) ⌝ }
@@ -148,6 +172,35 @@ pub fn regular_vertex_between(
         regular_position(header, fractions, b),
     );
     let slope = between_vectors(w, gradient(n, centre, a), gradient(n, centre, b));
+    Vertex {
+        position,
+        gradient: slope,
+    }
+}
+
+// The same between two points that no block face touches: shrinking moves neither, and both gradients are read in the block.
+pub fn vertex_inside(
+    header: Header,
+    fractions: &[f32; FRACTIONS],
+    centre: &[f32],
+    a: Xyz,
+    b: Xyz,
+) -> Vertex
+    requires { ⌜ Centred (header .block .subdivisions) (now fractions) (now centre) × (Inside (header .block .subdivisions) a × Inside (header .block .subdivisions) b) ⌝ }
+    ensures { λ r. ⌜ ((ns : List Float) → r ≡ vertexBetween (header .threshold) (regularPoint (star header (now (centre .entry)) ns) a) (regularPoint (star header (now (centre .entry)) ns) b)) ⌝ }
+{
+    let n = header.block.subdivisions;
+    let w = weight(sample(n, centre, a), sample(n, centre, b), header.threshold);
+    let position = between_vectors(
+        w,
+        original_position(header.block, fractions, a),
+        original_position(header.block, fractions, b),
+    );
+    let slope = between_vectors(
+        w,
+        gradient_inside(n, centre, a),
+        gradient_inside(n, centre, b),
+    );
     Vertex {
         position,
         gradient: slope,

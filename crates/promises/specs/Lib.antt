@@ -6,9 +6,12 @@ pub mod PlaceKinds
 pub mod Blank
 pub mod Weights
 pub mod Finer
+pub mod Former
+pub mod Larger
 pub mod Orders
 pub mod Points
 pub mod Left
+pub mod Enough
 -- that it holds
 pub mod Kept
 -- how it is proved
@@ -25,3 +28,4 @@ pub mod PlaceKindsKept
 pub mod BlankKept
 pub mod WeightsKept
 pub mod FinerKept
+pub mod LargerKept

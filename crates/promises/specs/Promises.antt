@@ -6,7 +6,6 @@ use Prim.Native.Nat.{ℕ, _+_, _*_, _^_, _≤_, _<_}
 use mathlib.Core.Path.{_≡_}
 use mathlib.Core.Bool.{cond}
 use mathlib.Core.List.{List, [], _∷_, _++_, map}
-use lib.Count.{ones}
 use lib.Dec.{T}
 use lib.IntN.{ℤ}
 use lib.Ieee as Ieee
@@ -37,12 +36,14 @@ use Rattle.closed.specs.Clauses.{NoHole}
 use Rattle.promises.specs.Left.{Laid, Lent, answered, left, counts, regularPart, centreOf, neighboursOf}
 use Rattle.promises.specs.Orders.{Judged, Packed, extractionJudges, writingJudges, recordJudges, readingJudges, pointJudges, sampleJudges}
 use Rattle.promises.specs.Points.{pointValue, pointKind}
+use Rattle.promises.specs.Enough.{Enough}
 use Rattle.promises.specs.Stl.{StlPromises}
 use Rattle.promises.specs.Nesting.{NestingPromises}
 use Rattle.promises.specs.PlaceKinds.{PlaceKindPromises}
 use Rattle.promises.specs.Blank.{BlankPromises}
 use Rattle.promises.specs.Weights.{WeightsPromises}
 use Rattle.promises.specs.Finer.{NoGapIsLeft}
+use Rattle.promises.specs.Larger.{LargerPromises}
 
 -- ---- 1. every call is answered
 
@@ -135,21 +136,7 @@ pub record RecordsRoundTrip : Type 0 where
       → readRecord (take k (writeRecord h centre neighbours out .bytes)) samples
       ≡ record { answer = RecordRead.Block h; samples = laid (centre ++ neighbours) samples }
 
--- ---- 5. room that is enough
-
--- the cells of a block: n * n * n regular ones, and n * n transition cells a named side
-abbrev pub cellCount : ℕ → ℕ → ℕ
-cellCount n mask = n * n * (n + ones mask)
-
-abbrev pub mostOfCell : ℕ
-mostOfCell = 12
-
--- the mesh of a block has at most twelve vertices and twelve triangles a cell
-pub record Enough (s : Star) : Type 0 where
-  pub vertices : counts s .vertices ≤ mostOfCell * cellCount (subdivisions s) (s .mask)
-  pub triangles : counts s .triangles ≤ mostOfCell * cellCount (subdivisions s) (s .mask)
-
--- ---- all, with 6: the starred figures of document 01, and the requests of document 02
+-- ---- all, with 5, room that is enough, and 6: the starred figures of document 01, and the requests of document 02
 
 pub record Promises : Type 0 where
   pub every-call : EveryCallIsAnswered
@@ -159,12 +146,13 @@ pub record Promises : Type 0 where
   -- and there is no gap at its named sides
   pub no-gap : (s : Star) (lent : Lent) (c : Counts) → answered s lent ≡ Extraction.Mesh c → NoGapIsLeft s lent c
   pub round-trips : RecordsRoundTrip
-  -- whatever the samples are
+  -- 5: room that is enough, whatever the samples are
   pub room : (s : Star) → s .mask ≤ mostMask → Enough s
   pub stl : StlPromises
   pub nesting : NestingPromises
   pub place-kinds : PlaceKindPromises
   pub blank : BlankPromises
   pub weights : WeightsPromises
+  pub larger : LargerPromises
   -- what the definitions work out is what document 01 states
   pub starred : map (λ (f : Figure). f .worked) figures ≡ map (λ (f : Figure). f .stated) figures

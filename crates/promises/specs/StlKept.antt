@@ -1,13 +1,13 @@
 -- What was promised of STL holds: its two calls are judged by their judges in order; and what extraction leaves can be written, since its triangles are
 -- few and closed's theorem says that each names a vertex with each corner.
 use Prim.Native.Nat.{ℕ, _+_, _*_, _≤_, _<_}
-use native.Mathlib.Nat.{add-zero, mul-le-mul}
+use native.Mathlib.Nat.{add-zero}
 use native.Mathlib.Omega.{arith}
 use mathlib.Core.Path.{_≡_, refl, sym, ap, _∙_, subst}
 use mathlib.Core.Logic.{⊎-elim}
 use mathlib.Core.List.{List}
 use borrow.Author.Tests.{le-leb}
-use lib.Count.{ones, ones-le}
+use lib.Count.{ones, onesIn}
 use lib.Dec.{eqb, leb}
 use lib.Ieee.{Float}
 use lib.ListN.{length, getD}
@@ -19,7 +19,6 @@ use Rattle.model.specs.declared.Refusal.the-variants.{StlLength, NoVertex}
 use Rattle.model.specs.declared.Verdict.{Verdict}
 use Rattle.model.specs.declared.Verdict.the-variants.{Passed}
 use Rattle.model.specs.declared.Extraction.the-variants as Extraction
-use Rattle.model.specs.Limits.{mostSubdivisions, mostMask, sideCount}
 use Rattle.model.specs.Star.{Star, subdivisions}
 use Rattle.model.specs.Judging.{judgeStar}
 use Rattle.model.specs.Mesh.{meshOf}
@@ -38,12 +37,11 @@ use Rattle.stl.specs.Written.{wrote, written-plain, written-count}
 use Rattle.stl.specs.RoundTrip.{write-read, corner-back, read-write}
 use Rattle.promises.specs.Left.{Laid, Lent, answered, left}
 use Rattle.promises.specs.Orders.{inOrder, Numbered, Judged}
-use Rattle.promises.specs.Promises.{cellCount}
 use Rattle.promises.specs.Stl.{stlWritingJudges, stlReadingJudges, StlIsAnswered, StlFiles, verticesLeft, trianglesLeft, WritableAsStl, StlPromises}
 use Rattle.promises.specs.Judges.{_&_, judged, one-or-other, Refuses, by-unless, by-first, buffer-number}
 use Rattle.promises.specs.ReadBack.{is-laid, each-at}
 use Rattle.promises.specs.Extracted.{passed, equal-mesh}
-use Rattle.promises.specs.Room.{enough}
+use Rattle.promises.specs.LargerKept.{triangles-few}
 
 -- ---- writing
 
@@ -136,13 +134,6 @@ module _ (vertices : List Float) (triangles : List ℕ) (few : judgeMany (triang
 
 -- ---- the definition's mesh, in lists as extraction leaves them
 
-cells-few : (n mask : ℕ) → n ≤ mostSubdivisions → mask ≤ mostMask
-    → cellCount n mask ≤ mostSubdivisions * mostSubdivisions * (mostSubdivisions + sideCount)
-cells-few n mask few sides =
-    let named : ones mask ≤ sideCount = ones-le sideCount mask (omega arith) in
-    let more : n + ones mask ≤ mostSubdivisions + sideCount = omega arith in
-    mul-le-mul (mul-le-mul few few) more
-
 module _ (s : Star) where
   abbrev floats : List Float
   floats = each vertexFloats (meshOf s .made)
@@ -171,9 +162,10 @@ module _ (s : Star) where
       corner t h k small l = rw (each-at triangleIndices 3 (λ t. refl) (meshOf s .triangles) t k noTriangle 0 h small, vertex-count) l
 
   few-triangles : judgeStar s ≡ Passed → triangleCount indices ≤ mostTriangles
+  unfolding ones onesIn
   few-triangles e =
       let shape = star-shaped s e in
-      omega (arith, triangle-count, enough s (shape .sides) .triangles, cells-few (subdivisions s) (s .mask) (shape .few) (shape .sides))
+      omega (arith, triangle-count, triangles-few s (shape .few) (shape .sides))
 
 to-stl : (s : Star) (lent : Lent) (c : Counts) → answered s lent ≡ Extraction.Mesh c
     → WritableAsStl (verticesLeft c (left s lent)) (trianglesLeft c (left s lent)) (c .triangles)

@@ -102,6 +102,7 @@ fn main() {
     run_file(b"read3", false);
     run_file(b"read4", false);
     run_file(b"read5", false);
+    run_file(b"read6", false);
     run_file(b"faces0", false);
     run_file(b"faces1", false);
     run_file(b"write0", true);

@@ -6,8 +6,8 @@
 //   3  the bits of the vertices' numbers
 //   4  the triangles' indices
 //   5  the index store's places that are not 0, each with its index
-// A record is read and then meshed. A block is meshed as it stands: so extraction meets what the reader would have refused, and the
-// largest block, of 16 subdivisions and six finer neighbours, whose record is too long for an array.
+// A record is read and then meshed. A block is meshed as it stands: so extraction meets what the reader would have refused, and
+// blocks whose records are too long for an array: 16 and 17 subdivisions with six finer neighbours, and 33 and 64 alone.
 ghost use Prim.Native.Nat.{_≤_};
 ghost use lib.ListN.{length};
 use crate::agreement::MARK;
@@ -243,24 +243,41 @@ fn is_record(vector: &[u8]) -> bool {
     number(part(vector, 0), 0) == 0
 }
 
-fn agrees(vector: &[u8], samples: &mut [f32]) -> bool {
+// 16 subdivisions have a store of 31,744 places, and 64 one of 1,294,336.
+const STORE: usize = 31750;
+
+const LARGER_STORE: usize = 1294340;
+
+fn agrees(vector: &[u8], samples: &mut [f32], store: &mut [u32]) -> bool {
     let mark = float_of(MARK);
-    let mut store = [MARK; 31750];
     let mut vertices = [mark; 5000];
     let mut triangles = [MARK; 4000];
-    call_agrees(vector, samples, &mut store, &mut vertices, &mut triangles)
+    call_agrees(vector, samples, store, &mut vertices, &mut triangles)
+}
+
+fn larger_agrees(vector: &[u8], samples: &mut [f32]) -> bool {
+    let mut store = [MARK; LARGER_STORE];
+    agrees(vector, samples, &mut store)
+}
+
+fn stored_agrees(vector: &[u8], samples: &mut [f32]) -> bool {
+    if STORE < number(part(vector, 0), 1) {
+        return larger_agrees(vector, samples);
+    }
+    let mut store = [MARK; STORE];
+    agrees(vector, samples, &mut store)
 }
 
 // The longest record has 6,647 samples.
 fn record_passes(vector: &[u8]) -> bool {
     let mut samples = [float_of(MARK); 6650];
-    agrees(vector, &mut samples)
+    stored_agrees(vector, &mut samples)
 }
 
-// The largest block and its six neighbours have 261,473 samples.
+// 17 subdivisions and six neighbours have 309,126 samples, and 64 alone 299,975.
 fn block_passes(vector: &[u8]) -> bool {
-    let mut samples = [float_of(MARK); 261480];
-    agrees(vector, &mut samples)
+    let mut samples = [float_of(MARK); 309130];
+    stored_agrees(vector, &mut samples)
 }
 
 pub fn passes(vector: &[u8]) -> bool {

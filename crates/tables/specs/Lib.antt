@@ -11,6 +11,7 @@ pub mod Listed
 pub mod Sides
 pub mod RulesEdges
 pub mod RulesCorners
+pub mod RulesMade
 pub mod RulesSides
 pub mod RulesTransition
 pub mod RulesBorder

@@ -1,4 +1,4 @@
--- `counting::count_regular_cells` meets its contract: what each layer adds is added up.
+-- `counting::count_regular_cells` meets its contract: what each layer adds is added up, and the pairs go with the walk.
 use native.Mathlib.Omega.{arith}
 use borrow.Author.Needs.{needs}
 use Prim.Native.Nat.{ℕ, _-_, _*_, _≤_}
@@ -10,19 +10,51 @@ use Rattle.laws.specs.Steps.{iterate}
 use Rattle.model.specs.Star.{star}
 use Rattle.model.specs.Mesh.{regularLayer}
 use Rattle.cases.specs.Sheets.{sheetPlaces}
+use Rattle.cases.specs.Pairs.{pointBit, Upper}
+use Rattle.cases.specs.PairLaws.{no-pairs, pairs-upper}
 use Rattle.cells.specs.declared.SheetIndex.the-variants.{Layer}
 use Rattle.cells.specs.Puts.{Few}
-use Rattle.algorithm.specs.Passes.{Grows}
-use Rattle.algorithm.proofs.Walk.{sheet-numbered}
+use Rattle.algorithm.specs.Passes.{Held, Grows}
+use Rattle.algorithm.proofs.Walk.{held-sheeted}
 use Rattle.algorithm.proofs.Growth.{few-none, few-more, few-of, plus-fits, grows-none, grows-more}
 use Rattle.algorithm.proofs.counting.count_regular_cells.Statement.{statement}
 use Rattle.algorithm.proofs.counting.count_regular_cells.Tie as tie
 
 abbrev Inv-loop : tie.InvT-loop
-Inv-loop header centre n classes cells codes cases₀ counts₀ x₀ cases counts x = (x ≤ n) × ((length cases ≡ sheetPlaces) × (Few (sheetPlaces * x) counts × ((ns : List Float) → Grows (iterate (regularLayer (star header centre ns)) x) counts)))
+Inv-loop header centre n classes cells codes pairs₀ cases₀ marks₀ counts₀ x₀ none pairs cases marks counts x =
+    (x ≤ n)
+    × (((length pairs ≡ sheetPlaces) × ((length cases ≡ sheetPlaces) × (length marks ≡ sheetPlaces)))
+    × (Upper n (pointBit (star header centre []) x) pairs
+    × (Few (sheetPlaces * x) counts × ((ns : List Float) → Grows (iterate (regularLayer (star header centre ns)) x) counts))))
 
 abbrev μ-loop : tie.MeasureT-loop
-μ-loop header centre n classes cells codes cases₀ counts₀ x₀ cases counts x = n - x
+μ-loop header centre n classes cells codes pairs₀ cases₀ marks₀ counts₀ x₀ none pairs cases marks counts x = n - x
+
+-- the entry, from the place where the tables are fetched, and from the loop's test
+abbrev entry : tie.After-regular-vertex-data Inv-loop μ-loop → tie.Start Inv-loop μ-loop
+entry c = c .before .before .before .before
+
+abbrev tables : tie.At-loop Inv-loop μ-loop → tie.After-regular-vertex-data Inv-loop μ-loop
+tables c = c .before .before .before .before
+
+-- the turn of the loop in which a layer is filled
+abbrev turn : tie.After-layer-cases Inv-loop μ-loop → tie.In-loop Inv-loop μ-loop
+turn c = c .before .before .before .before
+
+-- the pairs, the sheet and its marks are as long as they were
+still-long : (c : tie.After-layer-cases Inv-loop μ-loop) → let after = c .layer-cases .last .1 .1 .1 in
+    (length (after .0) ≡ sheetPlaces) × ((length (after .1 .0) ≡ sheetPlaces) × (length (after .1 .1 .0) ≡ sheetPlaces))
+still-long c =
+    let kept = c .layer-cases .kept .1 .1 .1 in
+    let before = turn c .before .loop .inv .1 .0 in
+    (kept .0 ∙ before .0, (kept .1 .0 ∙ before .1 .0, kept .1 .1 .0 ∙ before .1 .1))
+
+-- the sheet and its marks hold the layer, whatever the neighbours are
+held : (c : tie.After-layer-cases Inv-loop μ-loop) (ns : List Float) → let l = turn c .before .loop in
+    let a = entry (tables (turn c .before)) .args in
+    let after = c .layer-cases .last .1 .1 .1 .1 in
+    Held (star (a .header) (a .centre .now) ns) (Layer (l .x)) (a .header .block .subdivisions) (after .0) [] (after .1 .0)
+held c ns = record { numbers = c .layer-cases .ensures .1 .0 ns; marked = c .layer-cases .ensures .1 .1 ns }
 
 regular-cell-class-requires : tie.Need-regular-cell-class-requires Inv-loop μ-loop
 regular-cell-class-requires c κs = search needs
@@ -33,21 +65,41 @@ regular-cell-data-requires c κs = search needs
 regular-vertex-data-requires : tie.Need-regular-vertex-data-requires Inv-loop μ-loop
 regular-vertex-data-requires c κs = search needs
 
--- the sheet is as long as it was
-still-long : (c : tie.After-layer-cases Inv-loop μ-loop) → length (c .layer-cases .last .1 .1 .1 .0) ≡ sheetPlaces
-still-long c = c .layer-cases .kept .1 .1 .1 .0 ∙ c .before .before .before .loop .inv .1 .0
+slice-aggregate-pair-layer : tie.Need-slice-aggregate-pair-layer Inv-loop μ-loop
+slice-aggregate-pair-layer c = sym (length-replicate {A = ℕ} sheetPlaces 0)
+
+pair-layer-requires : tie.Need-pair-layer-requires Inv-loop μ-loop
+pair-layer-requires c κs = (entry (c .before) .pre, (omega arith, length-replicate {A = ℕ} sheetPlaces 0))
 
 loop-holds : tie.Need-loop-holds Inv-loop μ-loop
-loop-holds c = (omega arith, (length-replicate {A = ℕ} sheetPlaces 0, (few-of _ (omega arith) few-none, λ ns. grows-none)))
+loop-holds c =
+    let layer = c .before .pair-layer in
+    let few = entry (c .before .before .before) .pre .0 in
+    let long = length-replicate {A = ℕ} sheetPlaces 0 in (
+      omega arith,
+      (
+        (layer .kept .1 .1 .1 .0 ∙ long, (long, long)),
+        (
+          pairs-upper (layer .ensures (λ y z. 0) (no-pairs _ few)) (λ y z. omega arith),
+          (few-of _ (omega arith) few-none, λ ns. grows-none),
+        ),
+      ),
+    )
 
 slice-aggregate-layer-cases : tie.Need-slice-aggregate-layer-cases Inv-loop μ-loop
-slice-aggregate-layer-cases c = sym (c .before .before .loop .inv .1 .0)
+slice-aggregate-layer-cases c = sym (c .before .before .loop .inv .1 .0 .0)
+
+slice-aggregate-layer-cases-2 : tie.Need-slice-aggregate-layer-cases-2 Inv-loop μ-loop
+slice-aggregate-layer-cases-2 c = sym (c .before .before .before .loop .inv .1 .0 .1 .0)
+
+slice-aggregate-layer-cases-3 : tie.Need-slice-aggregate-layer-cases-3 Inv-loop μ-loop
+slice-aggregate-layer-cases-3 c = sym (c .before .before .before .before .loop .inv .1 .0 .1 .1)
 
 layer-cases-requires : tie.Need-layer-cases-requires Inv-loop μ-loop
 layer-cases-requires c κs =
-    let l = c .before .before .loop in
-    let b = c .before .before .before .before .before .before .before in
-    (b .pre, (omega (arith, c .before .loop-test .taken), l .inv .1 .0))
+    let here = c .before .before .before in
+    let l = here .before .loop in
+    (entry (tables (here .before)) .pre, ((omega (arith, here .loop-test .taken), l .inv .1 .0), l .inv .1 .1 .0))
 
 slice-aggregate-count-sheet : tie.Need-slice-aggregate-count-sheet Inv-loop μ-loop
 slice-aggregate-count-sheet c = search needs
@@ -59,48 +111,62 @@ slice-aggregate-count-sheet-3 : tie.Need-slice-aggregate-count-sheet-3 Inv-loop 
 slice-aggregate-count-sheet-3 c = search needs
 
 slice-aggregate-count-sheet-4 : tie.Need-slice-aggregate-count-sheet-4 Inv-loop μ-loop
-slice-aggregate-count-sheet-4 c = sym (still-long (c .before .before .before .before .before))
+slice-aggregate-count-sheet-4 c = sym (still-long (c .before .before .before .before .before .before .before) .1 .0)
+
+slice-aggregate-count-sheet-5 : tie.Need-slice-aggregate-count-sheet-5 Inv-loop μ-loop
+slice-aggregate-count-sheet-5 c = search needs
+
+slice-aggregate-count-sheet-6 : tie.Need-slice-aggregate-count-sheet-6 Inv-loop μ-loop
+slice-aggregate-count-sheet-6 c = sym (still-long (c .before .before .before .before .before .before .before .before .before) .1 .1)
 
 count-sheet-requires : tie.Need-count-sheet-requires Inv-loop μ-loop
 count-sheet-requires c κs =
-    let layer = c .before .before .before .before .before in
-    let here = layer .before .before in
-    let codes = here .before .before in
-    let b = codes .before .before .before .before in (
+    let layer = c .before .before .before .before .before .before .before .before .before in
+    let codes = tables (turn layer .before) in
+    let b = entry codes in
+    let long = still-long layer .1 in (
       record { classes-are = codes .before .before .regular-cell-class .ensures; cells-are = codes .before .regular-cell-data .ensures; codes-are = codes .regular-vertex-data .ensures },
-      (
-        (b .pre .0, still-long layer),
-        sheet-numbered (star (b .args .header) (b .args .centre .now) []) (Layer (here .before .loop .x)) _ _ (layer .layer-cases .ensures []),
-      ),
+      held-sheeted (star (b .args .header) (b .args .centre .now) []) (Layer (turn layer .before .loop .x)) (held layer []) (b .pre .0) (long .0) (long .1),
     )
 
 plus-requires : tie.Need-plus-requires Inv-loop μ-loop
-plus-requires c κs = plus-fits (c .before .before .before .before .before .before .before .before .before .loop .inv .1 .1 .0) (c .count-sheet .ensures .0) (omega arith)
+plus-requires c κs =
+    let here = turn (c .before .before .before .before .before .before .before .before .before .before) in
+    plus-fits (here .before .loop .inv .1 .1 .1 .0) (c .count-sheet .ensures .0) (omega arith)
 
 add-x : tie.Need-add-x Inv-loop μ-loop
-add-x c = search needs
+add-x c =
+    let here = turn (c .before .before .before .before .before .before .before .before .before .before .before) in
+    omega (arith, here .loop-test .taken, entry (tables (here .before)) .pre .0)
 
 loop-less : tie.Need-loop-less Inv-loop μ-loop
 loop-less c = search needs
 
 loop-again : tie.Need-loop-again Inv-loop μ-loop
 loop-again c =
-    let layer = c .before .before .before .before .before .before .before in
-    let l = layer .before .before .before .loop in
+    let layer = c .before .before .before .before .before .before .before .before .before .before .before in
+    let here = turn layer in
+    let l = here .before .loop in
     let more = c .before .count-sheet .ensures in (
-      omega arith,
+      omega (arith, here .loop-test .taken),
       (
         still-long layer,
-        rw (c .plus .ensures)
-            (few-of _ (omega arith) (few-more (l .inv .1 .1 .0) (more .0)), λ ns. grows-more _ (l .x) (l .inv .1 .1 .1 ns) (more .1 _ refl (omega (arith, layer .before .before .loop-test .taken)) (layer .layer-cases .ensures ns))),
+        (
+          layer .layer-cases .ensures .0,
+          rw (c .plus .ensures) (
+            few-of _ (omega arith) (few-more (l .inv .1 .1 .1 .0) (more .0)),
+            λ ns. grows-more _ (l .x) (l .inv .1 .1 .1 .1 ns) (more .1 _ refl (omega (arith, here .loop-test .taken)) (held layer ns)),
+          ),
+        ),
       ),
     )
 
 returns : tie.Need-returns Inv-loop μ-loop
 returns c =
     let l = c .before .loop in
-    let e : l .x ≡ c .before .before .before .before .before .before .args .header .block .subdivisions = omega arith in
-    (few-of _ (omega arith) (l .inv .1 .1 .0), λ ns. rw e at (l .inv .1 .1 .1 ns))
+    let b = entry (tables (c .before)) in
+    let e : l .x ≡ b .args .header .block .subdivisions = omega arith in
+    (few-of _ (omega (arith, b .pre .0)) (l .inv .1 .1 .1 .0), λ ns. rw e at (l .inv .1 .1 .1 .1 ns))
 
 pub count-regular-cells-spec : {M : Type 1} → statement M
 count-regular-cells-spec =
@@ -111,13 +177,19 @@ count-regular-cells-spec =
     regular-cell-class-requires
     regular-cell-data-requires
     regular-vertex-data-requires
+    slice-aggregate-pair-layer
+    pair-layer-requires
     loop-holds
     slice-aggregate-layer-cases
+    slice-aggregate-layer-cases-2
+    slice-aggregate-layer-cases-3
     layer-cases-requires
     slice-aggregate-count-sheet
     slice-aggregate-count-sheet-2
     slice-aggregate-count-sheet-3
     slice-aggregate-count-sheet-4
+    slice-aggregate-count-sheet-5
+    slice-aggregate-count-sheet-6
     count-sheet-requires
     plus-requires
     add-x

@@ -1,88 +1,72 @@
--- `counting::count_sheet` meets its contract: what each cell that is cut adds is added up, and the others add nothing.
+-- `counting::count_sheet` meets its contract: what each row adds is added up.
+use native.Mathlib.Nat.{mul-le-mul-left}
 use native.Mathlib.Omega.{arith}
 use borrow.Author.Needs.{needs}
-use Prim.Native.Nat.{_-_, _*_, _%_, _≤_, _<_}
-use mathlib.Core.Path.{_≡_}
-use Rattle.model.specs.Star.{Star, subdivisions}
-use Rattle.cases.specs.Sheets.{rowWidth, Sheet}
-use Rattle.cells.specs.SheetCells.{caseAt, sheetCell}
+use Prim.Native.Nat.{_+_, _-_, _*_, _≤_}
+use Rattle.model.specs.Limits.{mostSubdivisions}
+use Rattle.model.specs.Star.{Star}
+use Rattle.cases.specs.RowPlaces.{rows-fit}
+use Rattle.cells.specs.SheetCells.{sheetCell}
 use Rattle.cells.specs.Puts.{Few}
-use Rattle.algorithm.specs.Passes.{sheetTo, Grows}
-use Rattle.algorithm.proofs.Walk.{sheet-of, scan-as}
-use Rattle.algorithm.proofs.Growth.{few-none, few-more, few-of, plus-fits, grows-start, grows-on, sheet-grows}
+use Rattle.algorithm.specs.Passes.{Held, rowsTo, Grows}
+use Rattle.algorithm.proofs.Growth.{few-none, few-more, few-of, plus-fits, grows-none, grows-more, sheet-grows}
 use Rattle.algorithm.proofs.counting.count_sheet.Statement.{statement}
 use Rattle.algorithm.proofs.counting.count_sheet.Tie as tie
 
 abbrev Inv-loop : tie.InvT-loop
-Inv-loop n sheet classes cells codes cases all end counts₀ i₀ counts i = ((i ≤ rowWidth * n) × (i < rowWidth * n → i % rowWidth < n)) × (Few i counts × ((s : Star) → subdivisions s ≡ n → Sheet (caseAt s sheet) n n cases → Grows (λ m. sheetTo (sheetCell s sheet) n m i) counts))
+Inv-loop n sheet classes cells codes layer side marks counts₀ u₀ counts u =
+    (u ≤ n) × (Few (n * u) counts × ((s : Star) → Held s sheet n layer side marks → Grows (rowsTo (sheetCell s sheet) n u) counts))
 
 abbrev μ-loop : tie.MeasureT-loop
-μ-loop n sheet classes cells codes cases all end counts₀ i₀ counts i = rowWidth * n - i
+μ-loop n sheet classes cells codes layer side marks counts₀ u₀ counts u = n - u
 
--- the entry, from the place of the first scan
-abbrev entry : tie.After-next-cut Inv-loop μ-loop → tie.Start Inv-loop μ-loop
-entry c = c .before .before .before .before .before .before
+-- the entry, from the loop's test
+abbrev entry : tie.At-loop Inv-loop μ-loop → tie.Start Inv-loop μ-loop
+entry c = c .before .before .before .before .before .before .before
 
-all-inside-requires : tie.Need-all-inside-requires Inv-loop μ-loop
-all-inside-requires c κs = search needs
+-- the cells of all rows, and of those so far
+all-rows : (c : tie.At-loop Inv-loop μ-loop) → let n = entry c .args .n in n * (n + 1) ≤ mostSubdivisions * (mostSubdivisions + 1)
+all-rows c = rows-fit (entry c .args .n) (entry c .pre .1 .few)
 
-mul-end : tie.Need-mul-end Inv-loop μ-loop
-mul-end c = search needs
-
-next-cut-requires : tie.Need-next-cut-requires Inv-loop μ-loop
-next-cut-requires c κs = search needs
+so-far : (c : tie.At-loop Inv-loop μ-loop) → let n = entry c .args .n in n * c .loop .u ≤ n * n
+so-far c = mul-le-mul-left (entry c .args .n) (c .loop .inv .0)
 
 loop-holds : tie.Need-loop-holds Inv-loop μ-loop
-loop-holds c =
-    let next = scan-as (c .before .all-inside .ensures) (c .next-cut .ensures) in
-    ((next .within, next .is-cell), (few-of _ (omega arith) few-none, λ s e there. grows-start (sheet-of s (entry c .args .sheet) _ _ there) _ next))
+loop-holds c = (omega arith, (few-of _ (omega arith) few-none, λ s held. grows-none))
 
-mul-count-sheet-cell : tie.Need-mul-count-sheet-cell Inv-loop μ-loop
-mul-count-sheet-cell c = search needs
-
-shared-slice-read-count-sheet-cell :
-    tie.Need-shared-slice-read-count-sheet-cell Inv-loop μ-loop
-shared-slice-read-count-sheet-cell c = search needs
-
-count-sheet-cell-requires : tie.Need-count-sheet-cell-requires Inv-loop μ-loop
-count-sheet-cell-requires c κs =
-    let here = c .before in
-    let b = entry (here .before .before) in
-    let below = here .loop-test .taken in
-    (b .pre .0, b .pre .1 .1 .number-at (here .before .loop .i) below (here .before .loop .inv .0 .1 below))
+count-row-requires : tie.Need-count-row-requires Inv-loop μ-loop
+count-row-requires c κs =
+    let b = entry (c .before) in
+    (b .pre .0, (omega (arith, c .loop-test .taken), b .pre .1))
 
 plus-requires : tie.Need-plus-requires Inv-loop μ-loop
-plus-requires c κs = plus-fits (c .before .before .before .loop .inv .1 .0) (c .count-sheet-cell .ensures .0) (omega arith)
+plus-requires c κs =
+    let looped = c .before .before in
+    plus-fits (looped .loop .inv .1 .0) (c .count-row .ensures .0) (omega (arith, all-rows looped, so-far looped))
 
-add-next-cut : tie.Need-add-next-cut Inv-loop μ-loop
-add-next-cut c = search needs
-
-next-cut-requires-2 : tie.Need-next-cut-requires-2 Inv-loop μ-loop
-next-cut-requires-2 c κs = search needs
+add-u : tie.Need-add-u Inv-loop μ-loop
+add-u c = search needs
 
 loop-less : tie.Need-loop-less Inv-loop μ-loop
-loop-less c = omega (arith, c .next-cut2 .ensures .between .ordered, c .before .before .before .before .loop-test .taken)
+loop-less c = search needs
 
 loop-again : tie.Need-loop-again Inv-loop μ-loop
 loop-again c =
-    let here = c .before .before .before .before in
+    let here = c .before .before in
     let l = here .before .loop in
-    let next = scan-as (here .before .before .before .all-inside .ensures) (c .next-cut2 .ensures) in
-    let more = c .before .before .count-sheet-cell .ensures in
-    let below = here .loop-test .taken in (
-      (next .within, next .is-cell),
-      rw (c .before .plus .ensures) (
-        few-of _ (omega (arith, next .between .ordered)) (few-more (l .inv .1 .0) (more .0)),
-        λ s e there. grows-on (sheet-of s (entry (here .before .before) .args .sheet) _ _ there) (l .i) _ _ _ below (l .inv .0 .1 below) next (l .inv .1 .1 s e there) (more .1 s),
-      ),
+    let more = c .before .count-row .ensures in (
+      omega (arith, here .loop-test .taken),
+      rw (c .plus .ensures)
+          (few-of _ (omega arith) (few-more (l .inv .1 .0) (more .0)), λ s held. grows-more _ (l .u) (l .inv .1 .1 s held) (more .1 s held)),
     )
 
 returns : tie.Need-returns Inv-loop μ-loop
 returns c =
-    let l = c .before .loop in
-    let a = entry (c .before .before) .args in (
-      few-of _ (omega arith) (l .inv .1 .0),
-      λ s e is there. sheet-grows s (a .n) (l .i) e (omega arith) (omega arith) (a .sheet) is (l .inv .1 .1 s e there),
+    let looped = c .before in
+    let l = looped .loop in
+    let a = entry looped .args in (
+      few-of _ (omega (arith, all-rows looped, so-far looped)) (l .inv .1 .0),
+      λ s e is held. sheet-grows s (a .n) (l .u) e (omega arith) (a .sheet) is (l .inv .1 .1 s held),
     )
 
 pub count-sheet-spec : {M : Type 1} → statement M
@@ -91,16 +75,10 @@ count-sheet-spec =
     (tie.spec
     Inv-loop
     μ-loop
-    all-inside-requires
-    mul-end
-    next-cut-requires
     loop-holds
-    mul-count-sheet-cell
-    shared-slice-read-count-sheet-cell
-    count-sheet-cell-requires
+    count-row-requires
     plus-requires
-    add-next-cut
-    next-cut-requires-2
+    add-u
     loop-less
     loop-again
     returns)

@@ -4,27 +4,29 @@ use mathlib.Core.Path.{_≡_, refl, sym, _∙_}
 use mathlib.Core.Bool.{true}
 use native.Mathlib.Omega.{arith}
 use borrow.Author.Needs.{needs}
+use mathlib.Core.List.{[]}
 use lib.ListN.{length, length-replicate}
 use Rattle.model.specs.Limits.{sideCount}
 use Rattle.model.specs.Sides.{named}
 use Rattle.model.specs.Star.{Star, star}
 use Rattle.model.specs.Mesh.{transitionTo}
 use Rattle.cases.specs.Sheets.{sheetPlaces}
-use Rattle.algorithm.specs.Passes.{Holds, SameLengths}
-use Rattle.algorithm.proofs.Walk.{transition-start, transition-skip, transition-end}
+use Rattle.cells.specs.declared.SheetIndex.the-variants.{Side}
+use Rattle.algorithm.specs.Passes.{Held, Holds, SameLengths}
+use Rattle.algorithm.proofs.Walk.{transition-start, transition-skip, transition-end, held-sheeted}
 use Rattle.algorithm.proofs.Holding.{same-then, fits-still}
 use Rattle.algorithm.proofs.writing.write_named_sides.Statement.{statement}
 use Rattle.algorithm.proofs.writing.write_named_sides.Tie as tie
 
 abbrev Inv-loop : tie.InvT-loop
-Inv-loop header fractions centre neighbours counts₀ store₀ vertices₀ triangles₀ mask classes cells codes cases₀ side₀ counts store vertices triangles cases side =
+Inv-loop header fractions centre neighbours counts₀ store₀ vertices₀ triangles₀ mask classes cells codes cases₀ marks₀ side₀ none counts store vertices triangles cases marks side =
     ((side ≤ sideCount) × (side < sideCount → named mask side ≡ true))
-    × ((length cases ≡ sheetPlaces)
+    × (((length cases ≡ sheetPlaces) × (length marks ≡ sheetPlaces))
     × (SameLengths vertices₀ vertices triangles₀ triangles store₀ store
     × Holds (transitionTo (star header centre neighbours) side 0 0) counts vertices triangles store))
 
 abbrev μ-loop : tie.MeasureT-loop
-μ-loop header fractions centre neighbours counts₀ store₀ vertices₀ triangles₀ mask classes cells codes cases₀ side₀ counts store vertices triangles cases side = sideCount - side
+μ-loop header fractions centre neighbours counts₀ store₀ vertices₀ triangles₀ mask classes cells codes cases₀ marks₀ side₀ none counts store vertices triangles cases marks side = sideCount - side
 
 -- the entry, from a turn of the loop
 abbrev Entry : Type 0
@@ -40,9 +42,25 @@ starOf b = star (b .args .header) (b .args .centre .now) (b .args .neighbours .n
 below : (c : tie.In-loop Inv-loop μ-loop) → c .before .loop .side < sideCount
 below c = omega (arith, c .loop-test .taken)
 
--- the sheet is as long as it was
-still-long : (c : tie.After-face-cases Inv-loop μ-loop) → length (c .face-cases .last .1 .1 .1 .0) ≡ sheetPlaces
-still-long c = c .face-cases .kept .1 .1 .1 .0 ∙ c .before .before .before .loop .inv .1 .0
+-- the turn of the loop in which a side is filled
+abbrev turn : tie.After-face-cases Inv-loop μ-loop → tie.In-loop Inv-loop μ-loop
+turn c = c .before .before .before
+
+-- the sheet and its marks are as long as they were
+still-long : (c : tie.After-face-cases Inv-loop μ-loop) → let after = c .face-cases .last .1 .1 .1 in
+    (length (after .0) ≡ sheetPlaces) × (length (after .1 .0) ≡ sheetPlaces)
+still-long c =
+    let kept = c .face-cases .kept .1 .1 .1 in
+    let before = turn c .before .loop .inv .1 .0 in
+    (kept .0 ∙ before .0, kept .1 .0 ∙ before .1)
+
+-- they hold the side
+held : (c : tie.After-face-cases Inv-loop μ-loop) → let b = start (turn c) in
+    let after = c .face-cases .last .1 .1 .1 in
+    Held (starOf b) (Side (turn c .before .loop .side)) (b .args .header .block .subdivisions) [] (after .0) (after .1 .0)
+held c =
+    let centre = start (turn c) .args .centre .now in
+    record { numbers = c .face-cases .ensures .0 centre; marked = c .face-cases .ensures .1 centre }
 
 transition-cell-class-requires : tie.Need-transition-cell-class-requires Inv-loop μ-loop
 transition-cell-class-requires c κs = search needs
@@ -63,7 +81,7 @@ loop-holds c =
     let next = c .next-side .ensures in (
       (next .le-six, next .is-named),
       (
-        length-replicate {A = ℕ} sheetPlaces 0,
+        (length-replicate {A = ℕ} sheetPlaces 0, length-replicate {A = ℕ} sheetPlaces 0),
         (
           record { vertices-same = refl; triangles-same = refl; store-same = refl },
           rw (← transition-skip (starOf b) 0 _ next, transition-start) (b .pre .1 .1),
@@ -72,11 +90,14 @@ loop-holds c =
     )
 
 slice-aggregate-face-cases : tie.Need-slice-aggregate-face-cases Inv-loop μ-loop
-slice-aggregate-face-cases c = sym (c .before .before .loop .inv .1 .0)
+slice-aggregate-face-cases c = sym (c .before .before .loop .inv .1 .0 .0)
+
+slice-aggregate-face-cases-2 : tie.Need-slice-aggregate-face-cases-2 Inv-loop μ-loop
+slice-aggregate-face-cases-2 c = sym (c .before .before .before .loop .inv .1 .0 .1)
 
 face-cases-requires : tie.Need-face-cases-requires Inv-loop μ-loop
 face-cases-requires c κs =
-    let here = c .before in
+    let here = c .before .before in
     let l = here .before .loop in
     let shaped = start here .pre .0 .0 in (
       record { few = shaped .few; sides = shaped .sides; side-is = below here; is-named = l .inv .0 .1 (below here); neighbours-are = shaped .neighbours-are },
@@ -93,12 +114,19 @@ slice-aggregate-write-sheet-3 : tie.Need-slice-aggregate-write-sheet-3 Inv-loop 
 slice-aggregate-write-sheet-3 c = search needs
 
 slice-aggregate-write-sheet-4 : tie.Need-slice-aggregate-write-sheet-4 Inv-loop μ-loop
-slice-aggregate-write-sheet-4 c = sym (still-long (c .before .before .before .before .before))
+slice-aggregate-write-sheet-4 c = search needs
+
+slice-aggregate-write-sheet-5 : tie.Need-slice-aggregate-write-sheet-5 Inv-loop μ-loop
+slice-aggregate-write-sheet-5 c = sym (still-long (c .before .before .before .before .before .before .before) .0)
+
+slice-aggregate-write-sheet-6 : tie.Need-slice-aggregate-write-sheet-6 Inv-loop μ-loop
+slice-aggregate-write-sheet-6 c = sym (still-long (c .before .before .before .before .before .before .before .before) .1)
 
 write-sheet-requires : tie.Need-write-sheet-requires Inv-loop μ-loop
 write-sheet-requires c κs =
-    let filled = c .before .before .before .before .before .before .before .before in
-    let here = filled .before .before in
+    let filled = c .before .before .before .before .before .before .before .before .before .before .before in
+    let here = turn filled in
+    let long = still-long filled in
     let codes = here .before .before .before in
     let b = start here in
     let l = here .before .loop in (
@@ -106,28 +134,28 @@ write-sheet-requires c κs =
       (
         b .pre .0,
         (
-          (still-long filled, filled .face-cases .ensures (b .args .centre .now)),
+          (held-sheeted (starOf b) (Side (l .side)) (held filled) (b .pre .0 .0 .few) (long .0) (long .1), held filled),
           ((below here, l .inv .0 .1 (below here)), (fits-still (l .inv .1 .1 .0) (b .pre .1 .0), l .inv .1 .1 .1)),
         ),
       ),
     )
 
 add-next-side : tie.Need-add-next-side Inv-loop μ-loop
-add-next-side c = omega (arith, c .before .before .before .before .before .before .before .before .before .before .before .before .before .before .before .before .before .loop-test .taken)
+add-next-side c = omega (arith, turn (c .before .before .before .before .before .before .before .before .before .before .before .before .before .before .before .before .before .before) .loop-test .taken)
 
 next-side-requires-2 : tie.Need-next-side-requires-2 Inv-loop μ-loop
 next-side-requires-2 c κs =
-    let here = c .before .before .before .before .before .before .before .before .before .before .before .before .before .before .before .before .before in
+    let here = turn (c .before .before .before .before .before .before .before .before .before .before .before .before .before .before .before .before .before .before) in
     (start here .pre .0 .0 .sides, omega (arith, here .loop-test .taken))
 
 loop-less : tie.Need-loop-less Inv-loop μ-loop
-loop-less c = omega (arith, c .next-side2 .ensures .from-le, c .before .before .before .before .before .before .before .before .before .before .before .before .before .before .before .before .before .before .loop-test .taken)
+loop-less c = omega (arith, c .next-side2 .ensures .from-le, turn (c .before .before .before .before .before .before .before .before .before .before .before .before .before .before .before .before .before .before .before) .loop-test .taken)
 
 loop-again : tie.Need-loop-again Inv-loop μ-loop
 loop-again c =
     let put = c .before .before .before .before .before .before .before in
-    let filled = put .before .before .before .before .before .before .before .before .before in
-    let here = filled .before .before in
+    let filled = put .before .before .before .before .before .before .before .before .before .before .before .before in
+    let here = turn filled in
     let l = here .before .loop in
     let w = put .write-sheet in
     let next = c .next-side2 .ensures in (
@@ -136,11 +164,7 @@ loop-again c =
         still-long filled,
         (
           same-then (l .inv .1 .1 .0)
-              record {
-                vertices-same = w .kept .1 .1 .1 .1 .1 .1 .1 .1 .1 .1 .1 .0;
-                triangles-same = w .kept .1 .1 .1 .1 .1 .1 .1 .1 .1 .1 .1 .1 .0;
-                store-same = w .kept .1 .1 .1 .1 .1 .1 .1 .1 .1 .1 .0;
-              },
+              record { vertices-same = omega (arith, w .kept); triangles-same = omega (arith, w .kept); store-same = omega (arith, w .kept) },
           rw (← transition-skip (starOf (start here)) (l .side + 1) _ next) (w .ensures),
         ),
       ),
@@ -173,11 +197,14 @@ write-named-sides-spec =
     next-side-requires
     loop-holds
     slice-aggregate-face-cases
+    slice-aggregate-face-cases-2
     face-cases-requires
     slice-aggregate-write-sheet
     slice-aggregate-write-sheet-2
     slice-aggregate-write-sheet-3
     slice-aggregate-write-sheet-4
+    slice-aggregate-write-sheet-5
+    slice-aggregate-write-sheet-6
     write-sheet-requires
     add-next-side
     next-side-requires-2

@@ -3,25 +3,27 @@ use Prim.Native.Nat.{ℕ, _-_, _≤_}
 use mathlib.Core.Path.{_≡_, refl, sym, _∙_}
 use native.Mathlib.Omega.{arith}
 use borrow.Author.Needs.{needs}
+use mathlib.Core.List.{[]}
 use lib.ListN.{length, length-replicate}
 use Rattle.model.specs.Star.{Star, star}
 use Rattle.model.specs.Mesh.{regularTo}
 use Rattle.cases.specs.Sheets.{sheetPlaces}
-use Rattle.algorithm.specs.Passes.{Holds, SameLengths}
-use Rattle.algorithm.proofs.Walk.{regular-start, regular-end}
+use Rattle.cells.specs.declared.SheetIndex.the-variants.{Layer}
+use Rattle.algorithm.specs.Passes.{Held, Holds, SameLengths}
+use Rattle.algorithm.proofs.Walk.{regular-start, regular-end, held-sheeted}
 use Rattle.algorithm.proofs.Holding.{holds-none, same-then, fits-still}
 use Rattle.algorithm.proofs.writing.write_regular_cells.Statement.{statement}
 use Rattle.algorithm.proofs.writing.write_regular_cells.Tie as tie
 
 abbrev Inv-loop : tie.InvT-loop
-Inv-loop header fractions centre neighbours store₀ vertices₀ triangles₀ n classes cells codes cases₀ counts₀ x₀ store vertices triangles cases counts x =
+Inv-loop header fractions centre neighbours store₀ vertices₀ triangles₀ n classes cells codes cases₀ marks₀ counts₀ x₀ none store vertices triangles cases marks counts x =
     (x ≤ n)
-    × ((length cases ≡ sheetPlaces)
+    × (((length cases ≡ sheetPlaces) × (length marks ≡ sheetPlaces))
     × (SameLengths vertices₀ vertices triangles₀ triangles store₀ store
     × Holds (regularTo (star header centre neighbours) x 0 0) counts vertices triangles store))
 
 abbrev μ-loop : tie.MeasureT-loop
-μ-loop header fractions centre neighbours store₀ vertices₀ triangles₀ n classes cells codes cases₀ counts₀ x₀ store vertices triangles cases counts x = n - x
+μ-loop header fractions centre neighbours store₀ vertices₀ triangles₀ n classes cells codes cases₀ marks₀ counts₀ x₀ none store vertices triangles cases marks counts x = n - x
 
 -- the entry, from a turn of the loop
 abbrev Entry : Type 0
@@ -33,9 +35,25 @@ start c = c .before .before .before .before .before .before .before .before .bef
 abbrev starOf : Entry → Star
 starOf b = star (b .args .header) (b .args .centre .now) (b .args .neighbours .now)
 
--- the sheet is as long as it was
-still-long : (c : tie.After-layer-cases Inv-loop μ-loop) → length (c .layer-cases .last .1 .1 .1 .0) ≡ sheetPlaces
-still-long c = c .layer-cases .kept .1 .1 .1 .0 ∙ c .before .before .before .loop .inv .1 .0
+-- the turn of the loop in which a layer is filled
+abbrev turn : tie.After-layer-cases Inv-loop μ-loop → tie.In-loop Inv-loop μ-loop
+turn c = c .before .before .before
+
+-- the sheet and its marks are as long as they were
+still-long : (c : tie.After-layer-cases Inv-loop μ-loop) → let after = c .layer-cases .last .1 .1 .1 in
+    (length (after .0) ≡ sheetPlaces) × (length (after .1 .0) ≡ sheetPlaces)
+still-long c =
+    let kept = c .layer-cases .kept .1 .1 .1 in
+    let before = turn c .before .loop .inv .1 .0 in
+    (kept .0 ∙ before .0, kept .1 .0 ∙ before .1)
+
+-- they hold the layer
+held : (c : tie.After-layer-cases Inv-loop μ-loop) → let b = start (turn c) in
+    let after = c .layer-cases .last .1 .1 .1 in
+    Held (starOf b) (Layer (turn c .before .loop .x)) (b .args .header .block .subdivisions) (after .0) [] (after .1 .0)
+held c =
+    let neighbours = start (turn c) .args .neighbours .now in
+    record { numbers = c .layer-cases .ensures .0 neighbours; marked = c .layer-cases .ensures .1 neighbours }
 
 regular-cell-class-requires : tie.Need-regular-cell-class-requires Inv-loop μ-loop
 regular-cell-class-requires c κs = search needs
@@ -52,7 +70,7 @@ loop-holds c =
     let a = b .args in (
       omega arith,
       (
-        length-replicate {A = ℕ} sheetPlaces 0,
+        (length-replicate {A = ℕ} sheetPlaces 0, length-replicate {A = ℕ} sheetPlaces 0),
         (
           record { vertices-same = refl; triangles-same = refl; store-same = refl },
           rw (regular-start (starOf b), b .pre .1 .1) (holds-none (a .header .block .subdivisions) (a .vertices .now) (a .triangles .now)),
@@ -61,11 +79,14 @@ loop-holds c =
     )
 
 slice-aggregate-layer-cases : tie.Need-slice-aggregate-layer-cases Inv-loop μ-loop
-slice-aggregate-layer-cases c = sym (c .before .before .loop .inv .1 .0)
+slice-aggregate-layer-cases c = sym (c .before .before .loop .inv .1 .0 .0)
+
+slice-aggregate-layer-cases-2 : tie.Need-slice-aggregate-layer-cases-2 Inv-loop μ-loop
+slice-aggregate-layer-cases-2 c = sym (c .before .before .before .loop .inv .1 .0 .1)
 
 layer-cases-requires : tie.Need-layer-cases-requires Inv-loop μ-loop
 layer-cases-requires c κs =
-    let here = c .before in
+    let here = c .before .before in
     let shaped = start here .pre .0 .0 in
     ((shaped .few, shaped .centre-is), (omega (arith, here .loop-test .taken), here .before .loop .inv .1 .0))
 
@@ -79,12 +100,19 @@ slice-aggregate-write-sheet-3 : tie.Need-slice-aggregate-write-sheet-3 Inv-loop 
 slice-aggregate-write-sheet-3 c = search needs
 
 slice-aggregate-write-sheet-4 : tie.Need-slice-aggregate-write-sheet-4 Inv-loop μ-loop
-slice-aggregate-write-sheet-4 c = sym (still-long (c .before .before .before .before .before))
+slice-aggregate-write-sheet-4 c = sym (still-long (c .before .before .before .before .before .before) .0)
+
+slice-aggregate-write-sheet-5 : tie.Need-slice-aggregate-write-sheet-5 Inv-loop μ-loop
+slice-aggregate-write-sheet-5 c = search needs
+
+slice-aggregate-write-sheet-6 : tie.Need-slice-aggregate-write-sheet-6 Inv-loop μ-loop
+slice-aggregate-write-sheet-6 c = sym (still-long (c .before .before .before .before .before .before .before .before) .1)
 
 write-sheet-requires : tie.Need-write-sheet-requires Inv-loop μ-loop
 write-sheet-requires c κs =
-    let filled = c .before .before .before .before .before .before .before .before in
-    let here = filled .before .before in
+    let filled = c .before .before .before .before .before .before .before .before .before .before .before in
+    let here = turn filled in
+    let long = still-long filled in
     let codes = here .before .before in
     let b = start here in
     let l = here .before .loop in (
@@ -92,7 +120,7 @@ write-sheet-requires c κs =
       (
         b .pre .0,
         (
-          (still-long filled, filled .layer-cases .ensures (b .args .neighbours .now)),
+          (held-sheeted (starOf b) (Layer (l .x)) (held filled) (b .pre .0 .0 .few) (long .0) (long .1), held filled),
           (omega (arith, here .loop-test .taken), (fits-still (l .inv .1 .1 .0) (b .pre .1 .0), l .inv .1 .1 .1)),
         ),
       ),
@@ -100,17 +128,17 @@ write-sheet-requires c κs =
 
 add-x : tie.Need-add-x Inv-loop μ-loop
 add-x c =
-    let here = c .before .before .before .before .before .before .before .before .before .before .before .before .before .before .before .before .before in
+    let here = turn (c .before .before .before .before .before .before .before .before .before .before .before .before .before .before .before .before .before .before) in
     omega (arith, here .loop-test .taken, start here .pre .0 .0 .few)
 
 loop-less : tie.Need-loop-less Inv-loop μ-loop
-loop-less c = omega (arith, c .before .before .before .before .before .before .before .before .before .before .before .before .before .before .before .before .before .loop-test .taken)
+loop-less c = omega (arith, turn (c .before .before .before .before .before .before .before .before .before .before .before .before .before .before .before .before .before .before) .loop-test .taken)
 
 loop-again : tie.Need-loop-again Inv-loop μ-loop
 loop-again c =
     let put = c .before .before .before .before .before .before in
-    let filled = put .before .before .before .before .before .before .before .before .before in
-    let here = filled .before .before in
+    let filled = put .before .before .before .before .before .before .before .before .before .before .before .before in
+    let here = turn filled in
     let l = here .before .loop in
     let w = put .write-sheet in (
       omega (arith, here .loop-test .taken),
@@ -118,11 +146,7 @@ loop-again c =
         still-long filled,
         (
           same-then (l .inv .1 .1 .0)
-              record {
-                vertices-same = w .kept .1 .1 .1 .1 .1 .1 .1 .1 .1 .1 .1 .0;
-                triangles-same = w .kept .1 .1 .1 .1 .1 .1 .1 .1 .1 .1 .1 .1 .0;
-                store-same = w .kept .1 .1 .1 .1 .1 .1 .1 .1 .1 .1 .0;
-              },
+              record { vertices-same = omega (arith, w .kept); triangles-same = omega (arith, w .kept); store-same = omega (arith, w .kept) },
           w .ensures,
         ),
       ),
@@ -154,11 +178,14 @@ write-regular-cells-spec =
     regular-vertex-data-requires
     loop-holds
     slice-aggregate-layer-cases
+    slice-aggregate-layer-cases-2
     layer-cases-requires
     slice-aggregate-write-sheet
     slice-aggregate-write-sheet-2
     slice-aggregate-write-sheet-3
     slice-aggregate-write-sheet-4
+    slice-aggregate-write-sheet-5
+    slice-aggregate-write-sheet-6
     write-sheet-requires
     add-x
     loop-less

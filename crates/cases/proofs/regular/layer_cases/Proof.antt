@@ -1,66 +1,27 @@
--- `regular::layer_cases` meets its contract. The loop's invariant: the rows passed are written.
-use native.Mathlib.Omega.{arith}
+-- `regular::layer_cases` meets its contract: the marks are those of the numbers.
 use borrow.Author.Needs.{needs}
-use Prim.Native.Nat.{_-_, _≤_}
-use mathlib.Core.Path.{_≡_, _∙_}
-use mathlib.Core.List.{List}
-use lib.Ieee.{Float}
-use lib.ListN.{length}
-use Rattle.model.specs.Star.{star}
-use Rattle.model.specs.Points.{regularCase}
-use Rattle.cases.specs.Sheets.{sheetPlaces, Sheet}
-use Rattle.cases.proofs.Rows.{no-row, one-more-row}
+use Rattle.cases.specs.Marks.{allRegular}
+use Rattle.cases.proofs.Marking.{marked-sheet}
 use Rattle.cases.proofs.regular.layer_cases.Statement.{statement}
 use Rattle.cases.proofs.regular.layer_cases.Tie as tie
 
-abbrev Inv-loop : tie.InvT-loop
-Inv-loop header centre x cases₀ n y₀ cases y = (y ≤ n) × ((length cases ≡ sheetPlaces) × ((ns : List Float) → Sheet (regularCase (star header centre ns) x) n y cases))
+layer-rows-requires : tie.Need-layer-rows-requires
+layer-rows-requires c κs = search needs
 
-abbrev μ-loop : tie.MeasureT-loop
-μ-loop header centre x cases₀ n y₀ cases y = n - y
+mark-layer-requires : tie.Need-mark-layer-requires
+mark-layer-requires c κs = search needs
 
-loop-holds : tie.Need-loop-holds Inv-loop μ-loop
-loop-holds c = (omega arith, (omega arith, λ ns. no-row _ _ _))
+same-length : tie.Need-same-length
+same-length c = search needs
 
-row-requires : tie.Need-row-requires Inv-loop μ-loop
-row-requires c κs = search needs
+same-length-2 : tie.Need-same-length-2
+same-length-2 c = search needs
 
-add-y : tie.Need-add-y Inv-loop μ-loop
-add-y c = search needs
-
-loop-less : tie.Need-loop-less Inv-loop μ-loop
-loop-less c = search needs
-
-loop-again : tie.Need-loop-again Inv-loop μ-loop
-loop-again c =
-    let l = c .before .before .before .before .before .loop in
-    let written = c .before .before .row in (
-      omega arith,
-      (
-        written .kept .1 .1 .1 .1 .0 ∙ l .inv .1 .0,
-        λ ns. one-more-row _ _ (l .y) (l .cases) _ (omega arith) (written .ensures ns) (l .inv .1 .1 ns),
-      ),
-    )
-
-same-length : tie.Need-same-length Inv-loop μ-loop
-same-length c = omega arith
-
-returns : tie.Need-returns Inv-loop μ-loop
+returns : tie.Need-returns
 returns c =
-    let l = c .before .loop in
-    let e : l .y ≡ c .before .before .before .before .args .header .block .subdivisions = omega arith in
-    λ ns. rw e at (l .inv .1 .1 ns)
+    let rows = c .before .before .before .before .before .before .before .layer-rows .ensures in
+    (rows, λ ns. marked-sheet allRegular _ _ _ _ _ (rows ns) (c .before .before .mark-layer .ensures))
 
 pub layer-cases-spec : {M : Type 1} → statement M
 layer-cases-spec =
-    tie.close
-    (tie.spec
-    Inv-loop
-    μ-loop
-    loop-holds
-    row-requires
-    add-y
-    loop-less
-    loop-again
-    same-length
-    returns)
+    tie.close (tie.spec layer-rows-requires mark-layer-requires same-length same-length-2 returns)

@@ -1,10 +1,16 @@
 -- `regular::row` meets its contract: its four lines are those at the corners of the cells.
 use Rattle.model.specs.Star.{star}
+use native.Mathlib.Omega.{arith}
+use Rattle.cases.specs.RowPlaces.{row-fits}
 use Rattle.cases.proofs.Rows.{row-as}
 use Rattle.cases.proofs.Lines.{case-is}
 use borrow.Author.Needs.{needs}
 use Rattle.cases.proofs.regular.row.Statement.{statement}
 use Rattle.cases.proofs.regular.row.Tie as tie
+
+-- the entry
+abbrev entry : tie.After-line4 → tie.Start
+entry c = c .before .before .before .before .before .before
 
 line-requires : tie.Need-line-requires
 line-requires c κs = search needs
@@ -30,11 +36,20 @@ add-line-4 c = search needs
 line-requires-4 : tie.Need-line-requires-4
 line-requires-4 c κs = search needs
 
+add-row-between : tie.Need-add-row-between
+add-row-between c = search needs
+
 mul-row-between : tie.Need-mul-row-between
-mul-row-between c = search needs
+mul-row-between c = let p = entry (c .before) .pre in omega (arith, row-fits _ _ (p .0 .0) (p .1 .1 .0))
 
 row-between-requires : tie.Need-row-between-requires
-row-between-requires c κs = search needs
+row-between-requires c κs =
+    let lines = c .before in
+    let p = entry lines .pre in
+    let a = lines .before .before .before .line .ensures in
+    let b = lines .before .before .line2 .ensures in
+    let d = lines .before .line3 .ensures in
+    ((p .0 .0, omega (arith, row-fits _ _ (p .0 .0) (p .1 .1 .0))), ((a .long, (b .long, (d .long, lines .line4 .ensures .long))), p .1 .1 .1))
 
 same-length : tie.Need-same-length
 same-length c = search needs
@@ -42,7 +57,7 @@ same-length c = search needs
 returns : tie.Need-returns
 returns c =
     let lines = c .before .before .before .before in
-    let a = lines .before .before .before .before .before .before .args in
+    let a = entry lines .args in
     λ ns.
     row-as
     (case-is (star (a .header) (a .centre .now) ns) (a .x) (a .y) _ _ _ _ (lines .before .before .before .line .ensures) (lines .before .before .line2 .ensures)
@@ -60,6 +75,7 @@ row-spec =
     add-line-3
     add-line-4
     line-requires-4
+    add-row-between
     mul-row-between
     row-between-requires
     same-length

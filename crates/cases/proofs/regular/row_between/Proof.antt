@@ -1,22 +1,29 @@
--- `regular::row_between` meets its contract. The loop's invariant: the places passed hold their cells' numbers.
+-- `regular::row_between` meets its contract. The loop's invariant: whatever row was begun, the places passed hold their cells' numbers.
 use native.Mathlib.Omega.{arith}
 use borrow.Author.Needs.{needs}
-use Prim.Native.Nat.{_-_, _≤_}
+use Prim.Native.Nat.{ℕ, _-_, _≤_}
 use mathlib.Core.Path.{_≡_, refl}
+use mathlib.Core.List.{List}
 use lib.ListN.{length, length-set}
 use Rattle.cases.specs.Sheets.{lineCase, RowPut}
-use Rattle.cases.proofs.Rows.{none-put, one-more}
+use Rattle.cases.proofs.Rows.{one-more}
 use Rattle.cases.proofs.regular.row_between.Statement.{statement}
 use Rattle.cases.proofs.regular.row_between.Tie as tie
 
 abbrev Inv-loop : tie.InvT-loop
-Inv-loop n threshold a b c d cases₀ start z₀ cases z = (z ≤ n) × ((length cases ≡ length cases₀) × RowPut (lineCase threshold a b c d) start z cases₀ cases)
+Inv-loop n threshold a b c d cases₀ start z₀ cases z =
+    (z ≤ n)
+    × ((length cases ≡ length cases₀)
+    × ((before : List ℕ) → RowPut (lineCase threshold a b c d) start z₀ before cases₀ → RowPut (lineCase threshold a b c d) start z before cases))
 
 abbrev μ-loop : tie.MeasureT-loop
 μ-loop n threshold a b c d cases₀ start z₀ cases z = n - z
 
+by-sixteens-requires : tie.Need-by-sixteens-requires Inv-loop μ-loop
+by-sixteens-requires c κs = search needs
+
 loop-holds : tie.Need-loop-holds Inv-loop μ-loop
-loop-holds c = (omega arith, (refl, none-put _ _ _))
+loop-holds c = (c .before .before .by-sixteens .ensures .0, (refl, λ before put. put))
 
 four-requires : tie.Need-four-requires Inv-loop μ-loop
 four-requires c κs = search needs
@@ -36,9 +43,6 @@ cast-cases c = search needs
 add-cases : tie.Need-add-cases Inv-loop μ-loop
 add-cases c = search needs
 
-mul-cases : tie.Need-mul-cases Inv-loop μ-loop
-mul-cases c = search needs
-
 slice-write-cases : tie.Need-slice-write-cases Inv-loop μ-loop
 slice-write-cases c = search needs
 
@@ -50,10 +54,13 @@ loop-less c = search needs
 
 loop-again : tie.Need-loop-again Inv-loop μ-loop
 loop-again c =
-    let l = c .before .before .before .loop in
-    let a = c .before .before .before .before .before .before .before .before .before .args in
-    let more = one-more _ (a .start) (l .z) _ (a .cases .now) (l .cases) (l .inv .1 .1) (omega arith) in
-    (omega arith, (rw length-set (l .inv .1 .0), more (omega (arith, c .before .four .ensures .0, c .four2 .ensures .0))))
+    let l = c .before .before .before .loop in (
+      omega arith,
+      (
+        rw length-set (l .inv .1 .0),
+        λ before put. one-more _ _ (l .z) _ before (l .cases) (l .inv .1 .1 before put) (omega arith) (omega (arith, c .before .four .ensures .0, c .four2 .ensures .0)),
+      ),
+    )
 
 same-length : tie.Need-same-length Inv-loop μ-loop
 same-length c = omega arith
@@ -61,8 +68,9 @@ same-length c = omega arith
 returns : tie.Need-returns Inv-loop μ-loop
 returns c =
     let l = c .before .loop in
-    let e : l .z ≡ c .before .before .before .before .before .before .before .args .n = omega arith in
-    rw e at (l .inv .1 .1)
+    let made = c .before .before .before .before .by-sixteens .ensures in
+    let e : l .z ≡ c .before .before .before .before .before .before .before .before .before .before .before .args .n = omega arith in
+    rw e at (l .inv .1 .1 _ (made .1))
 
 pub row-between-spec : {M : Type 1} → statement M
 row-between-spec =
@@ -70,6 +78,7 @@ row-between-spec =
     (tie.spec
     Inv-loop
     μ-loop
+    by-sixteens-requires
     loop-holds
     four-requires
     add-four
@@ -77,7 +86,6 @@ row-between-spec =
     four-requires-2
     cast-cases
     add-cases
-    mul-cases
     slice-write-cases
     add-z
     loop-less

@@ -1,23 +1,28 @@
--- `transition::face_cases` meets its contract. The loop's invariant: the rows passed are written.
+-- `transition::face_cases` meets its contract. The loop's invariant: the rows passed have their numbers and marks.
 use native.Mathlib.Omega.{arith}
 use borrow.Author.Needs.{needs}
-use Prim.Native.Nat.{_-_, _≤_}
-use mathlib.Core.Path.{_≡_, _∙_}
+use Prim.Native.Nat.{ℕ, _-_, _≤_}
+use mathlib.Core.Path.{_≡_}
 use mathlib.Core.List.{List}
 use lib.Ieee.{Float}
 use lib.ListN.{length}
 use Rattle.model.specs.Star.{star}
 use Rattle.model.specs.Points.{transitionCase}
 use Rattle.cases.specs.Sheets.{sheetPlaces, Sheet}
+use Rattle.cases.specs.Marks.{allTransition, markOf}
 use Rattle.cases.proofs.Rows.{no-row, one-more-row}
 use Rattle.cases.proofs.transition.face_cases.Statement.{statement}
 use Rattle.cases.proofs.transition.face_cases.Tie as tie
 
 abbrev Inv-loop : tie.InvT-loop
-Inv-loop header neighbours side cases₀ n fine walk u₀ cases u = (u ≤ n) × ((length cases ≡ sheetPlaces) × ((centre : List Float) → Sheet (transitionCase (star header centre neighbours) side) n u cases))
+Inv-loop header neighbours side cases₀ marks₀ n fine walk u₀ cases marks u =
+    (u ≤ n)
+    × (((length cases ≡ sheetPlaces) × ((centre : List Float) → Sheet (transitionCase (star header centre neighbours) side) n u cases))
+    × ((length marks ≡ sheetPlaces)
+    × ((centre : List Float) → Sheet (λ (j k : ℕ). markOf allTransition (transitionCase (star header centre neighbours) side j k)) n u marks)))
 
 abbrev μ-loop : tie.MeasureT-loop
-μ-loop header neighbours side cases₀ n fine walk u₀ cases u = n - u
+μ-loop header neighbours side cases₀ marks₀ n fine walk u₀ cases marks u = n - u
 
 neighbour-requires : tie.Need-neighbour-requires Inv-loop μ-loop
 neighbour-requires c κs = search needs
@@ -32,15 +37,15 @@ face-walk-requires : tie.Need-face-walk-requires Inv-loop μ-loop
 face-walk-requires c κs = (omega arith, omega arith)
 
 loop-holds : tie.Need-loop-holds Inv-loop μ-loop
-loop-holds c = (omega arith, (omega arith, λ ns. no-row _ _ _))
+loop-holds c = (omega arith, ((omega arith, λ ns. no-row _ _ _), (omega arith, λ ns. no-row _ _ _)))
 
 row-requires : tie.Need-row-requires Inv-loop μ-loop
 row-requires c κs =
-    let start = c .before .before .before .before .before .before .before in
-    let there = start .pre .0 in
-    let side = c .before .before .before .before .neighbour .ensures in
-    let l = c .before .before .loop in
-    ((there .few, side .1), ((there .side-is, c .before .before .before .face-walk .ensures), (omega arith, l .inv .1 .0)))
+    let l = c .before .before .before .loop in
+    let walk = c .before .before .before .before .face-walk .ensures in
+    let side = c .before .before .before .before .before .neighbour .ensures in
+    let there = c .before .before .before .before .before .before .before .before .before .pre .0 in
+    ((there .few, side .1), ((there .side-is, walk), (omega arith, (l .inv .1 .0 .0, l .inv .1 .1 .0))))
 
 add-u : tie.Need-add-u Inv-loop μ-loop
 add-u c = search needs
@@ -50,24 +55,27 @@ loop-less c = search needs
 
 loop-again : tie.Need-loop-again Inv-loop μ-loop
 loop-again c =
-    let l = c .before .before .before .before .before .loop in
-    let written = c .before .before .row in
-    let side = c .before .before .before .before .before .before .before .neighbour .ensures in (
+    let written = c .before .before .before .before .row in
+    let l = c .before .before .before .before .before .before .before .before .loop in
+    let side = c .before .before .before .before .before .before .before .before .before .before .neighbour .ensures .0 in (
       omega arith,
       (
-        written .kept .1 .1 .1 .1 .1 .0 ∙ l .inv .1 .0,
-        λ centre. one-more-row _ _ (l .u) (l .cases) _ (omega arith) (written .ensures centre _ (side .0)) (l .inv .1 .1 centre),
+        (omega arith, λ centre. one-more-row _ _ (l .u) (l .cases) _ (written .ensures .0 centre _ side) (l .inv .1 .0 .1 centre)),
+        (omega arith, λ centre. one-more-row _ _ (l .u) (l .marks) _ (written .ensures .1 centre _ side) (l .inv .1 .1 .1 centre)),
       ),
     )
 
 same-length : tie.Need-same-length Inv-loop μ-loop
 same-length c = omega arith
 
+same-length-2 : tie.Need-same-length-2 Inv-loop μ-loop
+same-length-2 c = omega arith
+
 returns : tie.Need-returns Inv-loop μ-loop
 returns c =
     let l = c .before .loop in
-    let e : l .u ≡ c .before .before .before .before .before .before .args .header .block .subdivisions = omega arith in
-    λ centre. rw e at (l .inv .1 .1 centre)
+    let e : l .u ≡ c .before .before .before .before .before .before .before .args .header .block .subdivisions = omega arith in
+    (λ centre. rw e at (l .inv .1 .0 .1 centre), λ centre. rw e at (l .inv .1 .1 .1 centre))
 
 pub face-cases-spec : {M : Type 1} → statement M
 face-cases-spec =
@@ -85,4 +93,5 @@ face-cases-spec =
     loop-less
     loop-again
     same-length
+    same-length-2
     returns)

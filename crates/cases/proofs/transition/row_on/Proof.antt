@@ -1,27 +1,31 @@
--- `transition::row_on` meets its contract. The loop's invariant: the places passed hold their cells' numbers.
+-- `transition::row_on` meets its contract. The loop's invariant: the places passed hold their cells' numbers and marks.
 use native.Mathlib.Omega.{arith}
 use borrow.Author.Needs.{needs}
 use Prim.Native.Nat.{_+_, _*_, _-_, _≤_}
-use mathlib.Core.Path.{_≡_, refl}
+use mathlib.Core.Path.{_≡_, refl, ap, _∙_}
 use lib.ListN.{length, length-set}
 use Rattle.cases.specs.Sheets.{RowPut}
+use Rattle.cases.specs.Marks.{allTransition, markOf}
 use Rattle.cases.specs.Faces.{nineInside}
 use Rattle.cases.proofs.Rows.{none-put, one-more}
 use Rattle.cases.proofs.transition.row_on.Statement.{statement}
 use Rattle.cases.proofs.transition.row_on.Tie as tie
 
 abbrev Inv-loop : tie.InvT-loop
-Inv-loop n threshold fine lines cases₀ start v₀ cases v = (v ≤ n) × ((length cases ≡ length cases₀) × RowPut (nineInside threshold fine lines) start v cases₀ cases)
+Inv-loop n threshold fine lines cases₀ marks₀ start v₀ cases marks v =
+    (v ≤ n)
+    × (((length cases ≡ length cases₀) × RowPut (nineInside threshold fine lines) start v cases₀ cases)
+    × ((length marks ≡ length marks₀) × RowPut (λ k. markOf allTransition (nineInside threshold fine lines k)) start v marks₀ marks))
 
 abbrev μ-loop : tie.MeasureT-loop
-μ-loop n threshold fine lines cases₀ start v₀ cases v = n - v
+μ-loop n threshold fine lines cases₀ marks₀ start v₀ cases marks v = n - v
 
 loop-holds : tie.Need-loop-holds Inv-loop μ-loop
-loop-holds c = (omega arith, (refl, none-put _ _ _))
+loop-holds c = (omega arith, ((refl, none-put _ _ _), (refl, none-put _ _ _)))
 
 nine-requires : tie.Need-nine-requires Inv-loop μ-loop
 nine-requires c κs =
-    let p = c .before .before .before .before .pre in
+    let p = c .before .before .before .before .before .pre in
     let v = c .before .loop .v in
     (omega arith, (p .1 (2 * v) (omega arith), (p .1 (2 * v + 1) (omega arith), p .1 (2 * v + 2) (omega arith))))
 
@@ -34,6 +38,15 @@ mul-cases c = search needs
 slice-write-cases : tie.Need-slice-write-cases Inv-loop μ-loop
 slice-write-cases c = search needs
 
+side-mark-requires : tie.Need-side-mark-requires Inv-loop μ-loop
+side-mark-requires c κs = search needs
+
+add-marks : tie.Need-add-marks Inv-loop μ-loop
+add-marks c = search needs
+
+slice-write-marks : tie.Need-slice-write-marks Inv-loop μ-loop
+slice-write-marks c = search needs
+
 add-v : tie.Need-add-v Inv-loop μ-loop
 add-v c = search needs
 
@@ -42,19 +55,30 @@ loop-less c = search needs
 
 loop-again : tie.Need-loop-again Inv-loop μ-loop
 loop-again c =
-    let l = c .before .before .loop in
-    let a = c .before .before .before .before .before .args in
-    let more = one-more (nineInside (a .threshold) (a .fine .now) (a .lines)) (a .start) (l .v) _ (a .cases .now) (l .cases) (l .inv .1 .1) (omega arith) (c .nine .ensures) in
-    (omega arith, (rw length-set (l .inv .1 .0), more))
+    let l = c .before .before .before .loop in
+    let start = c .before .before .before .before .before .before .before .args .start in
+    let number = c .before .nine .ensures in (
+      omega arith,
+      (
+        (rw length-set (l .inv .1 .0 .0), one-more _ start (l .v) _ _ (l .cases) (l .inv .1 .0 .1) (omega arith) number),
+        (
+          rw length-set (l .inv .1 .1 .0),
+          one-more _ start (l .v) _ _ (l .marks) (l .inv .1 .1 .1) (omega arith) (c .side-mark .ensures ∙ ap (markOf allTransition) number),
+        ),
+      ),
+    )
 
 same-length : tie.Need-same-length Inv-loop μ-loop
 same-length c = omega arith
 
+same-length-2 : tie.Need-same-length-2 Inv-loop μ-loop
+same-length-2 c = omega arith
+
 returns : tie.Need-returns Inv-loop μ-loop
 returns c =
     let l = c .before .loop in
-    let e : l .v ≡ c .before .before .before .before .args .n = omega arith in
-    rw e at (l .inv .1 .1)
+    let e : l .v ≡ c .before .before .before .before .before .args .n = omega arith in
+    (rw e at (l .inv .1 .0 .1), rw e at (l .inv .1 .1 .1))
 
 pub row-on-spec : {M : Type 1} → statement M
 row-on-spec =
@@ -67,8 +91,12 @@ row-on-spec =
     add-cases
     mul-cases
     slice-write-cases
+    side-mark-requires
+    add-marks
+    slice-write-marks
     add-v
     loop-less
     loop-again
     same-length
+    same-length-2
     returns)

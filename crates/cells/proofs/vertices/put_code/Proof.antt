@@ -1,59 +1,35 @@
--- `vertices::put_code` meets its contract: a vertex is made and stored, made and not stored, or taken. Assumes nothing.
-use mathlib.Core.Path.{sym, _∙_}
-use native.Mathlib.Omega.{arith}
+-- `vertices::put_code` meets its contract: a cell that touches no block face is a regular one. Assumes nothing.
+use mathlib.Core.Path.{_≡_, sym, _∙_}
 use borrow.Author.Needs.{needs}
-use Rattle.model.specs.Star.{Star, star}
-use Rattle.grid.specs.StorePlaces.{small-store}
-use Rattle.cells.proofs.Uses.{index-within, one-made, code-stored, code-loose, code-taken, back-placed, back-within}
+use Rattle.model.specs.Star.{star}
+use Rattle.cells.specs.declared.CellIndex.the-variants.{Regular}
+use Rattle.cells.specs.Inner.{Inner}
+use Rattle.cells.proofs.Inners.{inner-found, regular-usable, regular-put, inner-count}
 use Rattle.cells.proofs.vertices.put_code.Statement.{statement}
 use Rattle.cells.proofs.vertices.put_code.Tie as tie
 
--- the entry, from the place where it is known what the code says
-abbrev start : tie.After-makes → tie.Start
-start m = m .before .before .before .before .before .before .before
+-- the entry, from the place where the cell's coordinates are known
+abbrev start : tie.After-regular-at → tie.Start
+start c = c .before .before .before .before .before .before .before
 
-abbrev starOf : tie.Start → Star
-starOf b = star (b .args .header) (b .args .centre .now) (b .args .neighbours .now)
+-- they are its own, and touch no block face
+found : (c : tie.After-regular-at) → let a = start c .args in (a .at ≡ Regular (c .regular-at .result)) × Inner (a .header .block .subdivisions) (c .regular-at .result)
+found c =
+    inner-found _ (start c .args .at) _ (c .regular-at .ensures) (sym (c .before .before .is-inner .ensures) ∙ c .before .if1 .taken)
 
-reuse-index-requires : tie.Need-reuse-index-requires
-reuse-index-requires c κs = search needs
+is-inner-requires : tie.Need-is-inner-requires
+is-inner-requires c κs = search needs
 
-new-vertex-requires : tie.Need-new-vertex-requires
-new-vertex-requires c κs = search needs
+regular-at-requires : tie.Need-regular-at-requires
+regular-at-requires c κs = search needs
 
-makes-requires : tie.Need-makes-requires
-makes-requires c κs = search needs
-
-vertex-requires : tie.Need-vertex-requires
-vertex-requires c κs = search needs
-
-put-vertex-requires : tie.Need-put-vertex-requires
-put-vertex-requires c κs =
-    let m = c .before .before .before in
-    let b = start m in
+put-inner-requires : tie.Need-put-inner-requires
+put-inner-requires c κs =
+    let cell = c .before .before in
+    let b = start cell in
     let a = b .args in
-    omega (arith, b .pre .1 .1 .1, one-made (starOf b) (a .at) (a .code) _ (m .makes .ensures) (c .before .before .if1 .taken))
-
-cast-index : tie.Need-cast-index
-cast-index c = search needs
-
-add-after : tie.Need-add-after
-add-after c = search needs
-
-place-requires : tie.Need-place-requires
-place-requires c κs =
-    let m = c .before .before .before .before .before .before .before in
-    let b = start m in
-    let a = b .args in
-    (b .pre .0 .centred .parts .few, (b .pre .0 .placed, index-within (a .at) (a .code) _ (b .pre .1 .0) (m .before .before .reuse-index .ensures .0)))
-
-mul-store : tie.Need-mul-store
-mul-store c =
-    let b = start (c .before .before .before .before .before .before .before .before) in
-    omega (arith, c .place .ensures .1, small-store (b .args .header .block .subdivisions) (b .pre .0 .centred .parts .few))
-
-slice-write-store : tie.Need-slice-write-store
-slice-write-store c = omega (arith, c .place .ensures .1, start (c .before .before .before .before .before .before .before .before) .pre .1 .1 .0)
+    let made = inner-count (found cell .1) (star (a .header) (a .centre .now) (a .neighbours .now)) (a .at) (a .code) (found cell .0) in
+    (b .pre .0 .centred, ((found cell .1, regular-usable (found cell .0) (b .pre .1 .0)), (b .pre .1 .1 .0, rw made at (b .pre .1 .1 .1))))
 
 same-length : tie.Need-same-length
 same-length c = search needs
@@ -63,77 +39,34 @@ same-length-2 c = search needs
 
 returns : tie.Need-returns
 returns c =
-    let m = c .before .before .before .before .before .before .before .before in
-    let b = start m in
-    let a = b .args in
-    code-stored (starOf b) (a .at) (a .code) (a .next) _ (a .vertices .now) (a .store .now) _ (m .makes .ensures)
-    (m .before .before .reuse-index .ensures .0) _ _ _ (c .before .before .before .before .before .vertex .ensures) (c .before .before .before .before .put-vertex .ensures)
-    (m .before .new-vertex .ensures) (c .before .before .before .before .before .before .before .if1 .taken) _ (c .place .ensures .0) (c .before .if2 .taken)
+    let cell = c .before .before .before .before .before .before .before in
+    let a = start cell .args in
+    regular-put (found cell .0) (star (a .header) (a .centre .now) (a .neighbours .now)) (a .code)
+    (c .before .before .before .before .put-inner .ensures (a .neighbours .now))
+
+put-any-requires : tie.Need-put-any-requires
+put-any-requires c κs = search needs
 
 same-length-3 : tie.Need-same-length-3
 same-length-3 c = search needs
 
+same-length-4 : tie.Need-same-length-4
+same-length-4 c = search needs
+
 returns-2 : tie.Need-returns-2
-returns-2 c =
-    let m = c .before .before .before .before .before .before .before in
-    let b = start m in
-    let a = b .args in
-    code-loose (starOf b) (a .at) (a .code) (a .next) _ (a .vertices .now) (a .store .now) _ (m .makes .ensures)
-    (m .before .before .reuse-index .ensures .0) _ _ _ (c .before .before .before .before .vertex .ensures) (c .before .before .before .put-vertex .ensures)
-    (m .before .new-vertex .ensures) (c .before .before .before .before .before .before .if1 .taken) (c .if2 .left)
-
-back-requires : tie.Need-back-requires
-back-requires c κs = sym (c .before .makes .ensures) ∙ c .if1 .left
-
-place-requires-2 : tie.Need-place-requires-2
-place-requires-2 c κs =
-    let m = c .before .before in
-    let b = start m in
-    let a = b .args in
-    let own = index-within (a .at) (a .code) _ (b .pre .1 .0) (m .before .before .reuse-index .ensures .0) in (
-      b .pre .0 .centred .parts .few,
-      (
-        back-placed (a .code) (a .header .block .subdivisions) (a .at) _ (c .back .ensures) (b .pre .0 .placed),
-        back-within (a .code) _ (a .at) _ (c .back .ensures) own,
-      ),
-    )
-
-mul-taken : tie.Need-mul-taken
-mul-taken c = search needs
-
-slice-read-taken : tie.Need-slice-read-taken
-slice-read-taken c = search needs
-
-returns-3 : tie.Need-returns-3
-returns-3 c =
-    let m = c .before .before .before .before in
-    let b = start m in
-    let a = b .args in
-    code-taken (starOf b) (a .at) (a .code) (a .next) _ (a .vertices .now) (a .store .now) _ (m .makes .ensures)
-    (m .before .before .reuse-index .ensures .0) _ _ (c .before .before .back .ensures) (c .before .place2 .ensures .0)
-    (c .before .before .before .if1 .left)
+returns-2 c = search needs
 
 pub put-code-spec : {M : Type 1} → statement M
 put-code-spec =
     tie.close
     (tie.spec
-    reuse-index-requires
-    new-vertex-requires
-    makes-requires
-    vertex-requires
-    put-vertex-requires
-    cast-index
-    add-after
-    place-requires
-    mul-store
-    slice-write-store
+    is-inner-requires
+    regular-at-requires
+    put-inner-requires
     same-length
     same-length-2
     returns
+    put-any-requires
     same-length-3
-    returns-2
-    back-requires
-    place-requires-2
-    mul-taken
-    slice-read-taken
-    returns-3)
+    same-length-4
+    returns-2)

@@ -1,4 +1,4 @@
--- `grid::voxel_blocks::sample_length` meets its contract: at n up to 32 nothing wraps.
+-- `grid::voxel_blocks::sample_length` meets its contract: up to the most subdivisions of a neighbour nothing wraps.
 use native.Mathlib.Omega.{arith}
 use borrow.Author.Needs.{needs}
 use Rattle.grid.specs.Places.{Small, small}

@@ -1,0 +1,66 @@
+-- `regular::layer_rows` meets its contract. The loop's invariant: the rows passed are written.
+use native.Mathlib.Omega.{arith}
+use borrow.Author.Needs.{needs}
+use Prim.Native.Nat.{_-_, _≤_}
+use mathlib.Core.Path.{_≡_, _∙_}
+use mathlib.Core.List.{List}
+use lib.Ieee.{Float}
+use lib.ListN.{length}
+use Rattle.model.specs.Star.{star}
+use Rattle.model.specs.Points.{regularCase}
+use Rattle.cases.specs.Sheets.{sheetPlaces, Sheet}
+use Rattle.cases.proofs.Rows.{no-row, one-more-row}
+use Rattle.cases.proofs.regular.layer_rows.Statement.{statement}
+use Rattle.cases.proofs.regular.layer_rows.Tie as tie
+
+abbrev Inv-loop : tie.InvT-loop
+Inv-loop header centre x cases₀ n y₀ cases y = (y ≤ n) × ((length cases ≡ sheetPlaces) × ((ns : List Float) → Sheet (regularCase (star header centre ns) x) n y cases))
+
+abbrev μ-loop : tie.MeasureT-loop
+μ-loop header centre x cases₀ n y₀ cases y = n - y
+
+loop-holds : tie.Need-loop-holds Inv-loop μ-loop
+loop-holds c = (omega arith, (omega arith, λ ns. no-row _ _ _))
+
+row-requires : tie.Need-row-requires Inv-loop μ-loop
+row-requires c κs = search needs
+
+add-y : tie.Need-add-y Inv-loop μ-loop
+add-y c = search needs
+
+loop-less : tie.Need-loop-less Inv-loop μ-loop
+loop-less c = search needs
+
+loop-again : tie.Need-loop-again Inv-loop μ-loop
+loop-again c =
+    let l = c .before .before .before .before .before .loop in
+    let written = c .before .before .row in (
+      omega arith,
+      (
+        written .kept .1 .1 .1 .1 .0 ∙ l .inv .1 .0,
+        λ ns. one-more-row _ _ (l .y) (l .cases) _ (written .ensures ns) (l .inv .1 .1 ns),
+      ),
+    )
+
+same-length : tie.Need-same-length Inv-loop μ-loop
+same-length c = omega arith
+
+returns : tie.Need-returns Inv-loop μ-loop
+returns c =
+    let l = c .before .loop in
+    let e : l .y ≡ c .before .before .before .before .args .header .block .subdivisions = omega arith in
+    λ ns. rw e at (l .inv .1 .1 ns)
+
+pub layer-rows-spec : {M : Type 1} → statement M
+layer-rows-spec =
+    tie.close
+    (tie.spec
+    Inv-loop
+    μ-loop
+    loop-holds
+    row-requires
+    add-y
+    loop-less
+    loop-again
+    same-length
+    returns)

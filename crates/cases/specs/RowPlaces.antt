@@ -1,0 +1,28 @@
+-- Where the rows of a sheet lie: one after another, and all of them within it.
+use Prim.Native.Nat.{ℕ, _+_, _*_, _≤_, _<_}
+use native.Mathlib.Nat.{mul-le-mul, mul-le-mul-left}
+use native.Mathlib.Omega.{arith}
+use Rattle.model.specs.Limits.{mostSubdivisions}
+use Rattle.cases.specs.Sheets.{rowStart}
+
+-- a sheet has room for the rows of any block
+pub rows-fit : (n : ℕ) → n ≤ mostSubdivisions → n * (n + 1) ≤ mostSubdivisions * (mostSubdivisions + 1)
+rows-fit n few =
+    let more : n + 1 ≤ mostSubdivisions + 1 = omega arith in
+    mul-le-mul few more
+
+-- and for a layer of its points
+pub layer-fits : (n : ℕ) → n ≤ mostSubdivisions → (n + 1) * (n + 1) ≤ (mostSubdivisions + 1) * (mostSubdivisions + 1)
+layer-fits n few =
+    let more : n + 1 ≤ mostSubdivisions + 1 = omega arith in
+    mul-le-mul more more
+
+-- the places of an earlier row lie before those of a later one
+pub row-before : (n j y k : ℕ) → j < y → k ≤ n → rowStart n j + k < rowStart n y
+row-before n j y k h l =
+    let e : (n + 1) * (j + 1) ≤ (n + 1) * y = mul-le-mul-left (n + 1) (omega arith) in
+    omega arith
+
+-- a row of a sheet ends before the rows of the largest block do
+pub row-fits : (n j : ℕ) → n ≤ mostSubdivisions → j < n → rowStart n j + n < mostSubdivisions * (mostSubdivisions + 1)
+row-fits n j few h = omega (arith, rows-fit n few, row-before n j n n h (omega arith))
