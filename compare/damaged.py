@@ -53,7 +53,7 @@ class Call:
         """One fault, of a kind that some refusal is about."""
         fault = chance.randrange(12)
         if fault == 0:
-            self.n = chance.choice([0, 17, 255, 4294967295])
+            self.n = chance.choice([0, 17, 64, 65, 255, 4294967295])
         elif fault == 1:
             self.mask = chance.choice([64, 128, 255, self.mask ^ 1 << chance.randrange(6)])
         elif fault == 2:

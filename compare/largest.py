@@ -1,5 +1,5 @@
 #!/usr/bin/env python3
-"""The largest block, n = 16 with six finer neighbours, at the exact sizes of the three buffers and at one less of each.
+"""The largest block, n = 64 with six finer neighbours, at the exact sizes of the three buffers and at one less of each.
 
     python3 compare/largest.py
 
@@ -12,7 +12,7 @@ import sys
 from calling import MARK, Ours
 import reference
 
-N, MASK = 16, 63
+N, MASK = reference.LARGEST_N, reference.LARGEST_MASK
 STORE = reference.store_length(N)
 
 
@@ -20,8 +20,8 @@ def block():
     """Noise on both sides of the threshold 0; each fine face takes the centre's samples at the points they share."""
     chance = random.Random(7)
     noise = [reference.bits(k) for k in (1.0, -1.0, 0.3, -0.5)]
-    centre = [chance.choice(noise) for _ in range(reference.block_length(N))]
-    neighbours = [chance.choice(noise) for _ in range(reference.neighbours_length(N, MASK))]
+    centre = chance.choices(noise, k=reference.block_length(N))
+    neighbours = chance.choices(noise, k=reference.neighbours_length(N, MASK))
     for side in range(6):
         for u in range(N + 1):
             for v in range(N + 1):

@@ -60,7 +60,7 @@
  * No input makes a call stop the program. On the left when, on the right what the three numbers are:
  *
  * [refusals: written by tools/refusals.py from docs/refusals.tsv]
- *    1  subdivisions n not 1 to 16                          n
+ *    1  subdivisions n not 1 to 64                          n
  *    2  mask above 63                                       mask
  *    3  base, size or threshold out of range                0 to 2 base x y z, 3 size, 4 threshold
  *    4  centre length wrong                                 length wanted
@@ -119,7 +119,7 @@ extern "C" {
 #endif
 
 /* The most subdivisions, and the bits of the mask. */
-#define SIRVESHAN_MOST_SUBDIVISIONS 16
+#define SIRVESHAN_MOST_SUBDIVISIONS 64
 #define SIRVESHAN_LOW_X 1
 #define SIRVESHAN_HIGH_X 2
 #define SIRVESHAN_LOW_Y 4
@@ -127,11 +127,14 @@ extern "C" {
 #define SIRVESHAN_LOW_Z 16
 #define SIRVESHAN_HIGH_Z 32
 
-/* Bytes of stack that are enough for any call: about 40 KiB were measured (bindings/c/stack.c), and this is rounded up. */
+/*
+ * Bytes of stack that are enough for any call, at n = 64 as at n = 1: about 47 KiB were measured (bindings/c/stack.c), and this
+ * is rounded up.
+ */
 #define SIRVESHAN_STACK 65536
 
 /*
- * Lengths and places by n, 1 to 16, and mask, 0 to 63. Each is a constant expression of type size_t for constant arguments; an
+ * Lengths and places by n, 1 to 64, and mask, 0 to 63. Each is a constant expression of type size_t for constant arguments; an
  * argument may be evaluated more than once.
  */
 #define SIRVESHAN_POINTS(n) ((size_t)(n) + 1)
@@ -159,18 +162,19 @@ extern "C" {
 
 /*
  * Room that is enough for the mesh of any block with n and mask: vertices (six floats each) and triangles (three indices each).
- * Proved: at most 12 of each for a cell, of which there are n^3 regular ones and n^2 transition cells a named side (Enough, in
- * crates/promises/specs/Promises.antt).
+ * Proved (crates/promises/specs/Enough.antt): 3n (n^2 + 4n - 1) vertices and 5n^3 triangles, and for each named side 4n (2n + 1)
+ * and 12n^2 more. At n = 16 that is 15,312 and 20,480 with no finer neighbour, 27,984 and 38,912 with six; at n = 64 835,392 and
+ * 1,310,720 with none, 1,033,536 and 1,605,632 with six.
  */
-#define SIRVESHAN_CELLS(n, mask) ((size_t)(n) * (size_t)(n) * ((size_t)(n) + SIRVESHAN_SIDES(mask)))
-#define SIRVESHAN_MOST_VERTICES(n, mask) (12 * SIRVESHAN_CELLS(n, mask))
-#define SIRVESHAN_MOST_TRIANGLES(n, mask) (12 * SIRVESHAN_CELLS(n, mask))
+#define SIRVESHAN_MOST_VERTICES(n, mask)                                                                                         \
+    (3 * (size_t)(n) * ((size_t)(n) * ((size_t)(n) + 4) - 1) + SIRVESHAN_SIDES(mask) * 4 * (size_t)(n) * (2 * (size_t)(n) + 1))
+#define SIRVESHAN_MOST_TRIANGLES(n, mask) ((size_t)(n) * (size_t)(n) * (5 * (size_t)(n) + 12 * SIRVESHAN_SIDES(mask)))
 
 /* A block, which of its neighbours are finer, and where inside begins. */
 typedef struct sirveshan_header {
     float x, y, z;       /* its lowest point, the base: each finite and at most 1,048,576 in size */
     float size;          /* the length of its side: 1/1024 to 1,048,576 */
-    size_t subdivisions; /* n, 1 to 16 */
+    size_t subdivisions; /* n, 1 to 64 */
     uint8_t mask;        /* the sides with a finer neighbour, 0 to 63 */
     float threshold;     /* a sample at or above it is inside: finite and at most 1,048,576 in size */
 } sirveshan_header;
@@ -260,7 +264,7 @@ sirveshan_triangles_read sirveshan_read_stl(const uint8_t *src, size_t length, f
 #define SIRVESHAN_REFUSED UINT64_C(100)
 #define SIRVESHAN_SAMPLE_REFUSED (UINT64_C(1) << 32)
 
-/* The block's subdivisions, 1 to 16. */
+/* The block's subdivisions, 1 to 64. */
 uint64_t sirveshan_subdivisions(const uint8_t *src, size_t length);
 
 /*

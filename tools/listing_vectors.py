@@ -15,7 +15,7 @@ import sys
 from pathlib import Path
 
 import reference as ref
-from records import case_a, depth_in_rock, sampled_block
+from records import case_a, depth_in_rock, level_block, sampled_block
 
 CRATE = Path(__file__).resolve().parent.parent / "crates" / "listing_test"
 REFUSALS = {1, 2, 3, 7, 8, 9, 10, 11, 12, 13}
@@ -64,7 +64,7 @@ def refused():
         good[:-1],
         with_byte(good, 4, 2),
         with_byte(good, 5, 0),
-        with_byte(good, 5, 17),
+        with_byte(good, 5, 65),
         with_byte(good, 6, 64),
         with_word(good, 7, 0x7FC00000),
         with_word(good, 23, 0x3A7FFFFF),
@@ -75,6 +75,8 @@ def refused():
         ref.record_of(noise(12)),
         of_length(ref.LISTING_BYTES),
         of_length(ref.LISTING_BYTES + 1),
+        ref.record_of(noise(17)),
+        ref.record_of(level_block(22, 0, 0)),
     ]
 
 

@@ -95,12 +95,13 @@ def fill(pixels, nearness, corners, colour):
 
 
 def png(pixels):
+    """The bytes of a PNG with these rows of pixels."""
     rows = b"".join(b"\0" + bytes(part for pixel in row for part in pixel) for row in pixels)
 
     def chunk(kind, body):
         return struct.pack(">I", len(body)) + kind + body + struct.pack(">I", zlib.crc32(kind + body))
 
-    header = struct.pack(">IIBBBBB", WIDTH, HEIGHT, 8, 2, 0, 0, 0)
+    header = struct.pack(">IIBBBBB", len(pixels[0]), len(pixels), 8, 2, 0, 0, 0)
     return b"\x89PNG\r\n\x1a\n" + chunk(b"IHDR", header) + chunk(b"IDAT", zlib.compress(rows, 9)) + chunk(b"IEND", b"")
 
 
@@ -122,4 +123,5 @@ def main():
         sys.exit("picture.py: %s" % reason)
 
 
-main()
+if __name__ == "__main__":
+    main()

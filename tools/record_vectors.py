@@ -147,10 +147,10 @@ def damaged():
     yield with_length(record, (1 << 32) - 1)
     yield record[:4][::-1] + record[4:]
     yield from (with_byte(record, 4, version) for version in (0, 2, 255))
-    yield from (with_byte(record, 5, n) for n in (0, 2, 16, 17, 255))
+    yield from (with_byte(record, 5, n) for n in (0, 2, 16, 65, 255))
     yield from (with_byte(record, 6, mask) for mask in (0, 8, 63, 64, 255))
     yield with_byte(with_byte(record, 4, 2), 5, 0)
-    yield with_byte(with_byte(record, 5, 17), 6, 64)
+    yield with_byte(with_byte(record, 5, 65), 6, 64)
     yield with_byte(record_of(with_field(SMALL, "size", NAN)), 6, 64)
     yield record_of(with_field(with_field(SMALL, "z", NAN), "threshold", NAN))
     yield with_byte(record_of(with_field(SMALL, "threshold", NAN)), 5, 2)
@@ -197,7 +197,7 @@ def whole(vector):
 
 
 def points_of(record):
-    n = record[5] if len(record) > 5 and record[5] <= 16 else 1
+    n = record[5] if len(record) > 5 and record[5] <= 17 else 1
     line = [c for c in COORDINATES if c <= n + 2 or c == 2147483647]
     chosen = [(0, 0, 0), (n, n, n), (-1, 0, n), (n + 1, n, 0), (0, -1, n), (n, n + 1, 0), (0, n, -1), (n, 0, n + 1),
               (-1, -1, 0), (n + 1, 0, n + 1), (-2, 0, 0), (0, n + 2, 0), (0, 0, 2147483647), (-2147483648, 0, 0)]
@@ -236,16 +236,17 @@ def write_vector(block, held):
     return whole(vector + words(*block.centre, *block.neighbours) + padded(written))
 
 
+def long_enough(block):
+    return 27 + 4 * (len(block.centre) + len(block.neighbours))
+
+
 def blocks():
     """Each block with how many bytes are lent."""
-    def long_enough(block):
-        return 27 + 4 * (len(block.centre) + len(block.neighbours))
-
     for block in [case_a(), *(block_of(1, mask) for mask in range(0, 64, 3)), block_of(2, 63), block_of(4, 1), block_of(8, 0), block_of(16, 0)]:
         yield block, long_enough(block) + rng.choice([0, 1, 7])
     for block in edges():
         yield block, long_enough(block)
-    for n in (0, 17, 255, 256, 4294967295):
+    for n in (0, 65, 255, 256, 4294967295):
         yield SMALL._replace(n=n), 5000
     for mask in (0, 8, 63, 64, 255):
         yield SMALL._replace(mask=mask), 5000
@@ -254,6 +255,12 @@ def blocks():
         yield SMALL._replace(neighbours=(SMALL.neighbours + [0])[:len(SMALL.neighbours) + change]), 5000
     for held in (0, 26, 27, long_enough(SMALL) - 1, long_enough(SMALL), long_enough(SMALL) + 1):
         yield SMALL, held
+
+
+def larger():
+    """A block of more than 16 subdivisions, and a small one that says that it has more, each with the places and the bytes to lend."""
+    for block in (block_of(17, 0), SMALL._replace(n=17), SMALL._replace(n=64)):
+        yield block, len(block.centre) + 1, long_enough(block) + 1
 
 
 def files(name, vectors):
@@ -271,6 +278,9 @@ def main():
     read = [read_vector(*case) for case in records()]
     write = [write_vector(*case) for case in blocks()]
     faces = [read_vector(record_of(block), reference.samples_length(block.n, block.mask)) for block in face_blanks()]
+    for block, places, held in larger():
+        read.append(read_vector(record_of(block), places))
+        write.append(write_vector(block, held))
     for name, run in {**files("read", read), **files("write", write), **files("faces", faces)}.items():
         (DATA / name).write_bytes(run)
     print("%d records, %d blocks" % (len(read) + len(faces), len(write)))

@@ -24,7 +24,7 @@ import sys
 from pathlib import Path
 from typing import NamedTuple
 
-LARGEST_N = 16
+LARGEST_N = 64
 LARGEST_MASK = 63
 LIMIT = 1048576.0
 LEAST_SIZE = 1 / 1024

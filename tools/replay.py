@@ -265,9 +265,9 @@ def seeded_blocks(count):
     return short[:count]
 
 
-def crossing_bars(x, y, z):
+def crossing_bars(x, y, z, width=0.9):
     """Three bars that cross in the middle of a block and leave it by all six sides."""
-    return 1.0 if sum(abs(k - records.SIZE / 2) < 0.9 for k in (x, y, z)) >= 2 else -0.25
+    return 1.0 if sum(abs(k - records.SIZE / 2) < width for k in (x, y, z)) >= 2 else -0.25
 
 
 # The vectors
@@ -306,10 +306,24 @@ def fits(lent):
 
 
 def add_largest(vectors):
-    """16 subdivisions: alone as a record, and with all six sides as a block."""
+    """16 subdivisions, the most of document 01: alone as a record, and with all six sides as a block."""
     face = records.sampled_block(records.depth_in_rock, 16, 0)
     vectors.record(ref.record_of(face), exact(vectors.mesh(face)), len(face.centre))
     bars = records.sampled_block(crossing_bars, 16, 63)
+    for lent, number in fits(exact(vectors.mesh(bars))):
+        assert vectors.block(bars, lent) == number
+
+
+def add_larger(vectors):
+    """More than 16 subdivisions: alone, with points inside at three corners and within; and 17 with all six sides."""
+    for n in (17, 33, 64):
+        inside = [(0, 0, 0), (n, n, n), (n, 0, n // 2), (1, 2, n - 1)]
+        alone = with_samples(records.level_block(n, 0, ref.bits(-1.0)),
+                             [(ref.sample_place(n, point), ONE) for point in inside])
+        lent = exact(vectors.mesh(alone))
+        assert vectors.block(alone, lent) == 0
+        assert vectors.block(alone, lent._replace(store=lent.store - 1)) == 9
+    bars = records.sampled_block(lambda *point: crossing_bars(*point, width=0.7), 17, 63)
     for lent, number in fits(exact(vectors.mesh(bars))):
         assert vectors.block(bars, lent) == number
 
@@ -327,7 +341,7 @@ def record_faults():
     return {
         11: [b"", whole[:26], whole[:-1], whole + b"\0", put(3, bytes([whole[3] + 1]))],
         12: [put(4, bytes([byte])) for byte in (0, 2, 255)],
-        1: [put(5, bytes([n])) for n in (0, 17, 255)],
+        1: [put(5, bytes([n])) for n in (0, 65, 255)],
         2: [put(6, bytes([mask])) for mask in (64, 128, 255)],
         3: [put(place, words([pattern])) for place in (11, 15, 19, 23, 7) for pattern in TOO_LARGE]
            + [put(23, words([pattern])) for pattern in (ZERO, LEAST_SIZE - 1, ONE | MINUS_ZERO)],
@@ -378,7 +392,7 @@ def block_faults():
     few = records.level_block(2, 0b101010, ZERO, HALF)
     lengths = sorted({0, 1, *(k * one + more for k in range(1, 7) for more in (-1, 0))})
     return {
-        1: [block._replace(n=n) for n in (0, 17, 255, 4294967295)],
+        1: [block._replace(n=n) for n in (0, 65, 255, 4294967295)],
         2: [block._replace(mask=mask) for mask in (64, 128, 255)],
         3: base + numbers + sizes,
         4: [block._replace(centre=[ZERO] * length) for length in (0, 80, 82)],
@@ -457,6 +471,7 @@ def main():
     add_meshes(vectors)
     add_level_blocks(vectors)
     add_largest(vectors)
+    add_larger(vectors)
     add_record_refusals(vectors)
     add_block_refusals(vectors)
     add_ledge(vectors)

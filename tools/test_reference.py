@@ -127,7 +127,9 @@ class Extraction(unittest.TestCase):
 
     def test_1_2(self):
         self.refused(case_a()._replace(n=0, mask=64), Refusal(1, 0))
-        self.refused(case_a()._replace(n=17), Refusal(1, 17))
+        self.refused(case_a()._replace(n=65), Refusal(1, 65))
+        for n in (17, 64):
+            self.refused(case_a()._replace(n=n), Refusal(4, reference.block_length(n)))
         self.refused(case_a()._replace(mask=64, size=ZERO), Refusal(2, 64))
 
     def test_3(self):
@@ -197,7 +199,7 @@ class Records(unittest.TestCase):
                                (11, Refusal(3, 0))):
             worse = with_number(worse, place, INFINITY)
             expected.append((worse, refusal))
-        for place, byte, refusal in ((6, 64, Refusal(2, 64)), (5, 17, Refusal(1, 17)),
+        for place, byte, refusal in ((6, 64, Refusal(2, 64)), (5, 65, Refusal(1, 65)),
                                      (4, 2, Refusal(12, 2)), (3, 0, Refusal(11))):
             worse = with_byte(worse, place, byte)
             expected.append((worse, refusal))
@@ -216,7 +218,7 @@ class Records(unittest.TestCase):
 
     def test_writer(self):
         self.assertEqual(reference.write(case_a(), bytearray(154)), Refusal(14, 155))
-        self.assertEqual(reference.write(case_a()._replace(n=17), bytearray()), Refusal(1, 17))
+        self.assertEqual(reference.write(case_a()._replace(n=65), bytearray()), Refusal(1, 65))
         block = flat_block(1, 1)
         block.neighbours[0] = NAN
         self.assertEqual(reference.write(block, bytearray()), Refusal(7, 32))

@@ -93,7 +93,7 @@ static void ranges(void)
     c.header.subdivisions = 0;
     expect_refused("n = 0", c, 1, 0, 0, 0);
     c.header.subdivisions = SIRVESHAN_MOST_SUBDIVISIONS + 1;
-    expect_refused("n = 17", c, 1, SIRVESHAN_MOST_SUBDIVISIONS + 1, 0, 0);
+    expect_refused("n = 65", c, 1, SIRVESHAN_MOST_SUBDIVISIONS + 1, 0, 0);
     c.header.subdivisions = SIZE_MAX;
     expect_refused("n far above", c, 1, SIZE_MAX, 0, 0);
     c = case_a();
@@ -255,19 +255,19 @@ static void directions(void)
 /* The largest lengths, as the calls themselves tell them. */
 static void largest(void)
 {
-    enum { CENTRE = SIRVESHAN_CENTRE_LENGTH(16), REST = SIRVESHAN_NEIGHBOURS_LENGTH(16, 63) };
+    enum { N = SIRVESHAN_MOST_SUBDIVISIONS, CENTRE = SIRVESHAN_CENTRE_LENGTH(N), REST = SIRVESHAN_NEIGHBOURS_LENGTH(N, 63) };
     struct call c = case_a();
-    c.header.subdivisions = 16;
+    c.header.subdivisions = N;
     c.header.mask = 63;
     c.centre = calloc(CENTRE, sizeof *c.centre);
     c.neighbours = calloc(REST + 1, sizeof *c.neighbours);
-    c.store_length = SIRVESHAN_STORE_LENGTH(16) - 1;
+    c.store_length = SIRVESHAN_STORE_LENGTH(N) - 1;
     expect_refused("largest centre", c, 4, CENTRE, 0, 0);
     c.centre_length = CENTRE;
     c.neighbours_length = REST + 1;
     expect_refused("largest neighbours", c, 6, REST, 0, 0);
     c.neighbours_length = REST;
-    expect_refused("largest store", c, 9, SIRVESHAN_STORE_LENGTH(16), 0, 0);
+    expect_refused("largest store", c, 9, SIRVESHAN_STORE_LENGTH(N), 0, 0);
     free(c.centre);
     free(c.neighbours);
 }

@@ -112,8 +112,8 @@ static void not_written(void)
 {
     size_t centre = SIRVESHAN_CENTRE_LENGTH(N);
     sirveshan_header h = header();
-    h.subdivisions = 17;
-    expect_not_written("subdivisions", h, centre, BYTES, 1, 17);
+    h.subdivisions = SIRVESHAN_MOST_SUBDIVISIONS + 1;
+    expect_not_written("subdivisions", h, centre, BYTES, 1, SIRVESHAN_MOST_SUBDIVISIONS + 1);
     h = header();
     h.size = -1;
     expect_not_written("size", h, centre, BYTES, 3, 3);

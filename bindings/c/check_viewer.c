@@ -216,7 +216,7 @@ static void damaged(void)
     expect_word_refused("length off by one", 0, HEADER + 4 * 32 - 3, 11);
     expect_byte_refused("version", 4, 2, 12);
     expect_byte_refused("no subdivisions", 5, 0, 1);
-    expect_byte_refused("17 subdivisions", 5, 17, 1);
+    expect_byte_refused("65 subdivisions", 5, SIRVESHAN_MOST_SUBDIVISIONS + 1, 1);
     expect_byte_refused("other subdivisions", 5, 2, 13);
     expect_byte_refused("mask 64", 6, 64, 2);
     expect_byte_refused("other mask", 6, 1, 13);

@@ -10,11 +10,11 @@
 
 #include "field.h"
 
-enum { STACK = 1 << 20, PAINT = 0xc7, SAMPLES = 300000 };
+enum { STACK = 1 << 20, PAINT = 0xc7, MOST = SIRVESHAN_MOST_SUBDIVISIONS, SAMPLES = SIRVESHAN_SAMPLES_LENGTH(MOST, 63) };
 
-static float samples[SAMPLES], vertices[6 * SIRVESHAN_MOST_VERTICES(16, 63)], positions[9 * SIRVESHAN_MOST_TRIANGLES(16, 63)];
-static uint32_t store[SIRVESHAN_STORE_LENGTH(16)], triangles[3 * SIRVESHAN_MOST_TRIANGLES(16, 63)];
-static uint8_t bytes[SIRVESHAN_RECORD_LENGTH(16, 63)], file[SIRVESHAN_STL_LENGTH(SIRVESHAN_MOST_TRIANGLES(16, 63))];
+static float samples[SAMPLES], vertices[6 * SIRVESHAN_MOST_VERTICES(MOST, 63)], positions[9 * SIRVESHAN_MOST_TRIANGLES(MOST, 63)];
+static uint32_t store[SIRVESHAN_STORE_LENGTH(MOST)], triangles[3 * SIRVESHAN_MOST_TRIANGLES(MOST, 63)];
+static uint8_t bytes[SIRVESHAN_RECORD_LENGTH(MOST, 63)], file[SIRVESHAN_STL_LENGTH(SIRVESHAN_MOST_TRIANGLES(MOST, 63))];
 static size_t subdivisions;
 static uint8_t mask;
 static uint8_t *painted;
@@ -77,15 +77,16 @@ static size_t measured(size_t n, uint8_t sides)
 
 int main(void)
 {
+    static const size_t sizes[6] = {1, 6, 11, 16, 33, MOST};
     static const uint8_t masks[3] = {0, 1, 63};
     size_t n, k, most = 0;
     void *stack;
     if (posix_memalign(&stack, 4096, STACK))
         abort();
     painted = stack;
-    for (n = 1; n <= 16; n += 5)
+    for (n = 0; n < 6; n++)
         for (k = 0; k < 3; k++) {
-            size_t now = measured(n, masks[k]);
+            size_t now = measured(sizes[n], masks[k]);
             most = now > most ? now : most;
         }
     printf("%zu bytes of stack at most; the header says %d\n", most, SIRVESHAN_STACK);

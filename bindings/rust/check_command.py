@@ -125,7 +125,7 @@ def check_examples():
 
 def check_all_sizes():
     chance = random.Random(2)
-    for n, mask in [(1, 63), (2, 0), (3, 0b101010), (5, 0b000100), (12, 0), (13, 1), (16, 0)]:
+    for n, mask in [(1, 63), (2, 0), (3, 0b101010), (5, 0b000100), (12, 0), (13, 1), (16, 0), (17, 1), (33, 0)]:
         record = reference.record_of(noise(chance, n, mask))
         accepted(run("mesh", "-", given=record), reference.mesh_text(record))
 

@@ -4,7 +4,7 @@
 use crate::Header;
 
 /// The most subdivisions that a block may have.
-pub const MOST_SUBDIVISIONS: usize = 16;
+pub const MOST_SUBDIVISIONS: usize = 64;
 
 /// The bytes of a record before its samples.
 pub const RECORD_HEADER: usize = 27;
@@ -28,8 +28,7 @@ pub fn sample_length(subdivisions: usize) -> usize {
 
 /// How many samples the finer neighbours at the sides of `mask` have together.
 pub fn neighbours_length(subdivisions: usize, mask: u8) -> usize {
-    let sides = (mask & 63).count_ones() as usize;
-    sides.saturating_mul(sample_length(subdivisions.saturating_mul(2)))
+    sides(mask).saturating_mul(sample_length(subdivisions.saturating_mul(2)))
 }
 
 /// How many places of the index store a block of `subdivisions` uses.
@@ -50,21 +49,34 @@ pub fn stl_length(triangles: usize) -> usize {
     triangles.saturating_mul(STL_TRIANGLE).saturating_add(STL_HEADER)
 }
 
-/// The cells of a block: regular ones, and transition cells at the sides of `mask`.
-fn cells(subdivisions: usize, mask: u8) -> usize {
-    let sides = (mask & 63).count_ones() as usize;
-    let square = subdivisions.saturating_mul(subdivisions);
-    square.saturating_mul(subdivisions.saturating_add(sides))
+/// How many sides `mask` names.
+fn sides(mask: u8) -> usize {
+    (mask & 63).count_ones() as usize
 }
 
-/// More vertices than any such block has: twelve for each cell, as is proved (`Enough` in crates/promises).
+/// As many vertices as such a block has at most, as is proved (`Enough` in crates/promises): 3n (n² + 4n − 1), and
+/// 4n (2n + 1) more for each side of `mask`.
+///
+/// ```
+/// assert_eq!(sirveshan::most_vertices(64, 63), 1_033_536);
+/// ```
 pub fn most_vertices(subdivisions: usize, mask: u8) -> usize {
-    cells(subdivisions, mask).saturating_mul(12)
+    let n = subdivisions;
+    let layers = n.saturating_mul(n.saturating_add(4)).saturating_sub(1);
+    let side = n.saturating_mul(n.saturating_mul(2).saturating_add(1)).saturating_mul(4);
+    n.saturating_mul(layers).saturating_mul(3).saturating_add(sides(mask).saturating_mul(side))
 }
 
-/// More triangles than any such block has: twelve for each cell, as is proved (`Enough` in crates/promises).
+/// As many triangles as such a block has at most, as is proved (`Enough` in crates/promises): 5n³, and 12n² more for
+/// each side of `mask`.
+///
+/// ```
+/// assert_eq!(sirveshan::most_triangles(64, 63), 1_605_632);
+/// ```
 pub fn most_triangles(subdivisions: usize, mask: u8) -> usize {
-    cells(subdivisions, mask).saturating_mul(12)
+    let n = subdivisions;
+    let most = n.saturating_mul(5).saturating_add(12 * sides(mask));
+    n.saturating_mul(n).saturating_mul(most)
 }
 
 /// Where the sample of a grid point stands among the samples of its block. Coordinates are 0 to

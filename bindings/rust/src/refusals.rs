@@ -12,7 +12,7 @@ fn name<'a>(names: &[&'a str], number: usize) -> &'a str {
 #[rustfmt::skip]
 pub(crate) fn words(number: u32, [first, second, third]: [usize; 3]) -> Option<String> {
     Some(match number {
-        1 => format!("{first} subdivisions: not 1 to 16"),
+        1 => format!("{first} subdivisions: not 1 to 64"),
         2 => format!("mask {first}: above 63"),
         3 => format!("the {} is out of range", name(&MEASURE, first)),
         4 => format!("the centre needs {first} samples"),

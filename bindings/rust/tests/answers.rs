@@ -1,7 +1,8 @@
 //! Case A and every refusal of extraction, with the buffers seen unchanged.
 
 use sirveshan::{
-    extract, neighbours_length, sample_length, store_length, Block, Counts, Header, Mesher, Refusal,
+    extract, neighbours_length, sample_length, store_length, Block, Counts, Header, Mesher,
+    Refusal, MOST_SUBDIVISIONS,
 };
 
 /// What one call is given; each test changes the part that it is about.
@@ -106,7 +107,7 @@ fn case_a_comes_out_and_all_beyond_stays() {
 
 #[test]
 fn subdivisions() {
-    for n in [0, 17, usize::MAX] {
+    for n in [0, MOST_SUBDIVISIONS + 1, usize::MAX] {
         refused(with_block(Block { subdivisions: n, ..block_a() }), 1, [n, 0, 0]);
     }
 }

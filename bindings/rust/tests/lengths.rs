@@ -7,15 +7,17 @@ use sirveshan::{
 
 #[test]
 fn lengths_of_real_blocks() {
-    assert_eq!([1, 2, 4, 16].map(sample_length), [32, 81, 275, 6647]);
+    assert_eq!([1, 2, 4, 16, 64].map(sample_length), [32, 81, 275, 6647, 299_975]);
     assert_eq!(neighbours_length(1, 63), 6 * 81);
     assert_eq!(neighbours_length(16, 0b100), 42471);
-    assert_eq!([1, 12, 16].map(store_length), [64, 15552, 31744]);
+    assert_eq!(neighbours_length(64, 63), 6 * 2_246_535);
+    assert_eq!([1, 12, 16, 64].map(store_length), [64, 15552, 31744, 1_294_336]);
     assert_eq!(record_length(1, 0), 155);
     assert_eq!([0, 1, 226].map(stl_length), [84, 134, 11384]);
     assert_eq!(most_vertices(1, 0), 12);
-    assert_eq!(most_vertices(16, 63), 12 * (4096 + 6 * 256));
-    assert!(most_triangles(16, 63) >= 5 * 4096 + 12 * 6 * 256);
+    assert_eq!(most_vertices(16, 63), 27_984);
+    assert_eq!(most_triangles(16, 63), 5 * 4096 + 12 * 6 * 256);
+    assert_eq!([most_vertices(0, 63), most_triangles(0, 63)], [0, 0]);
 }
 
 #[test]
@@ -38,6 +40,7 @@ fn absurd_lengths_do_not_panic() {
         assert_eq!(store_length(n), usize::MAX);
         assert_eq!(record_length(n, 1), usize::MAX);
         assert_eq!(most_vertices(n, 255), usize::MAX);
+        assert_eq!(most_triangles(n, 0), usize::MAX);
         assert_eq!(sample_place(n, [i32::MAX, 0, -5]), None);
         assert_eq!(sample_place(n, [-1, i32::MAX, i32::MAX]), None);
     }

@@ -52,7 +52,7 @@ fn writing_refused(record: &Record, number: u32, values: [usize; 3]) {
 
 #[test]
 fn what_is_written_is_read_and_what_is_read_is_written() {
-    for (n, mask) in [(1, 0), (1, 63), (2, 0b100001), (16, 0)] {
+    for (n, mask) in [(1, 0), (1, 63), (2, 0b100001), (16, 0), (17, 1), (64, 0)] {
         let record = record(n, mask);
         let bytes = record.write().unwrap();
         assert_eq!(bytes.len(), record_length(n, mask));
@@ -81,7 +81,8 @@ fn the_reader_refuses() {
     reading_refused(&[], 11, [0; 3]);
     reading_refused(&bytes()[..154], 11, [0; 3]);
     reading_refused(&changed(4, 2), 12, [2, 0, 0]);
-    reading_refused(&changed(5, 17), 1, [17, 0, 0]);
+    reading_refused(&changed(5, 65), 1, [65, 0, 0]);
+    reading_refused(&changed(5, 17), 13, [7776, 0, 0]);
     reading_refused(&changed(6, 64), 2, [64, 0, 0]);
     reading_refused(&changed(23, 0), 3, [3, 0, 0]);
     reading_refused(&changed(5, 2), 13, [81, 0, 0]);

@@ -16,12 +16,14 @@ use std::time::{Duration, Instant};
 
 const USAGE: &str = "\
 bench [N..]                               a table of times, for n = 4, 8 and 16 or those named
+bench growth                              the same as n grows to 64, with no finer neighbour, for tools/growth.py
 bench parts [N]                           where our time goes, at n = 16 or the one named
 bench stl                                 STL files: writing and reading against a copy of the same bytes
 bench blank                               the viewer's question whether a block is blank
 bench ours|before|rust TIMES N MASK FACE  meshes one block that often and prints nothing
                                           (FACE: smooth, wavy, noisy); compare/instructions counts it";
 const SIZES: [usize; 3] = [4, 8, 16];
+const GROWTH: [usize; 8] = [2, 4, 8, 16, 24, 32, 48, 64];
 const MASKS: [u8; 3] = [0, 1, 63];
 /// A round of calls in seconds: short, so that some rounds are not interrupted.
 const ROUND: f64 = 3e-4;
@@ -87,12 +89,26 @@ fn row(face: &str, n: usize, mask: u8) -> Outcome {
     Ok(())
 }
 
-fn table(sizes: &[usize]) -> Outcome {
+fn heading() {
     let before = if before::LINKED { " before µs |" } else { "" };
     println!(
         "| face | n | mask | vertices | triangles | ours µs |{before} Rust µs | times as fast |"
     );
     println!("|---|---|---|---|---|---|---|---|{}", if before::LINKED { "---|" } else { "" });
+}
+
+fn growth() -> Outcome {
+    heading();
+    for face in [SMOOTH, NOISY] {
+        for n in GROWTH {
+            row(face, n, 0)?;
+        }
+    }
+    Ok(())
+}
+
+fn table(sizes: &[usize]) -> Outcome {
+    heading();
     for face in [SMOOTH, WAVY, NOISY] {
         for &n in sizes.iter().filter(|&&n| face != WAVY || n >= 16) {
             for mask in MASKS {
@@ -159,6 +175,7 @@ fn run(words: &[&str]) -> Outcome {
             println!("{USAGE}");
             Ok(())
         }
+        ["growth"] => growth(),
         ["stl"] => stl::table(),
         ["blank"] => blank::table(),
         ["parts"] => parts(16),

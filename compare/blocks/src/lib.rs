@@ -8,6 +8,7 @@ pub mod seeds;
 use field::{Field, Point, LIMIT};
 use oracle::record::Block;
 use random::Random;
+use seeds::Sizes;
 
 /// The points of a block of `n` subdivisions, in the order of their places.
 pub fn points(n: i64) -> impl Iterator<Item = [i64; 3]> {
@@ -68,6 +69,12 @@ fn subdivisions(random: &mut Random) -> i64 {
     1 + random.below(most) as i64
 }
 
+/// Mostly below 34; every number from 17 to 64 is met.
+fn larger(random: &mut Random) -> i64 {
+    let most = random.pick(&[1, 1, 4, 4, 8, 8, 16, 17, 48]);
+    17 + random.below(most) as i64
+}
+
 fn threshold(random: &mut Random) -> f32 {
     let small = random.signed_unit();
     let large = 1000.0 * random.signed_unit();
@@ -88,15 +95,19 @@ fn size(random: &mut Random) -> f32 {
 
 /// The block of a seed.
 pub fn block(seed: u64) -> Block {
-    block_of(seed, None)
+    block_of(seed, Sizes::Chosen)
 }
 
-/// The block of a seed, with `n` subdivisions where the seed is not to choose them.
-pub fn block_of(seed: u64, n: Option<usize>) -> Block {
+/// The block of a seed, with so many subdivisions.
+pub fn block_of(seed: u64, sizes: Sizes) -> Block {
     let mut random = Random::new(seed);
     let mask = (seed % 64) as u8;
     let chosen = subdivisions(&mut random);
-    let n = n.map_or(chosen, |n| n as i64);
+    let n = match sizes {
+        Sizes::Chosen => chosen,
+        Sizes::Larger => larger(&mut random),
+        Sizes::All(n) => n as i64,
+    };
     let threshold = threshold(&mut random);
     let base = [base(&mut random), base(&mut random), base(&mut random)];
     let size = size(&mut random);

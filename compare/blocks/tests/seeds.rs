@@ -1,6 +1,6 @@
 //! What a run of seeds brings, and that the oracle takes all of it.
 
-use blocks::seeds::Seeds;
+use blocks::seeds::{Seeds, Sizes};
 use oracle::record::{block_length, neighbours_length, Block};
 use oracle::Star;
 use std::collections::BTreeSet;
@@ -12,6 +12,12 @@ fn every_n_and_every_mask() {
     let masks: BTreeSet<u8> = met.iter().map(|block| block.mask).collect();
     assert_eq!(sizes, (1..=16).collect());
     assert_eq!(masks, (0..64).collect());
+}
+
+#[test]
+fn every_larger_n() {
+    let met = (0..2048).map(|seed| blocks::block_of(seed * 64, Sizes::Larger).n);
+    assert_eq!(met.collect::<BTreeSet<usize>>(), (17..=64).collect());
 }
 
 #[test]
@@ -38,7 +44,7 @@ fn same_mesh_both_ways() {
 #[test]
 fn subdivisions_that_are_asked_for() {
     for n in [1, 16, 64] {
-        let block = blocks::block_of(5, Some(n));
+        let block = blocks::block_of(5, Sizes::All(n));
         assert_eq!((block.n, block.mask), (n, 5));
         assert_eq!(block.centre.len(), block_length(n));
         assert_eq!(block.neighbours.len(), neighbours_length(n, 5));
@@ -49,10 +55,12 @@ fn subdivisions_that_are_asked_for() {
 fn words() {
     let parsed =
         |words: &str| Seeds::parse(&words.split(' ').map(String::from).collect::<Vec<_>>());
-    assert_eq!(parsed("3"), Some(Seeds { range: 0..3, subdivisions: None }));
-    assert_eq!(parsed("3 7"), Some(Seeds { range: 7..10, subdivisions: None }));
-    assert_eq!(parsed("3 7 16"), Some(Seeds { range: 7..10, subdivisions: Some(16) }));
-    for wrong in ["", "x", "-1", "1 2 0", "1 2 65", "1 2 3 4", "1 18446744073709551615"] {
+    assert_eq!(parsed("3"), Some(Seeds { range: 0..3, sizes: Sizes::Chosen }));
+    assert_eq!(parsed("3 7"), Some(Seeds { range: 7..10, sizes: Sizes::Chosen }));
+    assert_eq!(parsed("3 7 16"), Some(Seeds { range: 7..10, sizes: Sizes::All(16) }));
+    assert_eq!(parsed("3 7 larger"), Some(Seeds { range: 7..10, sizes: Sizes::Larger }));
+    for wrong in ["", "x", "-1", "1 2 0", "1 2 65", "1 larger", "1 2 3 4", "1 18446744073709551615"]
+    {
         assert_eq!(parsed(wrong), None, "{wrong}");
     }
 }
