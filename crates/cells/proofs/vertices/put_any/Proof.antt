@@ -1,16 +1,27 @@
 -- `vertices::put_any` meets its contract: a vertex is made and stored, made and not stored, or taken. Assumes nothing.
+use Prim.Native.Nat.{_<_}
 use mathlib.Core.Path.{sym, _∙_}
 use native.Mathlib.Omega.{arith}
 use borrow.Author.Needs.{needs}
 use Rattle.model.specs.Star.{Star, star}
 use Rattle.grid.specs.StorePlaces.{small-store}
+use Rattle.cells.specs.Kinds.{slots}
 use Rattle.cells.proofs.Uses.{index-within, one-made, code-stored, code-loose, code-taken, back-placed, back-within}
 use Rattle.cells.proofs.vertices.put_any.Statement.{statement}
 use Rattle.cells.proofs.vertices.put_any.Tie as tie
 
--- the entry, from the place where it is known what the code says
+-- the entry, from where the reuse index is read, and from where it is known what the code says
+abbrev entered : tie.After-reuse-index → tie.Start
+entered r = r .before .before .before .before .before
+
 abbrev start : tie.After-makes → tie.Start
-start m = m .before .before .before .before .before .before .before
+start m = entered (m .before .before)
+
+-- the reuse index is one of the cell's
+within : (m : tie.After-makes) → m .before .before .reuse-index .result < slots (start m .args .at)
+within m =
+    let b = start m in
+    index-within (b .args .at) (b .args .code) _ (b .pre .1 .0) (m .before .before .reuse-index .ensures .0)
 
 abbrev starOf : tie.Start → Star
 starOf b = star (b .args .header) (b .args .centre .now) (b .args .neighbours .now)
@@ -34,26 +45,33 @@ put-vertex-requires c κs =
     let a = b .args in
     omega (arith, b .pre .1 .1 .1, one-made (starOf b) (a .at) (a .code) _ (m .makes .ensures) (c .before .before .if1 .taken))
 
+-- what the code says, from where the vertex is put
+abbrev told : tie.After-put-vertex → tie.After-makes
+told p = p .before .before .before .before
+
 cast-index : tie.Need-cast-index
-cast-index c = search needs
+cast-index c = omega (arith, start (told (c .before .before)) .pre .1 .1 .1)
 
 add-after : tie.Need-add-after
-add-after c = search needs
+add-after c = omega (arith, start (told (c .before .before)) .pre .1 .1 .1)
 
 place-requires : tie.Need-place-requires
 place-requires c κs =
-    let m = c .before .before .before .before .before .before .before in
+    let m = told (c .before .before .before) in
     let b = start m in
-    let a = b .args in
-    (b .pre .0 .centred .parts .few, (b .pre .0 .placed, index-within (a .at) (a .code) _ (b .pre .1 .0) (m .before .before .reuse-index .ensures .0)))
+    (b .pre .0 .centred .parts .few, (b .pre .0 .placed, within m))
+
+-- the entry, from where the vertex's place in the store is known
+abbrev placed-start : tie.After-place → tie.Start
+placed-start c = start (told (c .before .before .before .before))
 
 mul-store : tie.Need-mul-store
 mul-store c =
-    let b = start (c .before .before .before .before .before .before .before .before) in
+    let b = placed-start c in
     omega (arith, c .place .ensures .1, small-store (b .args .header .block .subdivisions) (b .pre .0 .centred .parts .few))
 
 slice-write-store : tie.Need-slice-write-store
-slice-write-store c = omega (arith, c .place .ensures .1, start (c .before .before .before .before .before .before .before .before) .pre .1 .1 .0)
+slice-write-store c = omega (arith, c .place .ensures .1, placed-start c .pre .1 .1 .0)
 
 same-length : tie.Need-same-length
 same-length c = search needs
@@ -63,24 +81,26 @@ same-length-2 c = search needs
 
 returns : tie.Need-returns
 returns c =
-    let m = c .before .before .before .before .before .before .before .before in
+    let put = c .before .before .before .before in
+    let m = told put in
     let b = start m in
     let a = b .args in
     code-stored (starOf b) (a .at) (a .code) (a .next) _ (a .vertices .now) (a .store .now) _ (m .makes .ensures)
-    (m .before .before .reuse-index .ensures .0) _ _ _ (c .before .before .before .before .before .vertex .ensures) (c .before .before .before .before .put-vertex .ensures)
-    (m .before .new-vertex .ensures) (c .before .before .before .before .before .before .before .if1 .taken) _ (c .place .ensures .0) (c .before .if2 .taken)
+    (m .before .before .reuse-index .ensures .0) _ _ _ (put .before .vertex .ensures) (put .put-vertex .ensures)
+    (m .before .new-vertex .ensures) (put .before .before .before .if1 .taken) _ (c .place .ensures .0) (c .before .if2 .taken)
 
 same-length-3 : tie.Need-same-length-3
 same-length-3 c = search needs
 
 returns-2 : tie.Need-returns-2
 returns-2 c =
-    let m = c .before .before .before .before .before .before .before in
+    let put = c .before .before .before in
+    let m = told put in
     let b = start m in
     let a = b .args in
     code-loose (starOf b) (a .at) (a .code) (a .next) _ (a .vertices .now) (a .store .now) _ (m .makes .ensures)
-    (m .before .before .reuse-index .ensures .0) _ _ _ (c .before .before .before .before .vertex .ensures) (c .before .before .before .put-vertex .ensures)
-    (m .before .new-vertex .ensures) (c .before .before .before .before .before .before .if1 .taken) (c .if2 .left)
+    (m .before .before .reuse-index .ensures .0) _ _ _ (put .before .vertex .ensures) (put .put-vertex .ensures)
+    (m .before .new-vertex .ensures) (put .before .before .before .if1 .taken) (c .if2 .left)
 
 back-requires : tie.Need-back-requires
 back-requires c κs = sym (c .before .makes .ensures) ∙ c .if1 .left
@@ -89,12 +109,11 @@ place-requires-2 : tie.Need-place-requires-2
 place-requires-2 c κs =
     let m = c .before .before in
     let b = start m in
-    let a = b .args in
-    let own = index-within (a .at) (a .code) _ (b .pre .1 .0) (m .before .before .reuse-index .ensures .0) in (
+    let a = b .args in (
       b .pre .0 .centred .parts .few,
       (
         back-placed (a .code) (a .header .block .subdivisions) (a .at) _ (c .back .ensures) (b .pre .0 .placed),
-        back-within (a .code) _ (a .at) _ (c .back .ensures) own,
+        back-within (a .code) _ (a .at) _ (c .back .ensures) (within m),
       ),
     )
 

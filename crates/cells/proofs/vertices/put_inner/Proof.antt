@@ -1,4 +1,5 @@
 -- `vertices::put_inner` meets its contract: a new code makes a vertex and stores it, and any other takes one. Assumes nothing.
+use Prim.Native.Nat.{_<_}
 use mathlib.Core.Path.{sym, ap, _∙_}
 use native.Mathlib.Omega.{arith}
 use borrow.Author.Needs.{needs}
@@ -6,6 +7,7 @@ use Rattle.model.specs.Star.{star}
 use Rattle.model.specs.Mesh.{regularUse}
 use Rattle.grid.specs.StorePlaces.{small-store}
 use Rattle.cells.specs.declared.CellIndex.the-variants.{Regular}
+use Rattle.cells.specs.Kinds.{slots}
 use Rattle.cells.proofs.Uses.{index-within, code-stored, code-taken, back-placed}
 use Rattle.cells.proofs.Inners.{inner-placed, inner-stays, inner-makes}
 use Rattle.cells.proofs.vertices.put_inner.Statement.{statement}
@@ -14,6 +16,19 @@ use Rattle.cells.proofs.vertices.put_inner.Tie as tie
 -- the entry, from the place where it is known what the code says
 abbrev start : tie.After-new-vertex → tie.Start
 start m = m .before .before .before .before .before
+
+-- the reuse index is one of the cell's
+within : (m : tie.After-new-vertex) → m .before .reuse-index .result < slots (Regular (start m .args .at))
+within m =
+    let b = start m in
+    index-within (Regular (b .args .at)) (b .args .code) _ (b .pre .1 .0 .1) (m .before .reuse-index .ensures .0)
+
+-- what the code says, from where the vertex is put and from where its place in the store is known
+abbrev told : tie.After-put-vertex → tie.After-new-vertex
+told p = p .before .before .before .before
+
+abbrev placed-start : tie.After-regular-place → tie.Start
+placed-start c = start (told (c .before .before .before))
 
 reuse-index-requires : tie.Need-reuse-index-requires
 reuse-index-requires c κs = search needs
@@ -36,7 +51,7 @@ cast-index c = search needs
 
 regular-place-requires : tie.Need-regular-place-requires
 regular-place-requires c κs =
-    let m = c .before .before .before .before .before .before in
+    let m = told (c .before .before) in
     let b = start m in
     let placed = inner-placed (b .pre .1 .0 .0) in
     record {
@@ -44,19 +59,19 @@ regular-place-requires c κs =
       x-in = placed .x-in;
       y-in = placed .y-in;
       z-in = placed .z-in;
-      reuse = index-within (Regular (b .args .at)) (b .args .code) _ (b .pre .1 .0 .1) (m .before .reuse-index .ensures .0);
+      reuse = within m;
     }
 
 mul-store : tie.Need-mul-store
 mul-store c =
-    let b = start (c .before .before .before .before .before .before .before) in
+    let b = placed-start c in
     omega (arith, c .regular-place .ensures .1, small-store (b .args .header .block .subdivisions) (b .pre .0 .parts .few))
 
 slice-write-store : tie.Need-slice-write-store
-slice-write-store c = omega (arith, c .regular-place .ensures .1, start (c .before .before .before .before .before .before .before) .pre .1 .1 .0)
+slice-write-store c = omega (arith, c .regular-place .ensures .1, placed-start c .pre .1 .1 .0)
 
 add-t21 : tie.Need-add-t21
-add-t21 c = omega (arith, start (c .before .before .before .before .before .before .before) .pre .1 .1 .1 .short)
+add-t21 c = omega (arith, placed-start c .pre .1 .1 .1 .short)
 
 same-length : tie.Need-same-length
 same-length c = search needs
@@ -67,15 +82,16 @@ same-length-2 c = search needs
 returns : tie.Need-returns
 unfolding regularUse
 returns c =
-    let m = c .before .before .before .before .before .before .before in
+    let put = c .before .before .before in
+    let m = told put in
     let b = start m in
     let a = b .args in
     let new = m .new-vertex .ensures in
-    let taken = c .before .before .before .before .before .before .if1 .taken in
+    let taken = put .before .before .before .if1 .taken in
     λ ns.
     code-stored (star (a .header) (a .centre .now) ns) (Regular (a .at)) (a .code) (a .next) _ (a .vertices .now) (a .store .now) _
-    (new ∙ inner-makes (b .pre .1 .0 .0) (a .code)) (m .before .reuse-index .ensures .0) _ _ _ (c .before .before .before .before .inner-vertex .ensures ns)
-    (c .before .before .before .put-vertex .ensures) new taken _ (c .regular-place .ensures .0) taken
+    (new ∙ inner-makes (b .pre .1 .0 .0) (a .code)) (m .before .reuse-index .ensures .0) _ _ _ (put .before .inner-vertex .ensures ns)
+    (put .put-vertex .ensures) new taken _ (c .regular-place .ensures .0) taken
 
 regular-back-requires : tie.Need-regular-back-requires
 regular-back-requires c κs =
@@ -93,7 +109,7 @@ regular-place-requires-2 c κs =
       x-in = placed .x-in;
       y-in = placed .y-in;
       z-in = placed .z-in;
-      reuse = index-within (Regular (a .at)) (a .code) _ (b .pre .1 .0 .1) (m .before .reuse-index .ensures .0);
+      reuse = within m;
     }
 
 mul-taken : tie.Need-mul-taken
