@@ -44,7 +44,7 @@ plus-fits f g few = (omega (arith, f .vertices, g .vertices), omega (arith, f .t
 pub grows-none : Grows (λ m. m) none
 grows-none = record { vertices = λ m. sym (add-zero _); triangles = λ m. sym (add-zero _) }
 
-pub grows-cell : (c : Cell) (counts : Counts) → Adds c (counts .vertices) (counts .triangles) → Grows (cellStep c) counts
+grows-cell : (c : Cell) (counts : Counts) → Adds c (counts .vertices) (counts .triangles) → Grows (cellStep c) counts
 grows-cell c counts adds =
     record {
       vertices = λ m. cc (cell-made c m, adds .vertices (length (m .made)) (m .store));
@@ -52,7 +52,7 @@ grows-cell c counts adds =
     }
 
 -- one step, and then another
-pub grows-then : {step step′ : Mesh → Mesh} {counts counts′ : Counts} → Grows step counts → Grows step′ counts′
+grows-then : {step step′ : Mesh → Mesh} {counts counts′ : Counts} → Grows step counts → Grows step′ counts′
     → Grows (λ m. step′ (step m)) (plus counts counts′)
 grows-then {step} g h =
     record {

@@ -35,7 +35,7 @@ module _ (case : ℕ → ℕ) (start : ℕ) where
       at k (inr l) = other (start + k) (omega arith) ∙ put .filled k l
 
   -- some places more at once
-  pub some-more : (m more : ℕ) (part : ℕ → ℕ) (before row after : List ℕ) → RowPut case start m before row → RowPut part (start + m) more row after
+  some-more : (m more : ℕ) (part : ℕ → ℕ) (before row after : List ℕ) → RowPut case start m before row → RowPut part (start + m) more row after
       → ((k : ℕ) → k < more → part k ≡ case (m + k)) → RowPut case start (m + more) before after
   some-more m more part before row after put then same =
       record {

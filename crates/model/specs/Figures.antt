@@ -3,9 +3,7 @@
 use Prim.Native.Nat.{ℕ, _+_, _*_}
 use mathlib.Core.Path.{_≡_, refl}
 use mathlib.Core.List.{List, [], _∷_, map}
-use lib.Count.{ones, onesIn}
 use lib.IntN.{ℤ, pos, negsuc}
-use lib.Ieee.{Float}
 use Rattle.tables.specs.Codes.{pointA, pointB, stepX, stepY, stepZ, isNew, reuseIndex}
 use Rattle.model.specs.declared.Xyz.{Xyz}
 use Rattle.model.specs.declared.Reading.{Reading}

@@ -1,5 +1,5 @@
 -- Document 01, 'Answers by number', and document 02, [9]: the limits, each by its one name. Definitions only.
-use Prim.Native.Nat.{ℕ, _+_, _*_, _^_}
+use Prim.Native.Nat.{ℕ, _*_}
 
 -- n is at most this; a neighbour block has twice as many subdivisions
 abbrev pub mostSubdivisions : ℕ

@@ -20,12 +20,8 @@ use Rattle.model.specs.declared.Extraction.the-variants as Extraction
 use Rattle.model.specs.declared.PointRead.the-variants as PointRead
 use Rattle.model.specs.declared.RecordRead.the-variants as RecordRead
 use Rattle.model.specs.declared.RecordWritten.the-variants as RecordWritten
-use Rattle.model.specs.declared.Verdict.the-variants.{Passed}
 use Rattle.model.specs.Limits.{mostMask}
-use Rattle.model.specs.Samples.{sampleLength}
-use Rattle.model.specs.Sides.{neighboursLength}
 use Rattle.model.specs.Star.{Star, subdivisions}
-use Rattle.model.specs.Judging.{judgeBuffer}
 use Rattle.model.specs.Mesh.{storeLength, regularMesh, meshOf}
 use Rattle.model.specs.Extraction.{vertexFloats, triangleIndices, readPoint}
 use Rattle.model.specs.Record.{headerLength, headerOf, countOf, samplesOf, starOf, recordOf, readRecord, writeRecord}

@@ -19,11 +19,11 @@ use Rattle.model.specs.declared.Refusal.the-variants.{StlLength, NoVertex}
 use Rattle.model.specs.declared.Verdict.{Verdict}
 use Rattle.model.specs.declared.Verdict.the-variants.{Passed}
 use Rattle.model.specs.declared.Extraction.the-variants as Extraction
-use Rattle.model.specs.Star.{Star, subdivisions}
+use Rattle.model.specs.Star.{Star}
 use Rattle.model.specs.Judging.{judgeStar}
 use Rattle.model.specs.Mesh.{meshOf}
 use Rattle.model.specs.Extraction.{vertexFloats, triangleIndices}
-use Rattle.judge.specs.First.{or-else-assoc, or-else-passed}
+use Rattle.judge.specs.First.{or-else-passed}
 use Rattle.judge.specs.Passing.{star-shaped}
 use Rattle.closed.specs.Clauses.{noTriangle, triangleAt}
 use Rattle.closed.specs.Indices.{names-vertices}
@@ -37,7 +37,7 @@ use Rattle.stl.specs.Written.{wrote, written-plain, written-count}
 use Rattle.stl.specs.RoundTrip.{write-read, corner-back, read-write}
 use Rattle.promises.specs.Left.{Laid, Lent, answered, left}
 use Rattle.promises.specs.Orders.{inOrder, Numbered, Judged}
-use Rattle.promises.specs.Stl.{stlWritingJudges, stlReadingJudges, StlIsAnswered, StlFiles, verticesLeft, trianglesLeft, WritableAsStl, StlPromises}
+use Rattle.promises.specs.Stl.{stlWritingJudges, stlReadingJudges, verticesLeft, trianglesLeft, WritableAsStl, StlPromises}
 use Rattle.promises.specs.Judges.{_&_, judged, one-or-other, Refuses, by-unless, by-first, buffer-number}
 use Rattle.promises.specs.ReadBack.{is-laid, each-at}
 use Rattle.promises.specs.Extracted.{passed, equal-mesh}
