@@ -14,7 +14,7 @@ use Rattle.model.specs.declared.Refusal.{Refusal}
 use Rattle.model.specs.declared.Refusal.the-variants.{IndexStoreTooShort, NoRoom}
 use Rattle.model.specs.declared.Verdict.{Verdict}
 use Rattle.model.specs.declared.Verdict.the-variants.{Passed, Refused}
-use Rattle.model.specs.declared.Extraction.{Extraction}
+use Rattle.model.specs.declared.Report.{Report}
 use Rattle.model.specs.declared.Extraction.the-variants as Extraction
 use Rattle.model.specs.Refusals.{orElse}
 use Rattle.model.specs.Judging.{judgeFaces, judgeRoom, judgeStar}
@@ -25,13 +25,13 @@ use Rattle.grid.specs.Shape.{Shaped}
 use Rattle.cells.specs.Puts.{Few}
 use Rattle.judge.specs.First.{or-else-assoc, both-passed, unless-passed}
 use Rattle.judge.specs.Passing.{star-shaped}
-use Rattle.algorithm.specs.Passes.{mostCells, judged, counted, Counted, Exact, Written, Leaves}
+use Rattle.algorithm.specs.Passes.{mostCells, judged, counted, refusedReport, Counted, Exact, Written, Leaves}
 
--- the contract's four claims
-pub told : {o : Outcome} {answer : Extraction} {store : List ℕ} {vertices : List Float} {triangles : List ℕ}
-    → Leaves o answer store vertices triangles
-    → (answer ≡ o .answer) × ((store ≡ o .store) × ((vertices ≡ o .vertices) × (triangles ≡ o .triangles)))
-told l = (l .answer-is, (l .store-is, (l .vertices-are, l .triangles-are)))
+-- the contract's five claims
+pub told : {o : Outcome} {report : Report} {store : List ℕ} {vertices : List Float} {triangles : List ℕ}
+    → Leaves o report store vertices triangles
+    → (report .answer ≡ o .answer) × ((store ≡ o .store) × ((vertices ≡ o .vertices) × ((triangles ≡ o .triangles) × (report .reads ≡ o .reads))))
+told l = (l .answer-is, (l .store-is, (l .vertices-are, (l .triangles-are, l .reads-are))))
 
 -- what 1 to 9 have shown
 module _ (s : Star) (held : ℕ) (e : judged s held ≡ Passed) where
@@ -52,9 +52,9 @@ module _ (s : Star) (store : List ℕ) (vertices : List Float) (triangles : List
   -- ---- 1 to 9
 
   pub refused : (r : Refusal) → judged s (length store) ≡ Refused r
-      → Leaves (extract s store vertices triangles) (Extraction.Refused r) store vertices triangles
+      → Leaves (extract s store vertices triangles) (refusedReport r) store vertices triangles
   unfolding extract outcome
-  refused r e = rw (in-order, e) (record { answer-is = refl; store-is = refl; vertices-are = refl; triangles-are = refl })
+  refused r e = rw (in-order, e) (record { answer-is = refl; reads-are = refl; store-is = refl; vertices-are = refl; triangles-are = refl })
 
   pub passed : judged s (length store) ≡ Passed → extract s store vertices triangles ≡ counted s store vertices triangles
   unfolding extract
@@ -68,9 +68,9 @@ module _ (s : Star) (store : List ℕ) (vertices : List Float) (triangles : List
     room-is = rw (← counts-are .vertices-are, ← counts-are .triangles-are) (sym v-is)
 
     pub no-room : (r : Refusal) → v ≡ Refused r
-        → Leaves (counted s store vertices triangles) (Extraction.Refused r) store vertices triangles
+        → Leaves (counted s store vertices triangles) (refusedReport r) store vertices triangles
     unfolding outcome
-    no-room r e = rw (room-is ∙ e) (record { answer-is = refl; store-is = refl; vertices-are = refl; triangles-are = refl })
+    no-room r e = rw (room-is ∙ e) (record { answer-is = refl; reads-are = refl; store-is = refl; vertices-are = refl; triangles-are = refl })
 
     pub has-room : v ≡ Passed → (6 * counts .vertices ≤ length vertices) × (3 * counts .triangles ≤ length triangles)
     has-room e =
@@ -99,11 +99,11 @@ module _ (s : Star) (store : List ℕ) (vertices : List Float) (triangles : List
           }
 
       -- they were written, and all beyond stays
-      pub done : (st : List ℕ) (vs : List Float) (ts : List ℕ) → Exact s vs ts st → Written (meshOf s) vs ts st
-          → Leaves (counted s store vertices triangles) (Extraction.Mesh counts) (st ++ drop places store)
+      pub done : (st : List ℕ) (vs : List Float) (ts : List ℕ) (reads : ℕ) → Exact s vs ts st → Written (meshOf s) vs ts st → reads ≡ meshOf s .reads
+          → Leaves (counted s store vertices triangles) (record { answer = Extraction.Mesh counts; reads = reads }) (st ++ drop places store)
           (vs ++ drop (6 * counts .vertices) vertices) (ts ++ drop (3 * counts .triangles) triangles)
       unfolding outcome
-      done st vs ts exact w =
+      done st vs ts reads exact w reads-are =
           let ev = counts-are .vertices-are in
           let et = counts-are .triangles-are in
           rw (
@@ -115,4 +115,4 @@ module _ (s : Star) (store : List ℕ) (vertices : List Float) (triangles : List
             exact .triangles-fill,
             exact .fits .store-fits,
           )
-          (record { answer-is = rw (← ev, ← et); store-is = rw places-are; vertices-are = rw ev; triangles-are = rw et })
+          (record { answer-is = rw (← ev, ← et); reads-are = reads-are; store-is = rw places-are; vertices-are = rw ev; triangles-are = rw et })

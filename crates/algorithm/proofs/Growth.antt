@@ -3,7 +3,7 @@ use Prim.Native.Nat.{ℕ, _+_, _^_, _≤_, _<_}
 use native.Mathlib.Nat.{add-zero}
 use native.Mathlib.Numerals.{add-one}
 use native.Mathlib.Omega.{arith}
-use mathlib.Core.Path.{_≡_, sym, subst}
+use mathlib.Core.Path.{_≡_, sym, ap, _∙_, subst}
 use mathlib.Core.List.{List}
 use lib.ListN.{length}
 use Rattle.laws.specs.Steps.{iterate}
@@ -13,7 +13,7 @@ use Rattle.model.specs.Star.{Star, subdivisions}
 use Rattle.model.specs.Mesh.{Cell, Mesh, emptyMesh, cellStep, regularLayer, regularMesh, transitionSide, meshOf}
 use Rattle.cells.specs.declared.SheetIndex.{SheetIndex}
 use Rattle.cells.specs.SheetCells.{sheetCell}
-use Rattle.cells.specs.Puts.{Adds, Few}
+use Rattle.cells.specs.Puts.{Adds, Few, SameMade}
 use Rattle.cases.specs.Sheets.{rowStart}
 use Rattle.cases.specs.Marks.{NextMarked}
 use Rattle.algorithm.specs.Passes.{plus, Held, SheetIn, rowTo, rowsTo, wholeSheet, Grows, Counted}
@@ -60,7 +60,15 @@ grows-then {step} g h =
       triangles = λ m. omega (arith, g .triangles m, h .triangles (step m));
     }
 
--- a step that comes to the same mesh
+-- a step that makes the same
+grows-made : {step step′ : Mesh → Mesh} {counts : Counts} → ((m : Mesh) → SameMade (step m) (step′ m)) → Grows step counts → Grows step′ counts
+grows-made same g =
+    record {
+      vertices = λ m. sym (ap length (same m .made-same)) ∙ g .vertices m;
+      triangles = λ m. sym (ap length (same m .triangles-same)) ∙ g .triangles m;
+    }
+
+-- and one that comes to the same mesh
 pub grows-as : {step step′ : Mesh → Mesh} {counts : Counts} → ((m : Mesh) → step′ m ≡ step m) → Grows step counts → Grows step′ counts
 grows-as same g = record { vertices = λ m. rw same (g .vertices m); triangles = λ m. rw same (g .triangles m) }
 
@@ -73,13 +81,13 @@ grows-more f k g h = rw add-one (grows-then g h)
 
 module _ (s : Star) (sheet : SheetIndex) {n : ℕ} {layer side marks : List ℕ} (held : Held s sheet n layer side marks) (u : ℕ) (u-in : u < n) where
   pub grows-start : (next : ℕ) → NextMarked n marks (rowStart n u) 0 next → Grows (rowTo (sheetCell s sheet u) next) none
-  grows-start next step = grows-as (λ m. sym (row-skip s sheet held u 0 next u-in step m)) grows-none
+  grows-start next step = grows-made (row-skip s sheet held u 0 next u-in step) grows-none
 
   -- a cell, and those up to the next one that is marked
   pub grows-on : (v next : ℕ) (counts more : Counts) → NextMarked n marks (rowStart n u) (v + 1) next → Grows (rowTo (sheetCell s sheet u) v) counts
       → Adds (sheetCell s sheet u v) (more .vertices) (more .triangles) → Grows (rowTo (sheetCell s sheet u) next) (plus counts more)
   grows-on v next counts more step g adds =
-      grows-as (λ m. sym (row-skip s sheet held u (v + 1) next u-in step m))
+      grows-made (row-skip s sheet held u (v + 1) next u-in step)
       (grows-more (λ v. cellStep (sheetCell s sheet u v)) v g (grows-cell _ more adds))
 
 -- a whole sheet

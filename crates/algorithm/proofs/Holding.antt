@@ -2,19 +2,19 @@
 use Prim.Native.Nat.{ℕ, _+_, _*_, _≤_, _<_}
 use native.Mathlib.Numerals.{add-one}
 use native.Mathlib.Omega.{arith}
-use mathlib.Core.Path.{_≡_, refl, sym, _∙_}
+use mathlib.Core.Path.{_≡_, refl, sym, ap, _∙_}
 use mathlib.Core.List.{List}
 use lib.Ieee.{Float}
 use lib.ListN.{length, replicate, length-append}
 use lib.Seq.{take-all}
-use Rattle.model.specs.declared.Counts.{Counts}
-use Rattle.laws.specs.Steps.{listed}
+use Rattle.laws.specs.Steps.{listed, each}
 use Rattle.model.specs.Star.{Star, subdivisions}
 use Rattle.model.specs.Mesh.{Cell, Mesh, fillTo, triangleOf, filled, emptyMesh, cellStep, storeLength, meshOf}
 use Rattle.model.specs.Extraction.{vertexFloats, triangleIndices}
 use Rattle.grid.specs.Shape.{Shaped}
 use Rattle.points.specs.Fractions.{Fractions}
 use Rattle.points.specs.CellPoints.{centred}
+use Rattle.cells.specs.declared.Progress.{Progress}
 use Rattle.cells.specs.declared.SheetIndex.{SheetIndex}
 use Rattle.cells.specs.declared.SheetIndex.the-variants.{Layer, Side}
 use Rattle.cells.specs.Kinds.{Ready as CellReady}
@@ -24,7 +24,7 @@ use Rattle.laws.specs.Lists.{length-listed, each-append}
 use Rattle.laws.specs.Laying.{take-lay}
 use Rattle.cases.specs.Sheets.{rowStart}
 use Rattle.cases.specs.Marks.{NextMarked}
-use Rattle.cells.specs.Puts.{Room, CellPut}
+use Rattle.cells.specs.Puts.{Room, CellPut, SameMade}
 use Rattle.algorithm.specs.Passes.{Held, SheetIn, rowTo, rowBefore, sheetBefore, Fits, Holds, SameLengths, Exact, Written}
 use Rattle.algorithm.proofs.Walk.{Upto, upto-trans, row-skip, cell-upto, sheet-after, after-upto}
 
@@ -40,17 +40,17 @@ module _ (c : Cell) (m : Mesh) where
 -- ---- a cell written
 
 pub holds-none : (n : ℕ) (vertices : List Float) (triangles : List ℕ)
-    → Holds (emptyMesh n) (record { vertices = 0; triangles = 0 }) vertices triangles (replicate (storeLength n) 0)
+    → Holds (emptyMesh n) (record { vertices = 0; triangles = 0; reads = 0 }) vertices triangles (replicate (storeLength n) 0)
 unfolding emptyMesh
-holds-none n vertices triangles = record { vertex-count = refl; triangle-count = refl; vertices-are = refl; triangles-are = refl; store-is = refl }
+holds-none n vertices triangles = record { vertex-count = refl; triangle-count = refl; read-so-far = refl; vertices-are = refl; triangles-are = refl; store-is = refl }
 
 -- a cell can be written: the buffers hold the mesh before it, and have room for a mesh that has it
-pub record Ready (s : Star) (c : Cell) (m : Mesh) (counts : Counts) (vertices : List Float) (triangles store : List ℕ) : Type 0 where
+pub record Ready (s : Star) (c : Cell) (m : Mesh) (counts : Progress) (vertices : List Float) (triangles store : List ℕ) : Type 0 where
   pub holds : Holds m counts vertices triangles store
   pub upto : Upto (cellStep c m) (meshOf s)
   pub fits : Fits s vertices triangles store
 
-module _ {s : Star} {c : Cell} {m : Mesh} {counts : Counts} {vertices : List Float} {triangles store : List ℕ}
+module _ {s : Star} {c : Cell} {m : Mesh} {counts : Progress} {vertices : List Float} {triangles store : List ℕ}
     (ready : Ready s c m counts vertices triangles store) where
   filled-is : fillTo c (counts .vertices) store (c .vertices) ≡ filled c m
   filled-is = cc
@@ -67,8 +67,8 @@ module _ {s : Star} {c : Cell} {m : Mesh} {counts : Counts} {vertices : List Flo
       let e : counts .triangles + c .triangles ≡ length (cellStep c m .triangles) = cc (cell-triangles c m) in
       record { room = omega arith; short = omega arith }
 
-  pub holds-more : (counts′ : Counts) (vertices′ : List Float) (triangles′ store′ : List ℕ)
-      → CellPut c (counts .vertices) (counts .triangles) vertices triangles store (counts′ .vertices) (counts′ .triangles) vertices′ triangles′ store′
+  pub holds-more : (counts′ : Progress) (vertices′ : List Float) (triangles′ store′ : List ℕ)
+      → CellPut c (counts .vertices) (counts .triangles) vertices triangles store (counts′ .vertices) (counts′ .triangles) (counts′ .reads) vertices′ triangles′ store′
       → Holds (cellStep c m) counts′ vertices′ triangles′ store′
   unfolding cellStep
   holds-more counts′ vertices′ triangles′ store′ put =
@@ -88,10 +88,24 @@ module _ {s : Star} {c : Cell} {m : Mesh} {counts : Counts} {vertices : List Flo
       record {
         vertex-count = cc (length-append (m .made) new);
         triangle-count = cc (length-append (m .triangles) sent);
+        read-so-far = put .reads-are;
         vertices-are = rw (ev, lv, take-lay 6 vertexFloats (λ t. refl) vertices nv new rv, ready .holds .vertices-are, each-append vertexFloats (m .made) new);
         triangles-are = rw (et, lt, take-lay 3 triangleIndices (λ t. refl) triangles nt sent rt, ready .holds .triangles-are, each-append triangleIndices (m .triangles) sent);
         store-is = cc;
       }
+
+-- a mesh of which only the reads differ is held as well
+holds-same : {m m′ : Mesh} {counts : Progress} {vertices : List Float} {triangles store : List ℕ} → SameMade m m′
+    → Holds m counts vertices triangles store → Holds m′ counts vertices triangles store
+holds-same same h =
+    record {
+      vertex-count = h .vertex-count ∙ ap length (same .made-same);
+      triangle-count = h .triangle-count ∙ ap length (same .triangles-same);
+      read-so-far = h .read-so-far;
+      vertices-are = h .vertices-are ∙ ap (each vertexFloats) (same .made-same);
+      triangles-are = h .triangles-are ∙ ap (each triangleIndices) (same .triangles-same);
+      store-is = h .store-is ∙ same .store-same;
+    }
 
 -- ---- a sheet of cells
 
@@ -116,11 +130,11 @@ module _ (s : Star) (sheet : SheetIndex) (u : ℕ) (u-in : u < subdivisions s) w
   before v = rowTo cell v (rowBefore s sheet u)
 
   module _ {layer side marks : List ℕ} (held : Held s sheet (subdivisions s) layer side marks)
-      {counts : Counts} {vertices : List Float} {triangles store : List ℕ} where
-    -- the cells that are not marked add nothing
+      {counts : Progress} {vertices : List Float} {triangles store : List ℕ} where
+    -- the cells that are not marked make nothing
     pub holds-skip : (from next : ℕ) → NextMarked (subdivisions s) marks (rowStart (subdivisions s) u) from next
         → Holds (before from) counts vertices triangles store → Holds (before next) counts vertices triangles store
-    holds-skip from next step h = rw (row-skip s sheet held u from next u-in step (rowBefore s sheet u)) at h
+    holds-skip from next step = holds-same (row-skip s sheet held u from next u-in step (rowBefore s sheet u))
 
     -- a cell written, and those up to the next one that is marked
     pub holds-on : (v next : ℕ) → NextMarked (subdivisions s) marks (rowStart (subdivisions s) u) (v + 1) next
@@ -128,7 +142,7 @@ module _ (s : Star) (sheet : SheetIndex) (u : ℕ) (u-in : u < subdivisions s) w
     holds-on v next step h = holds-skip (v + 1) next step (rw add-one h)
 
   -- a cell can be written, if the mesh fits
-  pub ready-at : (v : ℕ) {counts : Counts} {vertices : List Float} {triangles store : List ℕ} → v < subdivisions s → SheetIn s sheet
+  pub ready-at : (v : ℕ) {counts : Progress} {vertices : List Float} {triangles store : List ℕ} → v < subdivisions s → SheetIn s sheet
       → Fits s vertices triangles store → Holds (before v) counts vertices triangles store → Ready s (cell v) (before v) counts vertices triangles store
   ready-at v v-in is fits holds =
       record {
@@ -143,7 +157,7 @@ row-done s sheet u v e = rw (e, add-one)
 
 -- ---- at the end
 
-pub holds-all : (s : Star) (counts : Counts) (vertices : List Float) (triangles store : List ℕ)
+pub holds-all : (s : Star) (counts : Progress) (vertices : List Float) (triangles store : List ℕ)
     → Exact s vertices triangles store → Holds (meshOf s) counts vertices triangles store → Written (meshOf s) vertices triangles store
 holds-all s counts vertices triangles store exact h =
     record {

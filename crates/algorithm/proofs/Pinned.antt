@@ -11,5 +11,7 @@ pub extract-pinned : (κs : Lfts 5) (a : _) (r r′ : _) (e e′ : _) → extrac
     × ((now (e .1 .1 .1 .0) ≡ now (e′ .1 .1 .1 .0))
     × ((now (e .1 .1 .1 .1 .0) ≡ now (e′ .1 .1 .1 .1 .0))
     × (now (e .1 .1 .1 .1 .1 .0) ≡ now (e′ .1 .1 .1 .1 .1 .0))))
-extract-pinned κs a r r′ e e′ h k =
-    (pinned (h .0) (k .0), (pinned (h .1 .0) (k .1 .0), (pinned (h .1 .1 .0) (k .1 .1 .0), pinned (h .1 .1 .1) (k .1 .1 .1))))
+extract-pinned κs a r r′ e e′ h k = (
+  λ i. record { answer = pinned (h .0) (k .0) i; reads = pinned (h .1 .1 .1 .1) (k .1 .1 .1 .1) i },
+  (pinned (h .1 .0) (k .1 .0), (pinned (h .1 .1 .0) (k .1 .1 .0), pinned (h .1 .1 .1 .0) (k .1 .1 .1 .0))),
+)

@@ -8,7 +8,7 @@ use mathlib.Core.Bool.{Bool, true, false, cond}
 use mathlib.Core.List.{List}
 use lib.ListN.{length, length-append}
 use Rattle.laws.specs.Steps.{iterate}
-use Rattle.laws.specs.Iterated.{iterate-upto, steps-skip}
+use Rattle.laws.specs.Iterated.{iterate-upto, part-skip, steps-skip}
 use Rattle.model.specs.Limits.{mostSubdivisions, sideCount}
 use Rattle.model.specs.Sides.{named}
 use Rattle.model.specs.Star.{Star, subdivisions}
@@ -20,7 +20,7 @@ use Rattle.cells.specs.declared.SheetIndex.{SheetIndex}
 use Rattle.cells.specs.declared.SheetIndex.the-variants.{Layer, Side}
 use Rattle.cells.specs.SheetCells.{sheetOf, sheetCell, caseAt, allOf}
 use Rattle.cells.specs.SheetNumbers.{case-small}
-use Rattle.cells.specs.Puts.{Nothing}
+use Rattle.cells.specs.Puts.{Nothing, SameMade}
 use Rattle.cells.specs.Uncut.{nothing-step, regular-nothing, transition-nothing}
 use Rattle.algorithm.specs.Passes.{Sheeted, Held, SheetIn, rowTo, rowsTo, rowBefore, wholeSheet, sheetAfter}
 
@@ -59,14 +59,23 @@ nothing s (Layer x) = regular-nothing s x
 nothing s (Side side) = transition-nothing s side
 
 module _ (s : Star) (sheet : SheetIndex) {n : ℕ} {layer side marks : List ℕ} (held : Held s sheet n layer side marks) where
-  -- the cells of a row that are not marked are stepped over
-  pub row-skip : (u from next : ℕ) → u < n → NextMarked n marks (rowStart n u) from next → (m : Mesh)
-      → rowTo (sheetCell s sheet u) from m ≡ rowTo (sheetCell s sheet u) next m
-  row-skip u from next u-in step m =
-      steps-skip (λ v. cellStep (sheetCell s sheet u v)) m from next (step .ordered)
-      (λ v l h m.
-      nothing-step _
-      (nothing s sheet u v (unmarked _ (sym (held .marked .case-at u v u-in (omega (arith, step .within))) ∙ step .none-marked v l h))) m)
+  -- the cells of a row that are not marked are stepped over: they only read their samples
+  module _ (u from next : ℕ) (u-in : u < n) (step : NextMarked n marks (rowStart n u) from next) where
+    passed : (v : ℕ) → from ≤ v → v < next → (m : Mesh) → SameMade (cellStep (sheetCell s sheet u v) m) m
+    passed v l h =
+        nothing-step _
+        (nothing s sheet u v (unmarked _ (sym (held .marked .case-at u v u-in (omega (arith, step .within))) ∙ step .none-marked v l h)))
+
+    abbrev steps : ℕ → Mesh → Mesh
+    steps v = cellStep (sheetCell s sheet u v)
+
+    pub row-skip : (m : Mesh) → SameMade (rowTo (sheetCell s sheet u) from m) (rowTo (sheetCell s sheet u) next m)
+    row-skip m =
+        record {
+          made-same = part-skip (λ (m : Mesh). m .made) steps m from next (step .ordered) (λ v l h m. passed v l h m .made-same);
+          triangles-same = part-skip (λ (m : Mesh). m .triangles) steps m from next (step .ordered) (λ v l h m. passed v l h m .triangles-same);
+          store-same = part-skip (λ (m : Mesh). m .store) steps m from next (step .ordered) (λ v l h m. passed v l h m .store-same);
+        }
 
   -- the numbers are the tables'
   pub held-sheeted : n ≤ mostSubdivisions → length (sheetOf sheet layer side) ≡ sheetPlaces → length marks ≡ sheetPlaces → Sheeted n sheet layer side marks

@@ -8,7 +8,9 @@ use lib.ListN.{length, getD, take}
 use Rattle.model.specs.declared.Counts.{Counts}
 use Rattle.model.specs.declared.Header.{Header}
 use Rattle.model.specs.declared.Verdict.{Verdict}
-use Rattle.model.specs.declared.Extraction.{Extraction}
+use Rattle.model.specs.declared.Refusal.{Refusal}
+use Rattle.model.specs.declared.Report.{Report}
+use Rattle.model.specs.declared.Extraction.the-variants as Extraction
 use Rattle.laws.specs.Steps.{iterate, each}
 use Rattle.model.specs.Refusals.{orElse}
 use Rattle.model.specs.Limits.{mostSubdivisions, mostMask, sideCount}
@@ -17,12 +19,14 @@ use Rattle.model.specs.Star.{Star, subdivisions}
 use Rattle.model.specs.Mesh.{Cell, Mesh, cellStep, storeLength, regularLayer, regularTo, transitionSide, transitionTo, meshOf}
 use Rattle.model.specs.Judging.{judgeFaces, judgeStore, judgeRoom, judgeStar}
 use Rattle.model.specs.Extraction.{vertexFloats, triangleIndices, Outcome, outcome}
-use Rattle.cases.specs.Sheets.{rowStart, sheetPlaces, Sheet}
+use Rattle.model.specs.Reads.{Reads}
+use Rattle.cases.specs.Sheets.{rowStart, sheetPlaces, mostSheetReads, Sheet}
 use Rattle.cases.specs.Marks.{markOf}
 use Rattle.cells.specs.declared.SheetIndex.{SheetIndex}
 use Rattle.cells.specs.declared.SheetIndex.the-variants.{Layer, Side}
 use Rattle.cells.specs.SheetCells.{sheetOf, sheetCell, caseAt, allOf}
-use Rattle.cells.specs.Puts.{Room}
+use Rattle.cells.specs.declared.Progress.{Progress}
+use Rattle.cells.specs.Puts.{Room, ReadSoFar}
 
 -- 1 to 9, in that order
 abbrev pub judged : Star → ℕ → Verdict
@@ -33,6 +37,10 @@ abbrev pub counted : Star → List ℕ → List Float → List ℕ → Outcome
 counted s store vertices triangles =
     outcome (meshOf s) store vertices triangles
     (judgeRoom (length (meshOf s .made)) (length (meshOf s .triangles)) (length vertices) (length triangles))
+
+-- a refusal reports no reads
+abbrev pub refusedReport : Refusal → Report
+refusedReport r = record { answer = Extraction.Refused r; reads = 0 }
 
 abbrev pub plus : Counts → Counts → Counts
 plus a b = record { vertices = a .vertices + b .vertices; triangles = a .triangles + b .triangles }
@@ -107,12 +115,22 @@ pub record Fits (s : Star) (vertices : List Float) (triangles store : List ℕ) 
   pub store-fits : length store ≡ storeLength (subdivisions s)
 
 -- the buffers hold a mesh in their first places, and the store is the mesh's
-pub record Holds (m : Mesh) (counts : Counts) (vertices : List Float) (triangles store : List ℕ) : Type 0 where
+pub record Holds (m : Mesh) (counts : Progress) (vertices : List Float) (triangles store : List ℕ) : Type 0 where
   pub vertex-count : counts .vertices ≡ length (m .made)
   pub triangle-count : counts .triangles ≡ length (m .triangles)
+  pub read-so-far : ReadSoFar counts
   pub vertices-are : take (6 * counts .vertices) vertices ≡ each vertexFloats (m .made)
   pub triangles-are : take (3 * counts .triangles) triangles ≡ each triangleIndices (m .triangles)
   pub store-is : store ≡ m .store
+
+-- the case numbers of all cells of so many sheets have been read, and that is no large number
+pub record ReadTo (m : Mesh) (sheets reads : ℕ) : Type 0 where
+  pub reads-are : Reads reads m
+  pub few : reads ≤ mostSheetReads * sheets
+
+-- a sheet a layer, and one a side
+abbrev pub mostSheets : ℕ
+mostSheets = mostSubdivisions + sideCount
 
 -- the lent buffers are as long as they were
 pub record SameLengths (vertices₀ vertices : List Float) (triangles₀ triangles store₀ store : List ℕ) : Type 0 where
@@ -131,9 +149,10 @@ pub record Written (m : Mesh) (vertices : List Float) (triangles store : List �
   pub triangles-are : triangles ≡ each triangleIndices (m .triangles)
   pub store-is : store ≡ m .store
 
--- an outcome: the answer, and what the lent buffers hold then
-pub record Leaves (o : Outcome) (answer : Extraction) (store : List ℕ) (vertices : List Float) (triangles : List ℕ) : Type 0 where
-  pub answer-is : answer ≡ o .answer
+-- an outcome: what is reported, and what the lent buffers hold then
+pub record Leaves (o : Outcome) (report : Report) (store : List ℕ) (vertices : List Float) (triangles : List ℕ) : Type 0 where
+  pub answer-is : report .answer ≡ o .answer
+  pub reads-are : report .reads ≡ o .reads
   pub store-is : store ≡ o .store
   pub vertices-are : vertices ≡ o .vertices
   pub triangles-are : triangles ≡ o .triangles

@@ -7,7 +7,7 @@ ghost use Rattle.model.specs.Star.{star};
 ghost use Rattle.model.specs.Mesh.{storeLength};
 ghost use Rattle.model.specs.Extraction.{extract};
 ghost use Rattle.grid.specs.Shape.{Shaped};
-ghost use Rattle.algorithm.specs.Passes.{judged, counted, Leaves};
+ghost use Rattle.algorithm.specs.Passes.{judged, counted, refusedReport, Leaves};
 
 mod counting;
 mod writing;
@@ -21,6 +21,8 @@ use judge::judge_store;
 use model::Counts;
 use model::Extraction;
 use model::Header;
+use model::Refusal;
+use model::Report;
 use model::Verdict;
 use writing::write_mesh;
 
@@ -49,6 +51,16 @@ fn judge(header: Header, centre: &[f32], neighbours: &[f32], held: usize) -> Ver
     judge_store(header.block.subdivisions, held)
 }
 
+// A refusal reports no reads.
+fn refused(refusal: Refusal) -> Report
+    ensures { λ r. ⌜ r ≡ refusedReport refusal ⌝ }
+{
+    Report {
+        answer: Extraction::Refused(refusal),
+        reads: 0,
+    }
+}
+
 // The mesh of a block that has passed 1 to 9, or 10.
 fn extract_mesh(
     header: Header,
@@ -57,7 +69,7 @@ fn extract_mesh(
     store: &mut [u32],
     vertices: &mut [f32],
     triangles: &mut [u32],
-) -> Extraction
+) -> Report
     requires { ⌜ Shaped (star header (now centre) (now neighbours)) ⌝ }
     requires { ⌜ storeLength (header .block .subdivisions) ≤ length (now store) ⌝ }
     ensures { λ r. ⌜ Leaves (counted (star header (now (centre .entry)) (now (neighbours .entry))) (now (store .entry)) (now (vertices .entry)) (now (triangles .entry))) r (now (store .exit)) (now (vertices .exit)) (now (triangles .exit)) ⌝ }
@@ -65,12 +77,12 @@ fn extract_mesh(
     let counts = count_mesh(header, centre, neighbours);
     let room = judge_room(counts, vertices.len(), triangles.len());
     if let Verdict::Refused(no_room) = room {
-        return Extraction::Refused(no_room);
+        return refused(no_room);
     }
     let places = store_length(header.block.subdivisions);
     let floats = 6 * counts.vertices;
     let indices = 3 * counts.triangles;
-    write_mesh(
+    let reads = write_mesh(
         header,
         centre,
         neighbours,
@@ -78,7 +90,10 @@ fn extract_mesh(
         &mut vertices[..floats],
         &mut triangles[..indices],
     );
-    Extraction::Mesh(counts)
+    Report {
+        answer: Extraction::Mesh(counts),
+        reads,
+    }
 }
 
 pub fn extract(
@@ -88,15 +103,16 @@ pub fn extract(
     store: &mut [u32],
     vertices: &mut [f32],
     triangles: &mut [u32],
-) -> Extraction
-    ensures answer { λ r. ⌜ r ≡ extract (star header (now (centre .entry)) (now (neighbours .entry))) (now (store .entry)) (now (vertices .entry)) (now (triangles .entry)) .answer ⌝ }
+) -> Report
+    ensures answer { λ r. ⌜ r .answer ≡ extract (star header (now (centre .entry)) (now (neighbours .entry))) (now (store .entry)) (now (vertices .entry)) (now (triangles .entry)) .answer ⌝ }
     ensures store { λ r. ⌜ now (store .exit) ≡ extract (star header (now (centre .entry)) (now (neighbours .entry))) (now (store .entry)) (now (vertices .entry)) (now (triangles .entry)) .store ⌝ }
     ensures vertices { λ r. ⌜ now (vertices .exit) ≡ extract (star header (now (centre .entry)) (now (neighbours .entry))) (now (store .entry)) (now (vertices .entry)) (now (triangles .entry)) .vertices ⌝ }
     ensures triangles { λ r. ⌜ now (triangles .exit) ≡ extract (star header (now (centre .entry)) (now (neighbours .entry))) (now (store .entry)) (now (vertices .entry)) (now (triangles .entry)) .triangles ⌝ }
+    ensures reads { λ r. ⌜ r .reads ≡ extract (star header (now (centre .entry)) (now (neighbours .entry))) (now (store .entry)) (now (vertices .entry)) (now (triangles .entry)) .reads ⌝ }
 {
     let verdict = judge(header, centre, neighbours, store.len());
     if let Verdict::Refused(refusal) = verdict {
-        return Extraction::Refused(refusal);
+        return refused(refusal);
     }
     extract_mesh(header, centre, neighbours, store, vertices, triangles)
 }

@@ -3,25 +3,25 @@
 ghost use mathlib.Core.Path.{_≡_};
 ghost use Prim.Native.Nat.{_+_, _<_};
 ghost use lib.ListN.{length, replicate};
+ghost use Rattle.model.specs.Limits.{mostSubdivisions};
 ghost use Rattle.model.specs.Star.{star};
 ghost use Rattle.model.specs.Mesh.{storeLength, regularMesh, meshOf};
 ghost use Rattle.grid.specs.Shape.{Shaped};
 ghost use Rattle.points.specs.Fractions.{Fractions};
 ghost use Rattle.cells.specs.SheetCells.{Tables};
-ghost use Rattle.algorithm.specs.Passes.{Sheeted, Held, SheetIn, rowBefore, sheetBefore, sheetAfter, Fits, Holds, Exact, Written};
+ghost use Rattle.algorithm.specs.Passes.{Sheeted, Held, SheetIn, rowBefore, sheetBefore, sheetAfter, Fits, Holds, ReadTo, mostSheets, Exact, Written};
 use crate::NO_LAYER;
 use crate::NO_SIDE;
-use crate::NONE;
 use cases::SHEET;
 use cases::marks::next_marked;
 use cases::regular::layer_cases;
 use cases::transition::face_cases;
+use cells::Progress;
 use cells::SheetIndex;
 use cells::sheet_cells::number_at;
 use cells::sheet_cells::write_sheet_cell;
 use grid::transition_sides::SIDES;
 use grid::transition_sides::next_side;
-use model::Counts;
 use model::Header;
 use points::fractions::FRACTIONS;
 use points::fractions::fractions_of;
@@ -31,6 +31,18 @@ use tables::regular_vertex_data;
 use tables::transition_cell_class;
 use tables::transition_cell_data;
 use tables::transition_vertex_data;
+
+const NOTHING: Progress = Progress {
+    vertices: 0,
+    triangles: 0,
+    reads: 0,
+};
+
+// What is written, and the samples that case numbers have read beside those of the vertices.
+struct Pass {
+    counts: Progress,
+    reads: u64,
+}
 
 // The cells of a row of a sheet.
 fn write_row(
@@ -46,11 +58,11 @@ fn write_row(
     side: &[u16],
     marks: &[u8],
     u: usize,
-    mut counts: Counts,
+    mut counts: Progress,
     store: &mut [u32],
     vertices: &mut [f32],
     triangles: &mut [u32],
-) -> Counts
+) -> Progress
     requires { ⌜ Tables sheet (now classes) (now cells) (now codes) ⌝ }
     requires { ⌜ Shaped (star header (now centre) (now neighbours)) × Fractions (header .block .subdivisions) (now fractions) ⌝ }
     requires { ⌜ Sheeted (header .block .subdivisions) sheet (now layer) (now side) (now marks) × Held (star header (now centre) (now neighbours)) sheet (header .block .subdivisions) (now layer) (now side) (now marks) ⌝ }
@@ -98,11 +110,11 @@ fn write_sheet(
     layer: &[u8],
     side: &[u16],
     marks: &[u8],
-    mut counts: Counts,
+    mut counts: Progress,
     store: &mut [u32],
     vertices: &mut [f32],
     triangles: &mut [u32],
-) -> Counts
+) -> Progress
     requires { ⌜ Tables sheet (now classes) (now cells) (now codes) ⌝ }
     requires { ⌜ Shaped (star header (now centre) (now neighbours)) × Fractions (header .block .subdivisions) (now fractions) ⌝ }
     requires { ⌜ Sheeted (header .block .subdivisions) sheet (now layer) (now side) (now marks) × Held (star header (now centre) (now neighbours)) sheet (header .block .subdivisions) (now layer) (now side) (now marks) ⌝ }
@@ -145,11 +157,12 @@ fn write_regular_cells(
     store: &mut [u32],
     vertices: &mut [f32],
     triangles: &mut [u32],
-) -> Counts
+) -> Pass
     requires { ⌜ Shaped (star header (now centre) (now neighbours)) × Fractions (header .block .subdivisions) (now fractions) ⌝ }
     requires { ⌜ Fits (star header (now centre) (now neighbours)) (now vertices) (now triangles) (now store) ⌝ }
     requires { ⌜ now store ≡ replicate (storeLength (header .block .subdivisions)) 0 ⌝ }
-    ensures { λ r. ⌜ Holds (regularMesh (star header (now (centre .entry)) (now (neighbours .entry)))) r (now (vertices .exit)) (now (triangles .exit)) (now (store .exit)) ⌝ }
+    ensures { λ r. ⌜ Holds (regularMesh (star header (now (centre .entry)) (now (neighbours .entry)))) (r .counts) (now (vertices .exit)) (now (triangles .exit)) (now (store .exit)) ⌝ }
+    ensures reads { λ r. ⌜ ReadTo (regularMesh (star header (now (centre .entry)) (now (neighbours .entry)))) mostSubdivisions (r .reads) ⌝ }
 {
     let n = header.block.subdivisions;
     let classes = regular_cell_class();
@@ -157,10 +170,11 @@ fn write_regular_cells(
     let codes = regular_vertex_data();
     let mut cases = [0u8; SHEET];
     let mut marks = [0u8; SHEET];
-    let mut counts = NONE;
+    let mut counts = NOTHING;
+    let mut reads: u64 = 0;
     let mut x = 0;
     while x < n {
-        layer_cases(header, centre, x, &mut cases, &mut marks);
+        reads += layer_cases(header, centre, x, &mut cases, &mut marks);
         counts = write_sheet(
             header,
             fractions,
@@ -180,7 +194,7 @@ fn write_regular_cells(
         );
         x += 1;
     }
-    counts
+    Pass { counts, reads }
 }
 
 fn write_named_sides(
@@ -188,15 +202,17 @@ fn write_named_sides(
     fractions: &[f32; FRACTIONS],
     centre: &[f32],
     neighbours: &[f32],
-    mut counts: Counts,
+    before: Pass,
     store: &mut [u32],
     vertices: &mut [f32],
     triangles: &mut [u32],
-) -> Counts
+) -> Pass
     requires { ⌜ Shaped (star header (now centre) (now neighbours)) × Fractions (header .block .subdivisions) (now fractions) ⌝ }
     requires { ⌜ Fits (star header (now centre) (now neighbours)) (now vertices) (now triangles) (now store) ⌝ }
-    requires { ⌜ Holds (regularMesh (star header (now centre) (now neighbours))) counts (now vertices) (now triangles) (now store) ⌝ }
-    ensures { λ r. ⌜ Holds (meshOf (star header (now (centre .entry)) (now (neighbours .entry)))) r (now (vertices .exit)) (now (triangles .exit)) (now (store .exit)) ⌝ }
+    requires { ⌜ Holds (regularMesh (star header (now centre) (now neighbours))) (before .counts) (now vertices) (now triangles) (now store) ⌝ }
+    requires { ⌜ ReadTo (regularMesh (star header (now centre) (now neighbours))) mostSubdivisions (before .reads) ⌝ }
+    ensures { λ r. ⌜ Holds (meshOf (star header (now (centre .entry)) (now (neighbours .entry)))) (r .counts) (now (vertices .exit)) (now (triangles .exit)) (now (store .exit)) ⌝ }
+    ensures reads { λ r. ⌜ ReadTo (meshOf (star header (now (centre .entry)) (now (neighbours .entry)))) mostSheets (r .reads) ⌝ }
 {
     let mask = header.mask;
     let classes = transition_cell_class();
@@ -204,9 +220,11 @@ fn write_named_sides(
     let codes = transition_vertex_data();
     let mut cases = [0u16; SHEET];
     let mut marks = [0u8; SHEET];
+    let mut counts = before.counts;
+    let mut reads = before.reads;
     let mut side = next_side(mask, 0);
     while side < SIDES {
-        face_cases(header, neighbours, side, &mut cases, &mut marks);
+        reads += face_cases(header, neighbours, side, &mut cases, &mut marks);
         counts = write_sheet(
             header,
             fractions,
@@ -226,7 +244,7 @@ fn write_named_sides(
         );
         side = next_side(mask, side + 1);
     }
-    counts
+    Pass { counts, reads }
 }
 
 // The transition tables are fetched only where there is a finer neighbour.
@@ -235,25 +253,27 @@ fn write_transition_cells(
     fractions: &[f32; FRACTIONS],
     centre: &[f32],
     neighbours: &[f32],
-    counts: Counts,
+    before: Pass,
     store: &mut [u32],
     vertices: &mut [f32],
     triangles: &mut [u32],
-) -> Counts
+) -> Pass
     requires { ⌜ Shaped (star header (now centre) (now neighbours)) × Fractions (header .block .subdivisions) (now fractions) ⌝ }
     requires { ⌜ Fits (star header (now centre) (now neighbours)) (now vertices) (now triangles) (now store) ⌝ }
-    requires { ⌜ Holds (regularMesh (star header (now centre) (now neighbours))) counts (now vertices) (now triangles) (now store) ⌝ }
-    ensures { λ r. ⌜ Holds (meshOf (star header (now (centre .entry)) (now (neighbours .entry)))) r (now (vertices .exit)) (now (triangles .exit)) (now (store .exit)) ⌝ }
+    requires { ⌜ Holds (regularMesh (star header (now centre) (now neighbours))) (before .counts) (now vertices) (now triangles) (now store) ⌝ }
+    requires { ⌜ ReadTo (regularMesh (star header (now centre) (now neighbours))) mostSubdivisions (before .reads) ⌝ }
+    ensures { λ r. ⌜ Holds (meshOf (star header (now (centre .entry)) (now (neighbours .entry)))) (r .counts) (now (vertices .exit)) (now (triangles .exit)) (now (store .exit)) ⌝ }
+    ensures reads { λ r. ⌜ ReadTo (meshOf (star header (now (centre .entry)) (now (neighbours .entry)))) mostSheets (r .reads) ⌝ }
 {
     if header.mask == 0 {
-        return counts;
+        return before;
     }
     write_named_sides(
         header,
         fractions,
         centre,
         neighbours,
-        counts,
+        before,
         store,
         vertices,
         triangles,
@@ -271,7 +291,7 @@ fn clear(store: &mut [u32])
     }
 }
 
-// Buffers of just the right lengths are filled.
+// Buffers of just the right lengths are filled. Answers the samples read.
 pub fn write_mesh(
     header: Header,
     centre: &[f32],
@@ -279,14 +299,15 @@ pub fn write_mesh(
     store: &mut [u32],
     vertices: &mut [f32],
     triangles: &mut [u32],
-)
+) -> u64
     requires { ⌜ Shaped (star header (now centre) (now neighbours)) ⌝ }
     requires { ⌜ Exact (star header (now centre) (now neighbours)) (now vertices) (now triangles) (now store) ⌝ }
     ensures { λ _. ⌜ Written (meshOf (star header (now (centre .entry)) (now (neighbours .entry)))) (now (vertices .exit)) (now (triangles .exit)) (now (store .exit)) ⌝ }
+    ensures reads { λ r. ⌜ r ≡ meshOf (star header (now (centre .entry)) (now (neighbours .entry))) .reads ⌝ }
 {
     clear(store);
     let fractions = fractions_of(header.block.subdivisions);
-    let counts = write_regular_cells(
+    let regular = write_regular_cells(
         header,
         &fractions,
         centre,
@@ -295,14 +316,15 @@ pub fn write_mesh(
         vertices,
         triangles,
     );
-    write_transition_cells(
+    let all = write_transition_cells(
         header,
         &fractions,
         centre,
         neighbours,
-        counts,
+        regular,
         store,
         vertices,
         triangles,
     );
+    all.reads + all.counts.reads
 }

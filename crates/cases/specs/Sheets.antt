@@ -7,6 +7,7 @@ use lib.ListN.{getD, length}
 use Rattle.model.specs.Limits.{mostSubdivisions}
 use Rattle.model.specs.Samples.{readingAt}
 use Rattle.model.specs.Formulas.{insideBit}
+use Rattle.model.specs.Mesh.{transitionReads}
 use Rattle.grid.specs.Kinds.{inBlockReading}
 
 -- rows lie as far apart as the lines of a layer's points do
@@ -16,6 +17,10 @@ rowStart n j = (n + 1) * j
 -- the places of a sheet: a layer of the largest block's points, and eight more, so that a word can be read at each
 abbrev pub sheetPlaces : ℕ
 sheetPlaces = (mostSubdivisions + 1) * (mostSubdivisions + 1) + 8
+
+-- no sheet's case numbers read more samples: nine for each of the largest side's cells
+abbrev pub mostSheetReads : ℕ
+mostSheetReads = transitionReads * mostSubdivisions * mostSubdivisions
 
 -- the rows below so many hold the numbers of their cells
 pub record Sheet (case : ℕ → ℕ → ℕ) (n rows : ℕ) (cases : List ℕ) : Type 0 where

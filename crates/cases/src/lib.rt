@@ -22,6 +22,11 @@ const MOST_POINTS: usize = MOST_SUBDIVISIONS + 1;
 // The places of a sheet: a layer of the largest block's points, and eight more, so that a word can be read at each.
 pub const SHEET: usize = MOST_POINTS * MOST_POINTS + 8;
 
+// The samples that the case number of a regular cell reads, and of a transition cell. The writing pass counts its reads by them.
+const REGULAR_READS: u64 = 8;
+
+const TRANSITION_READS: u64 = 9;
+
 // What the sample at an in-block place adds if it is inside.
 fn weighed(threshold: f32, samples: &[f32], at: usize, w: u32) -> u32
     requires { ⌜ at < length (now samples) ⌝ }

@@ -8,9 +8,11 @@ ghost use Rattle.model.specs.Limits.{mostSubdivisions};
 ghost use Rattle.model.specs.Samples.{sampleLength};
 ghost use Rattle.model.specs.Star.{star};
 ghost use Rattle.model.specs.Points.{regularCase};
+ghost use Rattle.model.specs.Mesh.{regularReads};
 ghost use Rattle.laws.specs.Steps.{listed};
 ghost use Rattle.cases.specs.Marks.{allRegular, markOf};
-ghost use Rattle.cases.specs.Sheets.{rowStart, sheetPlaces, sideBySide, Sheet, RowPut, Line, Ahead, fourInside, lineCase};
+ghost use Rattle.cases.specs.Sheets.{rowStart, sheetPlaces, sideBySide, mostSheetReads, Sheet, RowPut, Line, Ahead, fourInside, lineCase};
+use crate::REGULAR_READS;
 use crate::marks::mark_layer;
 use crate::sixteens::SIDE_BY_SIDE;
 use crate::sixteens::put_sixteen;
@@ -109,7 +111,7 @@ fn by_sixteens(
     z
 }
 
-// The cells between four lines, their numbers from start on.
+// The cells between four lines, their numbers from start on. Answers the samples read, as row and layer do.
 fn row_between(
     n: usize,
     threshold: f32,
@@ -119,11 +121,12 @@ fn row_between(
     d: &[f32],
     cases: &mut [u8],
     start: usize,
-)
+) -> u64
     requires { ⌜ (n ≤ mostSubdivisions) × (start + n ≤ length (now cases)) ⌝ }
     requires { ⌜ (length (now a) ≡ n + 1) × ((length (now b) ≡ n + 1) × ((length (now c) ≡ n + 1) × (length (now d) ≡ n + 1))) ⌝ }
     requires { ⌜ length (now cases) ≡ sheetPlaces ⌝ }
     ensures { λ _. ⌜ RowPut (lineCase threshold (now (a .entry)) (now (b .entry)) (now (c .entry)) (now (d .entry))) start n (now (cases .entry)) (now (cases .exit)) ⌝ }
+    ensures reads { λ r. ⌜ r ≡ regularReads * n ⌝ }
 {
     let mut z = by_sixteens(n, threshold, a, b, c, d, cases, start);
     while z < n {
@@ -132,6 +135,7 @@ fn row_between(
         cases[start + z] = (sum / TOP_BYTE) as u8;
         z += 1;
     }
+    REGULAR_READS * z as u64
 }
 
 // The samples along z at (x, y).
@@ -145,39 +149,51 @@ fn line(n: usize, centre: &[f32], x: usize, y: usize) -> &[f32]
     &centre[start..end]
 }
 
-fn row(header: Header, centre: &[f32], x: usize, y: usize, cases: &mut [u8])
+fn row(header: Header, centre: &[f32], x: usize, y: usize, cases: &mut [u8]) -> u64
     requires { ⌜ (header .block .subdivisions ≤ mostSubdivisions) × (length (now centre) ≡ sampleLength (header .block .subdivisions)) ⌝ }
     requires { ⌜ (x < header .block .subdivisions) × ((y < header .block .subdivisions) × (length (now cases) ≡ sheetPlaces)) ⌝ }
     ensures { λ _. ⌜ ((ns : List Float) → RowPut (regularCase (star header (now (centre .entry)) ns) x y) (rowStart (header .block .subdivisions) y) (header .block .subdivisions) (now (cases .entry)) (now (cases .exit))) ⌝ }
+    ensures reads { λ r. ⌜ r ≡ regularReads * header .block .subdivisions ⌝ }
 {
     let n = header.block.subdivisions;
     let a = line(n, centre, x, y);
     let b = line(n, centre, x + 1, y);
     let c = line(n, centre, x, y + 1);
     let d = line(n, centre, x + 1, y + 1);
-    row_between(n, header.threshold, a, b, c, d, cases, (n + 1) * y);
+    row_between(n, header.threshold, a, b, c, d, cases, (n + 1) * y)
 }
 
-fn layer_rows(header: Header, centre: &[f32], x: usize, cases: &mut [u8])
+fn layer_rows(header: Header, centre: &[f32], x: usize, cases: &mut [u8]) -> u64
     requires { ⌜ (header .block .subdivisions ≤ mostSubdivisions) × (length (now centre) ≡ sampleLength (header .block .subdivisions)) ⌝ }
     requires { ⌜ (x < header .block .subdivisions) × (length (now cases) ≡ sheetPlaces) ⌝ }
     ensures { λ _. ⌜ ((ns : List Float) → Sheet (regularCase (star header (now (centre .entry)) ns) x) (header .block .subdivisions) (header .block .subdivisions) (now (cases .exit))) ⌝ }
+    ensures reads { λ r. ⌜ (r ≡ regularReads * header .block .subdivisions * header .block .subdivisions) × (r ≤ mostSheetReads) ⌝ }
 {
     let n = header.block.subdivisions;
+    let mut reads: u64 = 0;
     let mut y = 0;
     while y < n {
-        row(header, centre, x, y, cases);
+        reads += row(header, centre, x, y, cases);
         y += 1;
     }
+    reads
 }
 
-// The case numbers of the cells at x, and their marks.
-pub fn layer_cases(header: Header, centre: &[f32], x: usize, cases: &mut [u8], marks: &mut [u8])
+// The case numbers of the cells at x, and their marks. Answers the samples read.
+pub fn layer_cases(
+    header: Header,
+    centre: &[f32],
+    x: usize,
+    cases: &mut [u8],
+    marks: &mut [u8],
+) -> u64
     requires { ⌜ (header .block .subdivisions ≤ mostSubdivisions) × (length (now centre) ≡ sampleLength (header .block .subdivisions)) ⌝ }
     requires { ⌜ (x < header .block .subdivisions) × ((length (now cases) ≡ sheetPlaces) × (length (now marks) ≡ sheetPlaces)) ⌝ }
     ensures cases { λ _. ⌜ ((ns : List Float) → Sheet (regularCase (star header (now (centre .entry)) ns) x) (header .block .subdivisions) (header .block .subdivisions) (now (cases .exit))) ⌝ }
     ensures marks { λ _. ⌜ ((ns : List Float) → Sheet (λ y z. markOf allRegular (regularCase (star header (now (centre .entry)) ns) x y z)) (header .block .subdivisions) (header .block .subdivisions) (now (marks .exit))) ⌝ }
+    ensures reads { λ r. ⌜ (r ≡ regularReads * header .block .subdivisions * header .block .subdivisions) × (r ≤ mostSheetReads) ⌝ }
 {
-    layer_rows(header, centre, x, cases);
+    let reads = layer_rows(header, centre, x, cases);
     mark_layer(header.block.subdivisions, cases, marks);
+    reads
 }

@@ -9,11 +9,13 @@ ghost use Rattle.model.specs.Limits.{mostSubdivisions, sideCount};
 ghost use Rattle.model.specs.Sides.{neighbourLength, neighbourOf};
 ghost use Rattle.model.specs.Star.{star};
 ghost use Rattle.model.specs.Points.{transitionCase};
+ghost use Rattle.model.specs.Mesh.{transitionReads};
 ghost use Rattle.grid.specs.SideLaws.{NeighbourThere};
 ghost use Rattle.grid.specs.Walks.{walkOf, alongBy, Leads};
-ghost use Rattle.cases.specs.Sheets.{rowStart, sheetPlaces, Sheet, RowPut};
+ghost use Rattle.cases.specs.Sheets.{rowStart, sheetPlaces, mostSheetReads, Sheet, RowPut};
 ghost use Rattle.cases.specs.Marks.{allTransition, markOf};
 ghost use Rattle.cases.specs.Faces.{Spot, Lined, weighedAt, threeInside, nineInside};
+use crate::TRANSITION_READS;
 use crate::weighed;
 use grid::face_walk::FaceWalk;
 use grid::face_walk::Stride;
@@ -98,7 +100,7 @@ fn nine(threshold: f32, fine: &[f32], lines: Lines, v: usize) -> u16
     (sum / ONE) as u16
 }
 
-// The cells on three lines, their numbers and marks from start on.
+// The cells on three lines, their numbers and marks from start on. Answers the samples read, as row does.
 fn row_on(
     n: usize,
     threshold: f32,
@@ -107,11 +109,12 @@ fn row_on(
     cases: &mut [u16],
     marks: &mut [u8],
     start: usize,
-)
+) -> u64
     requires { ⌜ (n ≤ mostSubdivisions) × ((start + n ≤ length (now cases)) × (start + n ≤ length (now marks))) ⌝ }
     requires { ⌜ ((v2 : ℕ) → v2 ≤ 2 * n → Lined (length (now fine)) lines v2) ⌝ }
     ensures cases { λ _. ⌜ RowPut (nineInside threshold (now (fine .entry)) lines) start n (now (cases .entry)) (now (cases .exit)) ⌝ }
     ensures marks { λ _. ⌜ RowPut (λ v. markOf allTransition (nineInside threshold (now (fine .entry)) lines v)) start n (now (marks .entry)) (now (marks .exit)) ⌝ }
+    ensures reads { λ r. ⌜ r ≡ transitionReads * n ⌝ }
 {
     let mut v = 0;
     while v < n {
@@ -120,6 +123,7 @@ fn row_on(
         marks[start + v] = side_mark(number);
         v += 1;
     }
+    TRANSITION_READS * v as u64
 }
 
 fn lines_at(walk: FaceWalk, u: usize) -> Lines
@@ -144,37 +148,41 @@ fn row(
     u: usize,
     cases: &mut [u16],
     marks: &mut [u8],
-)
+) -> u64
     requires { ⌜ (header .block .subdivisions ≤ mostSubdivisions) × (length (now fine) ≡ neighbourLength (header .block .subdivisions)) ⌝ }
     requires { ⌜ (side < sideCount) × (walk ≡ walkOf (2 * header .block .subdivisions) side (2 * header .block .subdivisions)) ⌝ }
     requires { ⌜ (u < header .block .subdivisions) × ((length (now cases) ≡ sheetPlaces) × (length (now marks) ≡ sheetPlaces)) ⌝ }
     ensures cases { λ _. ⌜ ((centre ns : List Float) → now (fine .entry) ≡ neighbourOf (header .block .subdivisions) (header .mask) ns side → RowPut (transitionCase (star header centre ns) side u) (rowStart (header .block .subdivisions) u) (header .block .subdivisions) (now (cases .entry)) (now (cases .exit))) ⌝ }
     ensures marks { λ _. ⌜ ((centre ns : List Float) → now (fine .entry) ≡ neighbourOf (header .block .subdivisions) (header .mask) ns side → RowPut (λ v. markOf allTransition (transitionCase (star header centre ns) side u v)) (rowStart (header .block .subdivisions) u) (header .block .subdivisions) (now (marks .entry)) (now (marks .exit))) ⌝ }
+    ensures reads { λ r. ⌜ r ≡ transitionReads * header .block .subdivisions ⌝ }
 {
     let n = header.block.subdivisions;
     let lines = lines_at(walk, u);
-    row_on(n, header.threshold, fine, lines, cases, marks, (n + 1) * u);
+    row_on(n, header.threshold, fine, lines, cases, marks, (n + 1) * u)
 }
 
-// The case numbers of the cells of a named side, and their marks.
+// The case numbers of the cells of a named side, and their marks. Answers the samples read.
 pub fn face_cases(
     header: Header,
     neighbours: &[f32],
     side: usize,
     cases: &mut [u16],
     marks: &mut [u8],
-)
+) -> u64
     requires { ⌜ NeighbourThere (header .block .subdivisions) (header .mask) (now neighbours) side ⌝ }
     requires { ⌜ (1 ≤ header .block .subdivisions) × ((length (now cases) ≡ sheetPlaces) × (length (now marks) ≡ sheetPlaces)) ⌝ }
     ensures cases { λ _. ⌜ ((centre : List Float) → Sheet (transitionCase (star header centre (now (neighbours .entry))) side) (header .block .subdivisions) (header .block .subdivisions) (now (cases .exit))) ⌝ }
     ensures marks { λ _. ⌜ ((centre : List Float) → Sheet (λ u v. markOf allTransition (transitionCase (star header centre (now (neighbours .entry))) side u v)) (header .block .subdivisions) (header .block .subdivisions) (now (marks .exit))) ⌝ }
+    ensures reads { λ r. ⌜ (r ≡ transitionReads * header .block .subdivisions * header .block .subdivisions) × (r ≤ mostSheetReads) ⌝ }
 {
     let n = header.block.subdivisions;
     let fine = neighbour(n, header.mask, neighbours, side);
     let walk = face_walk(2 * n, side, 2 * n);
+    let mut reads: u64 = 0;
     let mut u = 0;
     while u < n {
-        row(header, fine, walk, side, u, cases, marks);
+        reads += row(header, fine, walk, side, u, cases, marks);
         u += 1;
     }
+    reads
 }

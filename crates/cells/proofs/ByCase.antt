@@ -34,10 +34,10 @@ module _ {c d : Cell} (same : c ≡ d) where
   pub triangle-room : (nt : ℕ) (triangles : List ℕ) → Room 3 (nt + d .triangles) triangles → Room 3 (nt + c .triangles) triangles
   triangle-room nt triangles room = rw same room
 
-  pub put-as : (nv nt : ℕ) (vertices : List Float) (triangles store : List ℕ) (nv′ nt′ : ℕ) (vertices′ : List Float) (triangles′ store′ : List ℕ)
-      → CellPut c nv nt vertices triangles store nv′ nt′ vertices′ triangles′ store′
-      → CellPut d nv nt vertices triangles store nv′ nt′ vertices′ triangles′ store′
-  put-as nv nt vertices triangles store nv′ nt′ vertices′ triangles′ store′ put = rw same at put
+  pub put-as : (nv nt : ℕ) (vertices : List Float) (triangles store : List ℕ) (nv′ nt′ reads : ℕ) (vertices′ : List Float) (triangles′ store′ : List ℕ)
+      → CellPut c nv nt vertices triangles store nv′ nt′ reads vertices′ triangles′ store′
+      → CellPut d nv nt vertices triangles store nv′ nt′ reads vertices′ triangles′ store′
+  put-as nv nt vertices triangles store nv′ nt′ reads vertices′ triangles′ store′ put = rw same at put
 
   pub adds-as : {dv dt : ℕ} → Adds c dv dt → Adds d dv dt
   adds-as adds = rw same at adds

@@ -47,8 +47,9 @@ module _ {at : CellIndex} {cell : Xyz} (e : at ≡ Regular cell) where
   pub regular-usable : {code : ℕ} → Usable at code → Usable (Regular cell) code
   regular-usable usable = rw e at usable
 
-  pub regular-put : (s : Star) (code : ℕ) {next index next′ : ℕ} {vertices vertices′ : List Float} {store store′ : List ℕ}
-      → CodePut (useAt s (Regular cell) code) next vertices store index next′ vertices′ store′ → CodePut (useAt s at code) next vertices store index next′ vertices′ store′
+  pub regular-put : (s : Star) (code : ℕ) {next index next′ reads : ℕ} {vertices vertices′ : List Float} {store store′ : List ℕ}
+      → CodePut (useAt s (Regular cell) code) next vertices store index next′ reads vertices′ store′
+      → CodePut (useAt s at code) next vertices store index next′ reads vertices′ store′
   regular-put s code put = rw e put
 
 module _ {n : ℕ} {at : Xyz} (h : Inner n at) where

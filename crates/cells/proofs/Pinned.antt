@@ -1,14 +1,14 @@
 -- What the statement of a public function allows is one outcome: of two that it allows for the same inputs, the answers are equal, and so is
 -- what each lent buffer holds.
-use mathlib.Core.Path.{_≡_}
+use mathlib.Core.Path.{_≡_, sym, ap, _∙_}
 use mathlib.Core.List.{List}
-use Prim.Native.Nat.{ℕ}
+use Prim.Native.Nat.{ℕ, _*_}
 use contract.Lifetimes.{Lfts}
 use denote.Ref.{now}
 use lib.Ieee.{Float}
-use Rattle.model.specs.declared.Counts.{Counts}
-use Rattle.model.specs.Mesh.{Cell}
+use Rattle.model.specs.Mesh.{Cell, vertexReads}
 use Rattle.model.specs.Pinned.{pinned}
+use Rattle.cells.specs.declared.Progress.{Progress}
 use Rattle.cells.specs.Puts.{CellPut}
 use Rattle.cells.proofs.sheet_cells.number_at.Reads as number-at
 use Rattle.cells.proofs.sheet_cells.write_sheet_cell.Reads as write-sheet-cell
@@ -17,12 +17,19 @@ pub number-at-pinned : (κs : Lfts 2) (a : _) (r r′ : _) (e e′ : _) → numb
 number-at-pinned κs a r r′ e e′ h k = pinned h k
 
 -- two outcomes of one cell
-module _ {c : Cell} {nv nt : ℕ} {vertices v v′ : List Float} {triangles store t t′ s s′ : List ℕ} {r r′ : Counts}
-    (h : CellPut c nv nt vertices triangles store (r .vertices) (r .triangles) v t s)
-    (k : CellPut c nv nt vertices triangles store (r′ .vertices) (r′ .triangles) v′ t′ s′) where
+module _ {c : Cell} {nv nt : ℕ} {vertices v v′ : List Float} {triangles store t t′ s s′ : List ℕ} {r r′ : Progress}
+    (h : CellPut c nv nt vertices triangles store (r .vertices) (r .triangles) (r .reads) v t s)
+    (k : CellPut c nv nt vertices triangles store (r′ .vertices) (r′ .triangles) (r′ .reads) v′ t′ s′) where
+  vertices-same : r .vertices ≡ r′ .vertices
+  vertices-same = pinned (h .nv-is) (k .nv-is)
+
   one-outcome : (r ≡ r′) × ((s ≡ s′) × ((v ≡ v′) × (t ≡ t′)))
   one-outcome = (
-    λ i. record { vertices = pinned (h .nv-is) (k .nv-is) i; triangles = pinned (h .nt-is) (k .nt-is) i },
+    λ i. record {
+      vertices = vertices-same i;
+      triangles = pinned (h .nt-is) (k .nt-is) i;
+      reads = (h .reads-are ∙ ap (λ (n : ℕ). vertexReads * n) vertices-same ∙ sym (k .reads-are)) i;
+    },
     (pinned (h .store-is) (k .store-is), (pinned (h .vertices-are) (k .vertices-are), pinned (h .triangles-are) (k .triangles-are))),
   )
 

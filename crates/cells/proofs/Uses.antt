@@ -13,7 +13,7 @@ use Rattle.model.specs.declared.Xyz.{Xyz}
 use Rattle.model.specs.declared.FacePoint.{FacePoint}
 use Rattle.model.specs.declared.Vertex.{Vertex}
 use Rattle.model.specs.Star.{Star, subdivisions}
-use Rattle.model.specs.Mesh.{CodeUse, madeBy, regularUse, transitionUse}
+use Rattle.model.specs.Mesh.{CodeUse, madeBy, regularUse, transitionUse, vertexReads}
 use Rattle.model.specs.Extraction.{vertexFloats}
 use Rattle.cells.specs.declared.CellIndex.{CellIndex}
 use Rattle.cells.specs.declared.CellIndex.the-variants.{Regular, Transition}
@@ -28,17 +28,18 @@ use Rattle.cells.proofs.Staying.{neither}
 module _ (t : CodeUse) (next : ℕ) (vertices : List Float) (store : List ℕ) where
   use-made : t .makes ≡ true → (vertices′ : List Float) (store′ : List ℕ)
       → vertices′ ≡ layVertices vertices next (t .made ∷ []) → store′ ≡ cond (t .stores) (set store (t .place) next) store
-      → CodePut t next vertices store next (next + 1) vertices′ store′
+      → CodePut t next vertices store next (next + 1) vertexReads vertices′ store′
   use-made m vertices′ store′ v e =
       let one : madeBy t ≡ t .made ∷ [] = rw m in
-      record { index-is = rw m; next-is = rw one; vertices-are = rw one v; store-is = e }
+      record { index-is = rw m; next-is = rw one; reads-are = rw one; vertices-are = rw one v; store-is = e }
 
-  use-taken : t .makes ≡ false → t .stores ≡ false → CodePut t next vertices store (getD store (t .place) 0) next vertices store
+  use-taken : t .makes ≡ false → t .stores ≡ false → CodePut t next vertices store (getD store (t .place) 0) next 0 vertices store
   use-taken m k =
       let none : madeBy t ≡ [] = rw m in
       record {
         index-is = rw m;
         next-is = rw (none, add-zero);
+        reads-are = rw none;
         vertices-are = rw none (sym (lay-none 6 vertexFloats vertices next));
         store-is = rw k;
       }
@@ -109,7 +110,7 @@ module _ (s : Star) (at : CellIndex) (code next r : ℕ) (vertices : List Float)
       (put : (edge : ℕ) → vertices′ ≡ layVertices vertices next (record { vertex = v; edge = edge } ∷ []))
       (new-is : new ≡ eqb (isNew code) 1) (m : makes ≡ true) where
     pub code-stored : (p : ℕ) → p ≡ placeAt (subdivisions s) at r → new ≡ true
-        → CodePut (useAt s at code) next vertices store next (next + 1) vertices′ (set store p next)
+        → CodePut (useAt s at code) next vertices store next (next + 1) vertexReads vertices′ (set store p next)
     code-stored p p-is e =
         let t = useAt s at code in
         let stores : t .stores ≡ true = use-stores s at code ∙ sym new-is ∙ e in
@@ -118,7 +119,7 @@ module _ (s : Star) (at : CellIndex) (code next r : ℕ) (vertices : List Float)
         use-made t next vertices store (use-makes s at code ∙ sym makes-is ∙ m) vertices′ (set store p next)
         (rw v-is at (put (t .made .edge))) (rw stores (cc))
 
-    pub code-loose : new ≡ false → CodePut (useAt s at code) next vertices store next (next + 1) vertices′ store
+    pub code-loose : new ≡ false → CodePut (useAt s at code) next vertices store next (next + 1) vertexReads vertices′ store
     code-loose e =
         let t = useAt s at code in
         let stores : t .stores ≡ false = use-stores s at code ∙ sym new-is ∙ e in
@@ -126,7 +127,7 @@ module _ (s : Star) (at : CellIndex) (code next r : ℕ) (vertices : List Float)
         (rw v-is at (put (t .made .edge))) (rw stores)
 
   pub code-taken : (p : ℕ) (from : CellIndex) → from ≡ backFrom at code → p ≡ placeAt (subdivisions s) from r → makes ≡ false
-      → CodePut (useAt s at code) next vertices store (getD store p 0) next vertices store
+      → CodePut (useAt s at code) next vertices store (getD store p 0) next 0 vertices store
   code-taken p from from-is p-is m =
       let t = useAt s at code in
       let kept : makesAt at code ≡ false = sym makes-is ∙ m in

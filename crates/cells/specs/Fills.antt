@@ -1,6 +1,6 @@
 -- Laws of a cell's vertices and triangles, whatever cell it is: how many there are, what the buffers hold after one more, and what
 -- a whole cell leaves.
-use Prim.Native.Nat.{ℕ, zero, suc, _+_, _-_, _≤_, _<_}
+use Prim.Native.Nat.{ℕ, zero, suc, _+_, _-_, _*_, _≤_, _<_}
 use mathlib.Core.Path.{_≡_, refl, sym, ap, _∙_}
 use mathlib.Core.Bool.{Bool, true, false, cond}
 use mathlib.Core.List.{List, [], _∷_, _++_, append-assoc}
@@ -12,7 +12,7 @@ use lib.ListN.{length, getD, set, replicate, length-append, length-set}
 use lib.Seq.{set-at}
 use Rattle.model.specs.declared.Triangle.{Triangle}
 use Rattle.laws.specs.Steps.{listed, total}
-use Rattle.model.specs.Mesh.{CodeUse, Cell, Fill, madeBy, fillStep, fillTo, triangleOf}
+use Rattle.model.specs.Mesh.{CodeUse, Cell, Fill, madeBy, fillStep, fillTo, triangleOf, vertexReads}
 use Rattle.model.specs.Extraction.{vertexFloats, triangleIndices}
 use Rattle.cells.specs.Buffers.{layTriangles, pad}
 use Rattle.laws.specs.Iterated.{iterate-upto, iterate-keeps}
@@ -80,20 +80,21 @@ module _ (c : Cell) (base : ℕ) (store : List ℕ) where
       (λ k f. length-kept (c .uses k .stores) (f .store) (c .uses k .place) (base + length (f .made)))
       (record { made = []; index = []; store = store })
 
-  pub fill-none : (vertices : List Float) → FillPut (fillTo c base store 0) base vertices (replicate 12 0) 0 base vertices store
+  pub fill-none : (vertices : List Float) → FillPut (fillTo c base store 0) base vertices (replicate 12 0) 0 base 0 vertices store
   unfolding fillTo pad
   fill-none vertices =
       record {
         index-is = refl;
         count-is = refl;
         next-is = sym (add-zero base);
+        reads-are = refl;
         vertices-are = sym (lay-none 6 vertexFloats vertices base);
         store-is = refl;
       }
 
-  module _ (k : ℕ) (t : CodeUse) (use-is : t ≡ c .uses k) (vertices₀ : List Float) (index : List ℕ) (count next : ℕ)
+  module _ (k : ℕ) (t : CodeUse) (use-is : t ≡ c .uses k) (vertices₀ : List Float) (index : List ℕ) (count next reads : ℕ)
       (vertices : List Float) (store₁ : List ℕ)
-      (f : FillPut (fillTo c base store k) base vertices₀ index count next vertices store₁) where
+      (f : FillPut (fillTo c base store k) base vertices₀ index count next reads vertices store₁) where
     -- the room that the next vertex wants is there
     pub fill-ready : (m : ℕ) → k < m → Room 6 (base + length (fillTo c base store m .made)) vertices₀
         → Room 6 (next + length (madeBy t)) vertices
@@ -101,11 +102,11 @@ module _ (c : Cell) (base : ℕ) (store : List ℕ) where
         let l : length vertices ≡ length vertices₀ = ap length (f .vertices-are) ∙ length-lay 6 vertexFloats vertices₀ base _ in
         rw use-is (record { room = omega (arith, fill-room k m h); short = omega (arith, fill-room k m h) })
 
-    pub fill-more : (made next′ : ℕ) (vertices′ : List Float) (store′ : List ℕ) → k < 12
-        → CodePut t next vertices store₁ made next′ vertices′ store′
-        → FillPut (fillTo c base store (k + 1)) base vertices₀ (set index k made) (k + 1) next′ vertices′ store′
+    pub fill-more : (made next′ more : ℕ) (vertices′ : List Float) (store′ : List ℕ) → k < 12
+        → CodePut t next vertices store₁ made next′ more vertices′ store′
+        → FillPut (fillTo c base store (k + 1)) base vertices₀ (set index k made) (k + 1) next′ (reads + more) vertices′ store′
     unfolding fillTo fillStep
-    fill-more made next′ vertices′ store′ h p =
+    fill-more made next′ more vertices′ store′ h p =
         let i = fillTo c base store k .index in
         let before = fillTo c base store k .made in
         let added = madeBy (c .uses k) in
@@ -116,6 +117,7 @@ module _ (c : Cell) (base : ℕ) (store : List ℕ) where
           index-is = cc;
           count-is = sym (length-index (suc k));
           next-is = cc (length-append before added, add-assoc base (length before) (length added));
+          reads-are = rw length-append (omega (arith, f .reads-are, p .reads-are, ap (λ (t : CodeUse). length (madeBy t)) use-is));
           vertices-are = cc (lay-append 6 vertexFloats (λ m. refl) vertices₀ base before added);
           store-is = cc;
         })
@@ -145,15 +147,16 @@ triangle-pad c index t = simp getD-pad
 -- ---- a whole cell
 
 module _ (c : Cell) (nv nt : ℕ) (vertices : List Float) (triangles store : List ℕ) where
-  pub cell-put : (index : List ℕ) (count nv′ nt′ : ℕ) (vertices′ : List Float) (triangles′ store′ : List ℕ)
-      → FillPut (fillTo c nv store (c .vertices)) nv vertices index count nv′ vertices′ store′
+  pub cell-put : (index : List ℕ) (count nv′ nt′ reads more : ℕ) (vertices′ : List Float) (triangles′ store′ : List ℕ)
+      → reads ≡ vertexReads * nv → FillPut (fillTo c nv store (c .vertices)) nv vertices index count nv′ more vertices′ store′
       → nt′ ≡ nt + c .triangles → triangles′ ≡ layTriangles triangles nt (listed (triangleOf c index) (c .triangles))
-      → CellPut c nv nt vertices triangles store nv′ nt′ vertices′ triangles′ store′
-  cell-put index count nv′ nt′ vertices′ triangles′ store′ f e l =
+      → CellPut c nv nt vertices triangles store nv′ nt′ (reads + more) vertices′ triangles′ store′
+  cell-put index count nv′ nt′ reads more vertices′ triangles′ store′ before f e l =
       let i = fillTo c nv store (c .vertices) .index in
       record {
         nv-is = f .next-is;
         nt-is = e;
+        reads-are = omega (arith, before, f .next-is, f .reads-are);
         vertices-are = f .vertices-are;
         triangles-are = cc (listed-same (triangleOf c (pad i)) (triangleOf c i) (triangle-pad c i) (c .triangles));
         store-is = f .store-is;

@@ -12,7 +12,7 @@ use Rattle.model.specs.declared.Xyz.{Xyz}
 use Rattle.model.specs.declared.FacePoint.{FacePoint}
 use Rattle.model.specs.Limits.{sideCount}
 use Rattle.model.specs.Star.{Star, subdivisions}
-use Rattle.model.specs.Mesh.{CodeUse, Cell, regularPlace, transitionPlace, regularLeaves, transitionLeaves, regularUse, transitionUse, sent}
+use Rattle.model.specs.Mesh.{CodeUse, Cell, regularPlace, transitionPlace, regularLeaves, transitionLeaves, regularUse, transitionUse, sent, regularReads, transitionReads}
 use Rattle.grid.specs.SideLaws.{NeighbourThere}
 use Rattle.points.specs.CellPoints.{Centred}
 use Rattle.cells.specs.declared.CellIndex.{CellIndex}
@@ -76,6 +76,11 @@ abbrev pub points : CellIndex → ℕ
 points (Regular at) = 8
 points (Transition at) = 13
 
+-- how many samples its case number reads
+abbrev pub casePoints : CellIndex → ℕ
+casePoints (Regular at) = regularReads
+casePoints (Transition at) = transitionReads
+
 pub record Usable (at : CellIndex) (code : ℕ) : Type 0 where
   pub a-in : pointA code < points at
   pub b-in : pointB code < points at
@@ -90,6 +95,7 @@ cellOf s at codes row turned =
       uses = λ i. useAt s at (getD codes i 0);
       triangles = trianglesOf row;
       corner = λ j. cornerOf row (sent turned j);
+      samples = casePoints at;
     }
 
 -- the codes of a row that are used can be followed

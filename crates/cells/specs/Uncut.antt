@@ -1,4 +1,4 @@
--- A cell that is all inside or all outside has no vertex and no triangle, and its step leaves the mesh as it was.
+-- A cell that is all inside or all outside has no vertex and no triangle, and its step only reads its samples.
 use Prim.Native.Nat.{ℕ}
 use mathlib.Core.Path.{_≡_, refl}
 use mathlib.Core.Bool.{Bool, true, false, _||_}
@@ -14,11 +14,16 @@ use Rattle.model.specs.Star.{Star}
 use Rattle.model.specs.Points.{regularCase, transitionCase}
 use Rattle.model.specs.Mesh.{Cell, Mesh, fillTo, cellStep, regularCell, transitionCell}
 use Rattle.cases.specs.Marks.{allRegular, allTransition, uncut}
-use Rattle.cells.specs.Puts.{Nothing}
+use Rattle.cells.specs.Puts.{Nothing, SameMade}
 
-pub nothing-step : (c : Cell) → Nothing c → (m : Mesh) → cellStep c m ≡ m
+pub nothing-step : (c : Cell) → Nothing c → (m : Mesh) → SameMade (cellStep c m) m
 unfolding cellStep fillTo
-nothing-step c none m = rw (none .no-vertices, none .no-triangles, append-nil (m .made), append-nil (m .triangles))
+nothing-step c none m =
+    record {
+      made-same = rw (none .no-vertices, append-nil (m .made));
+      triangles-same = rw (none .no-triangles, append-nil (m .triangles));
+      store-same = rw (none .no-vertices);
+    }
 
 -- what holds of the case with no point inside and of that with all of them
 uncut-either : (P : ℕ → Type 0) (case all : ℕ) → P 0 → P all → uncut case all ≡ true → P case

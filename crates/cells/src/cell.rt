@@ -6,10 +6,11 @@ ghost use lib.ListN.{length};
 ghost use Rattle.tables.specs.Cases.{verticesOf, trianglesOf};
 ghost use Rattle.model.specs.Star.{Star, star};
 ghost use Rattle.model.specs.Mesh.{storeLength, fillTo};
-ghost use Rattle.cells.specs.Puts.{Room, CellPut, Adds, Few};
+ghost use Rattle.cells.specs.Puts.{Room, ReadSoFar, CellPut, Adds, Few};
 ghost use Rattle.cells.specs.Rows.{Followed};
 ghost use Rattle.cells.specs.Kinds.{Ready, Coded, cellOf};
 use crate::CellIndex;
+use crate::Progress;
 use crate::codes::count_made;
 use crate::triangles::put_triangles;
 use crate::triangles::triangle_count;
@@ -28,17 +29,17 @@ pub fn write_cell(
     codes: &[u16],
     row: &[u8],
     turned: bool,
-    counts: Counts,
+    counts: Progress,
     store: &mut [u32],
     vertices: &mut [f32],
     triangles: &mut [u32],
-) -> Counts
+) -> Progress
     requires { ⌜ Ready (star header (now centre) (now neighbours)) (now fractions) at ⌝ }
     requires { ⌜ Coded at (now codes) (verticesOf (now row)) × Followed (now row) ⌝ }
     requires { ⌜ length (now store) ≡ storeLength (header .block .subdivisions) ⌝ }
     requires { ⌜ Room 6 (counts .vertices + length (fillTo (cellOf (star header (now centre) (now neighbours)) at (now codes) (now row) turned) (counts .vertices) (now store) (verticesOf (now row)) .made)) (now vertices) ⌝ }
-    requires { ⌜ Room 3 (counts .triangles + trianglesOf (now row)) (now triangles) ⌝ }
-    ensures { λ r. ⌜ CellPut (cellOf (star header (now (centre .entry)) (now (neighbours .entry))) at (now (codes .entry)) (now (row .entry)) turned) (counts .vertices) (counts .triangles) (now (vertices .entry)) (now (triangles .entry)) (now (store .entry)) (r .vertices) (r .triangles) (now (vertices .exit)) (now (triangles .exit)) (now (store .exit)) ⌝ }
+    requires { ⌜ Room 3 (counts .triangles + trianglesOf (now row)) (now triangles) × ReadSoFar counts ⌝ }
+    ensures { λ r. ⌜ CellPut (cellOf (star header (now (centre .entry)) (now (neighbours .entry))) at (now (codes .entry)) (now (row .entry)) turned) (counts .vertices) (counts .triangles) (now (vertices .entry)) (now (triangles .entry)) (now (store .entry)) (r .vertices) (r .triangles) (r .reads) (now (vertices .exit)) (now (triangles .exit)) (now (store .exit)) ⌝ }
 {
     let base = counts.vertices;
     let filled = fill_cell(
@@ -55,9 +56,11 @@ pub fn write_cell(
     );
     let cell = filled.cell;
     let made = put_triangles(row, turned, &cell.index, triangles, counts.triangles);
-    Counts {
+    let reads = counts.reads + filled.reads;
+    Progress {
         vertices: filled.next,
         triangles: made,
+        reads,
     }
 }
 

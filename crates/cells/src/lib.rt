@@ -10,6 +10,13 @@ mod vertices;
 use model::FacePoint;
 use model::Xyz;
 
+// What the writing pass has made so far, and the samples that its vertices have read.
+pub struct Progress {
+    pub vertices: usize,
+    pub triangles: usize,
+    pub reads: u64,
+}
+
 // Where a cell lies: a regular cell in the block, a transition cell on a side.
 pub enum CellIndex {
     Regular(Xyz),

@@ -5,9 +5,10 @@ ghost use lib.ListN.{length, getD};
 ghost use Rattle.model.specs.Star.{Star, star};
 ghost use Rattle.model.specs.Mesh.{storeLength, fillTo};
 ghost use Rattle.cells.specs.Kinds.{Ready};
-ghost use Rattle.cells.specs.Puts.{Room, CellPut, Adds, Few};
+ghost use Rattle.cells.specs.Puts.{Room, ReadSoFar, CellPut, Adds, Few};
 ghost use Rattle.cells.specs.SheetCells.{cellAt, allOf, caseAt, sheetOf, sheetCell, classArray, cellArray, codeArray, Tables, codesOf, rowOf, turnedOf, awayFromLow};
 use crate::CellIndex;
+use crate::Progress;
 use crate::SheetIndex;
 use crate::cell::count_cell;
 use crate::cell::write_cell;
@@ -91,18 +92,18 @@ pub fn write_sheet_cell(
     case: usize,
     u: usize,
     v: usize,
-    counts: Counts,
+    counts: Progress,
     store: &mut [u32],
     vertices: &mut [f32],
     triangles: &mut [u32],
-) -> Counts
+) -> Progress
     requires { ⌜ Tables sheet (now classes) (now cells) (now codes) ⌝ }
     requires { ⌜ Ready (star header (now centre) (now neighbours)) (now fractions) (cellAt sheet u v) ⌝ }
     requires { ⌜ case ≡ caseAt (star header (now centre) (now neighbours)) sheet u v ⌝ }
     requires { ⌜ length (now store) ≡ storeLength (header .block .subdivisions) ⌝ }
     requires { ⌜ Room 6 (counts .vertices + length (fillTo (sheetCell (star header (now centre) (now neighbours)) sheet u v) (counts .vertices) (now store) (sheetCell (star header (now centre) (now neighbours)) sheet u v .vertices) .made)) (now vertices) ⌝ }
-    requires { ⌜ Room 3 (counts .triangles + sheetCell (star header (now centre) (now neighbours)) sheet u v .triangles) (now triangles) ⌝ }
-    ensures { λ r. ⌜ CellPut (sheetCell (star header (now (centre .entry)) (now (neighbours .entry))) sheet u v) (counts .vertices) (counts .triangles) (now (vertices .entry)) (now (triangles .entry)) (now (store .entry)) (r .vertices) (r .triangles) (now (vertices .exit)) (now (triangles .exit)) (now (store .exit)) ⌝ }
+    requires { ⌜ Room 3 (counts .triangles + sheetCell (star header (now centre) (now neighbours)) sheet u v .triangles) (now triangles) × ReadSoFar counts ⌝ }
+    ensures { λ r. ⌜ CellPut (sheetCell (star header (now (centre .entry)) (now (neighbours .entry))) sheet u v) (counts .vertices) (counts .triangles) (now (vertices .entry)) (now (triangles .entry)) (now (store .entry)) (r .vertices) (r .triangles) (r .reads) (now (vertices .exit)) (now (triangles .exit)) (now (store .exit)) ⌝ }
 {
     write_cell(
         header,

@@ -41,15 +41,20 @@ use tables::tables_wrapper::reuse_index;
 use tables::tables_wrapper::voxel_a_index;
 use tables::tables_wrapper::voxel_b_index;
 
-// A cell's vertex, and the index of the next one that is made.
+// The samples that a vertex reads when it is made: its two ends, and six for the gradient at each.
+const VERTEX_READS: u64 = 14;
+
+// A cell's vertex, the index of the next one that is made, and the samples read.
 struct Indexed {
     index: u32,
     next: usize,
+    reads: u64,
 }
 
 pub struct Filled {
     pub cell: CellVertices,
     pub next: usize,
+    pub reads: u64,
 }
 
 // The place of the index store for a reuse index.
@@ -149,7 +154,7 @@ fn put_any(
     requires { ⌜ Usable at code ⌝ }
     requires { ⌜ length (now store) ≡ storeLength (header .block .subdivisions) ⌝ }
     requires { ⌜ Room 6 (next + length (madeBy (useAt (star header (now centre) (now neighbours)) at code))) (now vertices) ⌝ }
-    ensures { λ r. ⌜ CodePut (useAt (star header (now (centre .entry)) (now (neighbours .entry))) at code) next (now (vertices .entry)) (now (store .entry)) (r .index) (r .next) (now (vertices .exit)) (now (store .exit)) ⌝ }
+    ensures { λ r. ⌜ CodePut (useAt (star header (now (centre .entry)) (now (neighbours .entry))) at code) next (now (vertices .entry)) (now (store .entry)) (r .index) (r .next) (r .reads) (now (vertices .exit)) (now (store .exit)) ⌝ }
 {
     let n = header.block.subdivisions;
     let r = reuse_index(code);
@@ -166,13 +171,25 @@ fn put_any(
         if new {
             let own = place(n, at, r);
             store[own] = index;
-            return Indexed { index, next: after };
+            return Indexed {
+                index,
+                next: after,
+                reads: VERTEX_READS,
+            };
         }
-        return Indexed { index, next: after };
+        return Indexed {
+            index,
+            next: after,
+            reads: VERTEX_READS,
+        };
     }
     let shared = place(n, back(at, code), r);
     let taken = store[shared];
-    Indexed { index: taken, next }
+    Indexed {
+        index: taken,
+        next,
+        reads: 0,
+    }
 }
 
 // The vertex of a cell that touches no block face.
@@ -207,7 +224,7 @@ fn put_inner(
     requires { ⌜ Inner (header .block .subdivisions) at × Usable (CellIndex.Regular at) code ⌝ }
     requires { ⌜ length (now store) ≡ storeLength (header .block .subdivisions) ⌝ }
     requires { ⌜ Room 6 (next + cond (eqb (isNew code) 1) 1 0) (now vertices) ⌝ }
-    ensures { λ r. ⌜ ((ns : List Float) → CodePut (useAt (star header (now (centre .entry)) ns) (CellIndex.Regular at) code) next (now (vertices .entry)) (now (store .entry)) (r .index) (r .next) (now (vertices .exit)) (now (store .exit))) ⌝ }
+    ensures { λ r. ⌜ ((ns : List Float) → CodePut (useAt (star header (now (centre .entry)) ns) (CellIndex.Regular at) code) next (now (vertices .entry)) (now (store .entry)) (r .index) (r .next) (r .reads) (now (vertices .exit)) (now (store .exit))) ⌝ }
 {
     let n = header.block.subdivisions;
     let r = reuse_index(code);
@@ -223,12 +240,17 @@ fn put_inner(
         return Indexed {
             index,
             next: next + 1,
+            reads: VERTEX_READS,
         };
     }
     let from = regular_back(at, code);
     let shared = regular_place(n, from.x, from.y, from.z, r);
     let taken = store[shared];
-    Indexed { index: taken, next }
+    Indexed {
+        index: taken,
+        next,
+        reads: 0,
+    }
 }
 
 // Whether it is a regular cell that touches no block face.
@@ -276,7 +298,7 @@ fn put_code(
     requires { ⌜ Usable at code ⌝ }
     requires { ⌜ length (now store) ≡ storeLength (header .block .subdivisions) ⌝ }
     requires { ⌜ Room 6 (next + length (madeBy (useAt (star header (now centre) (now neighbours)) at code))) (now vertices) ⌝ }
-    ensures { λ r. ⌜ CodePut (useAt (star header (now (centre .entry)) (now (neighbours .entry))) at code) next (now (vertices .entry)) (now (store .entry)) (r .index) (r .next) (now (vertices .exit)) (now (store .exit)) ⌝ }
+    ensures { λ r. ⌜ CodePut (useAt (star header (now (centre .entry)) (now (neighbours .entry))) at code) next (now (vertices .entry)) (now (store .entry)) (r .index) (r .next) (r .reads) (now (vertices .exit)) (now (store .exit)) ⌝ }
 {
     if is_inner(header.block.subdivisions, at) {
         return put_inner(
@@ -320,7 +342,7 @@ pub fn fill_cell(
     requires { ⌜ (0 < length (now row)) × ((verticesOf (now row) ≤ 12) × Coded at (now codes) (verticesOf (now row))) ⌝ }
     requires { ⌜ length (now store) ≡ storeLength (header .block .subdivisions) ⌝ }
     requires { ⌜ Room 6 (base + length (fillTo (cellOf (star header (now centre) (now neighbours)) at (now codes) (now row) false) base (now store) (verticesOf (now row)) .made)) (now vertices) ⌝ }
-    ensures { λ r. ⌜ FillPut (fillTo (cellOf (star header (now (centre .entry)) (now (neighbours .entry))) at (now (codes .entry)) (now (row .entry)) false) base (now (store .entry)) (verticesOf (now (row .entry)))) base (now (vertices .entry)) (r .cell .index) (r .cell .count) (r .next) (now (vertices .exit)) (now (store .exit)) ⌝ }
+    ensures { λ r. ⌜ FillPut (fillTo (cellOf (star header (now (centre .entry)) (now (neighbours .entry))) at (now (codes .entry)) (now (row .entry)) false) base (now (store .entry)) (verticesOf (now (row .entry)))) base (now (vertices .entry)) (r .cell .index) (r .cell .count) (r .next) (r .reads) (now (vertices .exit)) (now (store .exit)) ⌝ }
 {
     let count = vertex_count(row);
     let mut cell = CellVertices {
@@ -328,6 +350,7 @@ pub fn fill_cell(
         count: 0,
     };
     let mut next = base;
+    let mut reads: u64 = 0;
     let mut k = 0;
     while k < count {
         let put = put_code(
@@ -345,9 +368,11 @@ pub fn fill_cell(
         k += 1;
         cell.count = k;
         next = put.next;
+        reads += put.reads;
     }
     Filled {
         cell: cell,
         next: next,
+        reads: reads,
     }
 }

@@ -26,11 +26,12 @@ firstOnly s =
       made = first .made ++ replicate (length (all .made) - length (first .made)) noVertex;
       triangles = first .triangles ++ replicate (length (all .triangles) - length (first .triangles)) noTriangle;
       store = all .store;
+      reads = all .reads;
     }
 
 -- the last triangle dropped
 abbrev pub lastDropped : Mesh → Mesh
-lastDropped m = record { made = m .made; triangles = take (length (m .triangles) - 1) (m .triangles); store = m .store }
+lastDropped m = record { made = m .made; triangles = take (length (m .triangles) - 1) (m .triangles); store = m .store; reads = m .reads }
 
 -- the first triangle turned round: two of its corners exchanged
 abbrev pub turnedRound : Triangle → Triangle
@@ -39,7 +40,7 @@ turnedRound t = record { a = t .a; b = t .c; c = t .b }
 abbrev pub firstTurned : Star → Mesh
 firstTurned s =
     let all = regularMesh s in
-    record { made = all .made; triangles = set (all .triangles) 0 (turnedRound (triangleAt all 0)); store = all .store }
+    record { made = all .made; triangles = set (all .triangles) 0 (turnedRound (triangleAt all 0)); store = all .store; reads = all .reads }
 
 -- with steps in x and y at x = 0 and y above 0, the index is still taken from the y neighbour
 abbrev pub slippedUse : Star → ℕ → ℕ → ℕ → ℕ → CodeUse
@@ -56,6 +57,7 @@ slippedCell s x y z =
       uses = λ i. slippedUse s x y z (regularCode (regularCase s x y z) i);
       triangles = c .triangles;
       corner = c .corner;
+      samples = c .samples;
     }
 
 abbrev pub slipped : Star → Mesh

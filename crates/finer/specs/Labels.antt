@@ -76,7 +76,13 @@ labelledUse label t =
 
 abbrev pub labelled : (ℕ → ℕ) → Cell → Cell
 labelled label c =
-    record { vertices = c .vertices; uses = λ i. labelledUse (label i) (c .uses i); triangles = c .triangles; corner = c .corner }
+    record {
+      vertices = c .vertices;
+      uses = λ i. labelledUse (label i) (c .uses i);
+      triangles = c .triangles;
+      corner = c .corner;
+      samples = c .samples;
+    }
 
 unfoldable pub sideCell : Star → ℕ → ℕ → ℕ → Cell
 sideCell s side u v = labelled (λ i. labelOf s side u v (transitionCode (transitionCase s side u v) i)) (transitionCell s side u v)

@@ -15,7 +15,13 @@ unwound s =
     meshWith s
     (λ side u v.
     let c = sideCell s side u v in
-    record { vertices = c .vertices; uses = c .uses; triangles = c .triangles; corner = transitionCorner (transitionCase s side u v) })
+    record {
+      vertices = c .vertices;
+      uses = c .uses;
+      triangles = c .triangles;
+      corner = transitionCorner (transitionCase s side u v);
+      samples = c .samples;
+    })
 
 -- a step back in u taken at the rim too, where there is no cell to step to
 abbrev pub atRim : ℕ → ℕ → CodeUse → CodeUse
@@ -33,4 +39,5 @@ steppedOut s =
       uses = λ i. atRim v (transitionCode (transitionCase s side u v) i) (c .uses i);
       triangles = c .triangles;
       corner = c .corner;
+      samples = c .samples;
     })

@@ -25,17 +25,23 @@ module _ {A : Type 0} (measure : A → ℕ) (step : ℕ → A → A) where
         let e : k ≡ j + (k - j) = omega arith in
         rw e (iterate-on j (k - j))
 
--- steps that change nothing are stepped over
-module _ {A : Type 0} (f : ℕ → A → A) (a : A) where
-  skip : (from k : ℕ) → ((i : ℕ) → from ≤ i → i < from + k → (a : A) → f i a ≡ a) → iterate f (from + k) a ≡ iterate f from a
+-- steps that keep a part as it is are stepped over, as far as that part goes
+module _ {A B : Type 0} (part : A → B) (f : ℕ → A → A) (a : A) where
+  skip : (from k : ℕ) → ((i : ℕ) → from ≤ i → i < from + k → (a : A) → part (f i a) ≡ part a) → part (iterate f (from + k) a) ≡ part (iterate f from a)
   skip from zero h = rw add-zero
   skip from (suc k) h =
       rw add-suc (h (from + k) (omega arith) (omega arith) (iterate f (from + k) a) ∙ skip from k (λ i l u. h i l (omega arith)))
 
-  pub steps-skip : (from next : ℕ) → from ≤ next → ((i : ℕ) → from ≤ i → i < next → (a : A) → f i a ≡ a) → iterate f from a ≡ iterate f next a
-  steps-skip from next l h =
+  pub part-skip : (from next : ℕ) → from ≤ next → ((i : ℕ) → from ≤ i → i < next → (a : A) → part (f i a) ≡ part a)
+      → part (iterate f from a) ≡ part (iterate f next a)
+  part-skip from next l h =
       let e : next ≡ from + (next - from) = omega arith in
       rw e (sym (skip from (next - from) (λ i a b. h i a (omega arith))))
+
+-- and wholly where they change nothing
+pub steps-skip : {A : Type 0} (f : ℕ → A → A) (a : A) (from next : ℕ) → from ≤ next → ((i : ℕ) → from ≤ i → i < next → (a : A) → f i a ≡ a)
+    → iterate f from a ≡ iterate f next a
+steps-skip {A} = part-skip (λ (a : A). a)
 
 -- ---- steps in two nested rounds, laid out in one
 

@@ -33,11 +33,13 @@ vertexFloats m =
 abbrev pub triangleIndices : Triangle → List ℕ
 triangleIndices t = t .a ∷ t .b ∷ t .c ∷ []
 
+-- what extraction answers, what it leaves in the three buffers, and the sample reads that it reports
 pub record Outcome : Type 0 where
   pub answer : Extraction
   pub store : List ℕ
   pub vertices : List Float
   pub triangles : List ℕ
+  pub reads : ℕ
 
 -- 1 to 10, in that order
 unfoldable pub judgeExtraction : Star → ℕ → ℕ → ℕ → Verdict
@@ -47,7 +49,7 @@ judgeExtraction s heldStore heldVertices heldTriangles =
     (orElse (judgeStore (subdivisions s) heldStore)
     (judgeRoom (length (meshOf s .made)) (length (meshOf s .triangles)) heldVertices heldTriangles)))
 
--- the mesh in the first places of the buffers, or every place as it was
+-- the mesh in the first places of the buffers and the reads of its steps, or every place as it was and no read
 unfoldable pub outcome : Mesh → List ℕ → List Float → List ℕ → Verdict → Outcome
 outcome m store vertices triangles Verdict.Passed =
     record {
@@ -55,9 +57,10 @@ outcome m store vertices triangles Verdict.Passed =
       store = laid (m .store) store;
       vertices = laid (each vertexFloats (m .made)) vertices;
       triangles = laid (each triangleIndices (m .triangles)) triangles;
+      reads = m .reads;
     }
 outcome m store vertices triangles (Verdict.Refused r) =
-    record { answer = Extraction.Refused r; store = store; vertices = vertices; triangles = triangles }
+    record { answer = Extraction.Refused r; store = store; vertices = vertices; triangles = triangles; reads = 0 }
 
 unfoldable pub extract : Star → List ℕ → List Float → List ℕ → Outcome
 extract s store vertices triangles =

@@ -7,6 +7,7 @@ pub mod Refusals
 pub mod Star
 pub mod Points
 pub mod Mesh
+pub mod Reads
 pub mod Judging
 pub mod Extraction
 pub mod Words

@@ -1,5 +1,5 @@
 -- Document 01, 'Regular cells' and 'Transition cells': the mesh, a step for each cell in document 01's order, from nothing and an
--- index store of zeros. Both kinds of cell take the same step. Definitions only.
+-- index store of zeros. Both kinds of cell take the same step, which counts the samples that it reads (document 02, [7]). Definitions only.
 use Prim.Native.Nat.{ℕ, _+_, _-_, _*_, _/_}
 use mathlib.Core.Bool.{Bool, cond, _&&_, _||_}
 use mathlib.Core.List.{List, [], _∷_, _++_}
@@ -49,12 +49,13 @@ pub record CodeUse : Type 0 where
   pub place : ℕ
 
 -- a cell: how many vertices and what each one's code comes to; how many triangles and, three to each in the order in which
--- they are sent, their corners as positions among the cell's vertices
+-- they are sent, their corners as positions among the cell's vertices; and how many samples its case number reads
 pub record Cell : Type 0 where
   pub vertices : ℕ
   pub uses : ℕ → CodeUse
   pub triangles : ℕ
   pub corner : ℕ → ℕ
+  pub samples : ℕ
 
 -- a cell's vertices so far: those made, the index of each, and the store
 pub record Fill : Type 0 where
@@ -89,16 +90,28 @@ triangleOf c index t =
 
 -- ---- the mesh
 
+-- reads counts the samples that its steps have read
 pub record Mesh : Type 0 where
   pub made : List Made
   pub triangles : List Triangle
   pub store : List ℕ
+  pub reads : ℕ
 
 unfoldable pub emptyMesh : ℕ → Mesh
-emptyMesh n = record { made = []; triangles = []; store = replicate (storeLength n) 0 }
+emptyMesh n = record { made = []; triangles = []; store = replicate (storeLength n) 0; reads = 0 }
 
 abbrev pub filled : Cell → Mesh → Fill
 filled c m = fillTo c (length (m .made)) (m .store) (c .vertices)
+
+-- a vertex that is made reads its two samples, and six for the gradient at each of them; a cell's case number reads the samples that it is made of
+abbrev pub vertexReads : ℕ
+vertexReads = 14
+
+abbrev pub regularReads : ℕ
+regularReads = 8
+
+abbrev pub transitionReads : ℕ
+transitionReads = 9
 
 unfoldable pub cellStep : Cell → Mesh → Mesh
 cellStep c m =
@@ -106,6 +119,7 @@ cellStep c m =
       made = m .made ++ filled c m .made;
       triangles = m .triangles ++ listed (triangleOf c (filled c m .index)) (c .triangles);
       store = filled c m .store;
+      reads = m .reads + c .samples + vertexReads * length (filled c m .made);
     }
 
 -- ---- regular cells
@@ -147,6 +161,7 @@ regularCell s x y z =
       uses = λ i. regularUse s x y z (regularCode case i);
       triangles = regularTriangles case;
       corner = regularCorner case;
+      samples = regularReads;
     }
 
 -- x outermost, then y, then z
@@ -203,6 +218,7 @@ transitionCell s side u v =
       uses = λ i. transitionUse s side u v (transitionCode case i);
       triangles = transitionTriangles case;
       corner = λ j. transitionCorner case (sent (transitionTurned case) j);
+      samples = transitionReads;
     }
 
 -- sides in order, then u, then v

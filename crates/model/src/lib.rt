@@ -129,6 +129,12 @@ pub enum Extraction {
     Refused(Refusal),
 }
 
+// What extraction reports: its answer, and the sample reads that it has made once every check has passed.
+pub struct Report {
+    pub answer: Extraction,
+    pub reads: u64,
+}
+
 // What a block record tells beside its samples.
 #[repr(C)]
 pub struct Header {

@@ -123,7 +123,7 @@ fn print_block(header: Header, samples: &[f32])
     let mut store = [0u32; STORE];
     let mut vertices = [0f32; VERTICES];
     let mut triangles = [0u32; TRIANGLES];
-    let answer = algorithm::extract(
+    let report = algorithm::extract(
         header,
         &samples[..own],
         &samples[own..all],
@@ -131,6 +131,7 @@ fn print_block(header: Header, samples: &[f32])
         &mut vertices,
         &mut triangles,
     );
+    let answer = report.answer;
     print_answer(answer, &vertices, &triangles);
 }
 

@@ -33,12 +33,12 @@ use Rattle.promises.specs.Finer.{labelledPart, NearBy, NoGapIsLeft}
 use Rattle.promises.specs.Surface.{vertex-is, triangle-is}
 use Rattle.promises.specs.Extracted.{passed, faces-passed, vertices-left, triangles-left, equal-mesh}
 
--- what is said of a mesh is said of its vertices and its triangles, whatever its store
+-- what is said of a mesh is said of its vertices and its triangles, whatever its store and its reads
 as-left : (s : Star) (m : Mesh) (made : List Made) (triangles : List Triangle) (store : List ℕ) → m .made ≡ made → m .triangles ≡ triangles
-    → NoGap s m → NoGap s (record { made = made; triangles = triangles; store = store })
+    → NoGap s m → NoGap s (record { made = made; triangles = triangles; store = store; reads = 0 })
 unfolding runs sides
 as-left s m made triangles store e f h =
-    subst₂ (λ (made : List Made) (triangles : List Triangle). NoGap s (record { made = made; triangles = triangles; store = store })) e f
+    subst₂ (λ (made : List Made) (triangles : List Triangle). NoGap s (record { made = made; triangles = triangles; store = store; reads = 0 })) e f
     (record {
       coarse = h .coarse;
       borders = h .borders;

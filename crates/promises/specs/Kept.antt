@@ -15,6 +15,7 @@ use Rattle.promises.specs.PlaceKindsKept.{place-kinds-kept}
 use Rattle.promises.specs.BlankKept.{blank-kept}
 use Rattle.promises.specs.WeightsKept.{weights-kept}
 use Rattle.promises.specs.FinerKept.{no-gap-is-left}
+use Rattle.promises.specs.ReadsKept.{reads-kept}
 use Rattle.promises.specs.LargerKept.{larger-kept}
 use Rattle.promises.specs.Views.{point, packed-record, subdivisions-apart, blank-apart, viewer-sample}
 
@@ -44,6 +45,7 @@ kept =
       place-kinds = place-kinds-kept;
       blank = blank-kept;
       weights = weights-kept;
+      reads = reads-kept;
       larger = larger-kept;
       starred = figures-agree;
     }

@@ -62,13 +62,14 @@ abbrev pub triangleIn : Lent → ℕ → Triangle
 triangleIn b t = record { a = cornerIn b t 0; b = cornerIn b t 1; c = cornerIn b t 2 }
 
 -- the first vertices and triangles in the buffers, so many of each, as a mesh. A buffer does not tell a vertex's grid edge; it is that of the vertex
--- with this index in a list from the definition. The store plays no part in what is said of it
+-- with this index in a list from the definition. Its store and its reads play no part in what is said of it
 abbrev pub meshIn : Lent → List Made → ℕ → ℕ → Mesh
 meshIn b defined vertices triangles =
     record {
       made = listed (λ i. record { vertex = vertexIn b i; edge = edgeAt defined i }) vertices;
       triangles = listed (triangleIn b) triangles;
       store = b .store;
+      reads = 0;
     }
 
 -- what the regular cells have left in the buffers: they come first

@@ -6,6 +6,7 @@ pub mod PlaceKinds
 pub mod Blank
 pub mod Weights
 pub mod Finer
+pub mod Reads
 pub mod Former
 pub mod Larger
 pub mod Orders
@@ -28,4 +29,6 @@ pub mod PlaceKindsKept
 pub mod BlankKept
 pub mod WeightsKept
 pub mod FinerKept
+pub mod ReadsKept
+pub mod ReadsReached
 pub mod LargerKept

@@ -80,7 +80,7 @@ module _ (c : Cell) (m : Mesh) where
 abbrev eachNamed : ℕ → ℕ → ℕ → ℕ
 eachNamed mask most side = cond (named mask side) most 0
 
-named-most : (mask most k : ℕ) → total (eachNamed mask most) k ≡ most * total (eachNamed mask 1) k
+pub named-most : (mask most k : ℕ) → total (eachNamed mask most) k ≡ most * total (eachNamed mask 1) k
 named-most mask most zero = sym (mul-zero most)
 named-most mask most (suc k) = rw (named-most mask most k, mul-add, go (named mask k))
   where
@@ -92,7 +92,7 @@ all-named : T (below (λ mask. eqb (total (eachNamed mask 1) sideCount) (ones ma
 unfolding both named ones onesIn
 all-named = tt
 
-sides-named : (mask : ℕ) → mask ≤ mostMask → total (eachNamed mask 1) sideCount ≡ ones mask
+pub sides-named : (mask : ℕ) → mask ≤ mostMask → total (eachNamed mask 1) sideCount ≡ ones mask
 sides-named mask h = eqb→eq _ _ (all (λ mask. eqb (total (eachNamed mask 1) sideCount) (ones mask)) (mostMask + 1) all-named mask (omega arith))
 
 -- ---- the mesh, by what a cell adds at most where it lies

@@ -35,12 +35,12 @@ begun-at : {A : Type 0} (all first more : List A) (d : A) (k : ℕ) → all ≡ 
 begun-at {A} all first more d k e h =
     (rw (e, length-append) (omega arith), ap (λ (l : List A). getD l k d) e ∙ List·getD-append first more d k h)
 
--- a surface is its vertices and its triangles, whatever its store
+-- a surface is its vertices and its triangles, whatever its store and its reads
 as-surface : (s : Star) (m : Mesh) (made : List Made) (triangles : List Triangle) (store : List ℕ) → m .made ≡ made → m .triangles ≡ triangles
-    → NoHole s m → NoHole s (record { made = made; triangles = triangles; store = store })
+    → NoHole s m → NoHole s (record { made = made; triangles = triangles; store = store; reads = 0 })
 unfolding runs sides
 as-surface s m made triangles store e f h =
-    subst₂ (λ (made : List Made) (triangles : List Triangle). NoHole s (record { made = made; triangles = triangles; store = store })) e f
+    subst₂ (λ (made : List Made) (triangles : List Triangle). NoHole s (record { made = made; triangles = triangles; store = store; reads = 0 })) e f
     (record {
       carried = h .carried;
       corners = λ t l.
@@ -50,7 +50,7 @@ as-surface s m made triangles store e f h =
       lying = h .lying;
     })
   where
-    own : {x y z i : ℕ} → OwnVertex s m x y z i → OwnVertex s (record { made = m .made; triangles = m .triangles; store = store }) x y z i
+    own : {x y z i : ℕ} → OwnVertex s m x y z i → OwnVertex s (record { made = m .made; triangles = m .triangles; store = store; reads = 0 }) x y z i
     own o = record { made = o .made; on = o .on; own = o .own; named = o .named }
 
 module _ (s : Star) (b : Lent) (vertices : List Float) (triangles : List ℕ)

@@ -2,7 +2,8 @@
 //   0  the call: 0 for a record or 1 for a block; the places lent of the index store, the vertices and the triangles; the length of the
 //      centre; and of a record the places lent to the reader, of a block n, mask, and the bits of threshold, base x, y, z and size
 //   1  the record, or the block's samples as runs: how many, and their bits
-//   2  the answer: its number (0 for a mesh) and three numbers, and how many places of the index store are cleared
+//   2  the answer: its number and three numbers (for a mesh 0, its vertices, triangles and sample reads), and how many places of the index store are
+//      cleared
 //   3  the bits of the vertices' numbers
 //   4  the triangles' indices
 //   5  the index store's places that are not 0, each with its index
@@ -21,17 +22,20 @@ use model::Extraction;
 use model::Header;
 use model::Numbers;
 use model::RecordRead;
+use model::Report;
 use model::Vector;
 use record::fields::HEADER_LENGTH;
 use words::floats::float_of;
 
-fn numbers_of(extraction: Extraction) -> Numbers {
-    match extraction {
+fn numbers_of(report: Report) -> Numbers {
+    let reads = report.reads as usize;
+    let answer = report.answer;
+    match answer {
         Extraction::Mesh(counts) => Numbers {
             number: 0,
             first: counts.vertices,
             second: counts.triangles,
-            third: 0,
+            third: reads,
         },
         Extraction::Refused(refusal) => judge::numbers_of(refusal),
     }
@@ -60,7 +64,7 @@ fn mesh_agrees(
     if triangles.len() < indices {
         return false;
     }
-    let extraction = algorithm::extract(
+    let report = algorithm::extract(
         header,
         centre,
         neighbours,
@@ -68,7 +72,7 @@ fn mesh_agrees(
         &mut vertices[0..numbers],
         &mut triangles[0..indices],
     );
-    answer_agrees(vector, numbers_of(extraction), store, vertices, triangles)
+    answer_agrees(vector, numbers_of(report), store, vertices, triangles)
 }
 
 // The first of the samples are the centre's, as many as the vector says.

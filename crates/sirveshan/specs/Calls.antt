@@ -46,9 +46,10 @@ noHeader =
       threshold = zero;
     }
 
-abbrev pub asExtracted : Extraction → Extracted
-asExtracted (Extraction.Mesh counts) = record { refused = notRefused; counts = counts }
-asExtracted (Extraction.Refused r) = record { refused = numbersOf r; counts = record { vertices = 0; triangles = 0 } }
+-- the reads stand beside it as the model reports them: 0 where something is refused
+abbrev pub asExtracted : Extraction → ℕ → Extracted
+asExtracted (Extraction.Mesh counts) reads = record { refused = notRefused; counts = counts; reads = reads }
+asExtracted (Extraction.Refused r) reads = record { refused = numbersOf r; counts = record { vertices = 0; triangles = 0 }; reads = reads }
 
 abbrev pub asHeaderRead : RecordRead → HeaderRead
 asHeaderRead (RecordRead.Block header) = record { refused = notRefused; header = header }
@@ -84,7 +85,7 @@ pub record ExtractCall : Type 0 where
   pub triangles : List ℕ
 
 abbrev pub extractCall : Outcome → ExtractCall
-extractCall o = record { answer = asExtracted (o .answer); store = o .store; vertices = o .vertices; triangles = o .triangles }
+extractCall o = record { answer = asExtracted (o .answer) (o .reads); store = o .store; vertices = o .vertices; triangles = o .triangles }
 
 pub record ReadCall : Type 0 where
   pub answer : HeaderRead

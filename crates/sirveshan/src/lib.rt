@@ -19,6 +19,7 @@ use model::PlaceKind;
 use model::PointRead;
 use model::RecordRead;
 use model::RecordWritten;
+use model::Report;
 use model::Vector;
 use record::reader::read_record;
 use record::writer::write_record;
@@ -32,6 +33,7 @@ use stl::writer::write_stl;
 pub struct Extracted {
     pub refused: Numbers,
     pub counts: Counts,
+    pub reads: u64,
 }
 
 #[repr(C)]
@@ -83,13 +85,16 @@ const NO_HEADER: Header = Header {
     threshold: 0.0,
 };
 
-fn as_extracted(answer: Extraction) -> Extracted
-    ensures { λ r. ⌜ r ≡ asExtracted answer ⌝ }
+fn as_extracted(report: Report) -> Extracted
+    ensures { λ r. ⌜ r ≡ asExtracted (report .answer) (report .reads) ⌝ }
 {
+    let reads = report.reads;
+    let answer = report.answer;
     match answer {
         Extraction::Mesh(counts) => Extracted {
             refused: NOT_REFUSED,
             counts,
+            reads,
         },
         Extraction::Refused(refusal) => Extracted {
             refused: numbers_of(refusal),
@@ -97,6 +102,7 @@ fn as_extracted(answer: Extraction) -> Extracted
                 vertices: 0,
                 triangles: 0,
             },
+            reads,
         },
     }
 }

@@ -49,7 +49,7 @@ fn write_block(header: Header, samples: &[f32], bytes: &mut [u8]) -> usize
     let mut store = [0u32; STORE];
     let mut vertices = [0f32; VERTICES];
     let mut triangles = [0u32; TRIANGLES];
-    let answer = algorithm::extract(
+    let report = algorithm::extract(
         header,
         &samples[0..own],
         &samples[own..all],
@@ -57,6 +57,7 @@ fn write_block(header: Header, samples: &[f32], bytes: &mut [u8]) -> usize
         &mut vertices,
         &mut triangles,
     );
+    let answer = report.answer;
     match answer {
         Extraction::Mesh(counts) => write_counted(counts, &vertices, &triangles, bytes),
         Extraction::Refused(_) => 0,

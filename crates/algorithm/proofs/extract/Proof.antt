@@ -15,11 +15,15 @@ judge-requires c κs = search needs
 enum-known-verdict : tie.Need-enum-known-verdict
 enum-known-verdict c = search needs
 
+refused-requires : tie.Need-refused-requires
+refused-requires c κs = search needs
+
 returns : tie.Need-returns
 returns c =
-    let a = c .before .before .before .before .before .before .before .before .before .args in
+    let known = c .before in
+    let a = known .before .before .before .before .before .before .before .before .before .args in
     let s = star (a .header) (a .centre .now) (a .neighbours .now) in
-    told (refused s (a .store .now) (a .vertices .now) (a .triangles .now) _ (cc))
+    rw (c .refused .ensures) (told (refused s (a .store .now) (a .vertices .now) (a .triangles .now) _ (cc)))
 
 enum-told : tie.Need-enum-told
 enum-told c = search needs
@@ -58,6 +62,7 @@ extract-spec =
     (tie.spec
     judge-requires
     enum-known-verdict
+    refused-requires
     returns
     enum-told
     extract-mesh-requires

@@ -6,9 +6,8 @@ use Prim.Native.Nat.{_*_, _≤_}
 use lib.ListN.{length, take}
 use lib.Seq.{length-take-le}
 use Rattle.model.specs.declared.Verdict.the-variants.{Passed}
-use Rattle.model.specs.declared.Extraction.the-variants.{Refused}
 use Rattle.model.specs.Star.{star}
-use Rattle.algorithm.specs.Passes.{counted, Exact, Leaves}
+use Rattle.algorithm.specs.Passes.{counted, refusedReport, Exact, Leaves}
 use Rattle.algorithm.proofs.Holding.{exact-still}
 use Rattle.algorithm.proofs.Answers.{no-room, has-room, parts, done}
 use Rattle.algorithm.proofs.extract_mesh.Statement.{statement}
@@ -27,7 +26,7 @@ no-room-left : (c : tie.After-known-told) →
     let b = c .before .before .before .before .before .before .before .before .before .before in
     let a = b .args in
     let s = star (a .header) (a .centre .now) (a .neighbours .now) in
-    Leaves (counted s (a .store .now) (a .vertices .now) (a .triangles .now)) (Refused (c .before .room .given .0 .0))
+    Leaves (counted s (a .store .now) (a .vertices .now) (a .triangles .now)) (refusedReport (c .before .room .given .0 .0))
     (a .store .now) (a .vertices .now) (a .triangles .now)
 no-room-left c =
     let b = c .before .before .before .before .before .before .before .before .before .before in
@@ -37,8 +36,11 @@ no-room-left c =
     let s = star (a .header) (a .centre .now) (a .neighbours .now) in
     no-room s (a .store .now) (a .vertices .now) (a .triangles .now) (k .result) (k .ensures .1) (r .result) (r .ensures) _ (cc)
 
+refused-requires : tie.Need-refused-requires
+refused-requires c κs = search needs
+
 returns : tie.Need-returns
-returns c = no-room-left c
+returns c = rw (c .refused .ensures) (no-room-left (c .before))
 
 enum-told : tie.Need-enum-told
 enum-told c = search needs
@@ -127,11 +129,11 @@ returns-2 c =
     let w = c .before .before .before .before .before .before .write-mesh in
     let s = star (a .header) (a .centre .now) (a .neighbours .now) in
     done s (a .store .now) (a .vertices .now) (a .triangles .now) (k .result) (k .ensures .1) (r .result) (r .ensures) (passed (c .before .before .before .before .before .before .before .before .before .before .before .before .before))
-    (places .result) (places .ensures) _ _ _
+    (places .result) (places .ensures) _ _ _ _
     (exact-still
     (record { vertices-same = w .kept .1 .1 .1 .1 .0; triangles-same = w .kept .1 .1 .1 .1 .1 .0; store-same = w .kept .1 .1 .1 .0 })
     (exact (c .before .before .before .before .before .before .before .before .before .before .before .before)))
-    (w .ensures)
+    (w .ensures .0) (w .ensures .1)
 
 pub extract-mesh-spec : {M : Type 1} → statement M
 extract-mesh-spec =
@@ -140,6 +142,7 @@ extract-mesh-spec =
     count-mesh-requires
     judge-room-requires
     enum-known-room
+    refused-requires
     returns
     enum-told
     store-length-requires

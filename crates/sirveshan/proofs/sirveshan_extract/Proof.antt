@@ -1,5 +1,5 @@
 -- `sirveshan_extract` meets its contract: what extraction leaves is as the model says, and its answer is taken apart.
-use mathlib.Core.Path.{ap, _∙_}
+use mathlib.Core.Path.{ap₂, _∙_}
 use borrow.Author.Needs.{needs}
 use Rattle.sirveshan.specs.Calls.{asExtracted}
 use Rattle.sirveshan.proofs.sirveshan_extract.Statement.{statement}
@@ -24,10 +24,10 @@ returns : tie.Need-returns
 returns c =
     let made = c .before .before .before .before .before .before .before .extract .ensures in
     λ i. record {
-      answer = (c .as-extracted .ensures ∙ ap asExtracted (made .0)) i;
+      answer = (c .as-extracted .ensures ∙ ap₂ asExtracted (made .0) (made .1 .1 .1 .1)) i;
       store = made .1 .0 i;
       vertices = made .1 .1 .0 i;
-      triangles = made .1 .1 .1 i;
+      triangles = made .1 .1 .1 .0 i;
     }
 
 pub sirveshan-extract-spec : {M : Type 1} → statement M

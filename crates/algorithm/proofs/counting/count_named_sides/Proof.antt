@@ -64,7 +64,7 @@ still-long c =
 held : (c : tie.After-face-cases Inv-loop μ-loop) (centre : List Float) → let a = entry (tables (turn c)) .args in
     let after = c .face-cases .last .1 .1 .1 in
     Held (star (a .header) centre (a .neighbours .now)) (Side (turn c .before .loop .side)) (a .header .block .subdivisions) [] (after .0) (after .1 .0)
-held c centre = record { numbers = c .face-cases .ensures .0 centre; marked = c .face-cases .ensures .1 centre }
+held c centre = record { numbers = c .face-cases .ensures .0 centre; marked = c .face-cases .ensures .1 .0 centre }
 
 loop-holds : tie.Need-loop-holds Inv-loop μ-loop
 loop-holds c =

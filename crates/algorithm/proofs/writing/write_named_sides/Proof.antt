@@ -6,34 +6,37 @@ use native.Mathlib.Omega.{arith}
 use borrow.Author.Needs.{needs}
 use mathlib.Core.List.{[]}
 use lib.ListN.{length, length-replicate}
-use Rattle.model.specs.Limits.{sideCount}
+use Rattle.model.specs.Limits.{mostSubdivisions, sideCount}
 use Rattle.model.specs.Sides.{named}
 use Rattle.model.specs.Star.{Star, star}
 use Rattle.model.specs.Mesh.{transitionTo}
 use Rattle.cases.specs.Sheets.{sheetPlaces}
 use Rattle.cells.specs.declared.SheetIndex.the-variants.{Side}
-use Rattle.algorithm.specs.Passes.{Held, Holds, SameLengths}
+use Rattle.algorithm.specs.Passes.{Held, Holds, ReadTo, SameLengths}
 use Rattle.algorithm.proofs.Walk.{transition-start, transition-skip, transition-end, held-sheeted}
 use Rattle.algorithm.proofs.Holding.{same-then, fits-still}
+use Rattle.algorithm.proofs.Reading.{read-first, read-side, read-sides}
 use Rattle.algorithm.proofs.writing.write_named_sides.Statement.{statement}
 use Rattle.algorithm.proofs.writing.write_named_sides.Tie as tie
 
 abbrev Inv-loop : tie.InvT-loop
-Inv-loop header fractions centre neighbours counts₀ store₀ vertices₀ triangles₀ mask classes cells codes cases₀ marks₀ side₀ none counts store vertices triangles cases marks side =
+Inv-loop header fractions centre neighbours store₀ vertices₀ triangles₀ mask classes cells codes cases₀ marks₀ counts₀ reads₀ side₀ none store vertices triangles cases marks counts reads side =
     ((side ≤ sideCount) × (side < sideCount → named mask side ≡ true))
     × (((length cases ≡ sheetPlaces) × (length marks ≡ sheetPlaces))
     × (SameLengths vertices₀ vertices triangles₀ triangles store₀ store
-    × Holds (transitionTo (star header centre neighbours) side 0 0) counts vertices triangles store))
+    × (Holds (transitionTo (star header centre neighbours) side 0 0) counts vertices triangles store
+    × ReadTo (transitionTo (star header centre neighbours) side 0 0) (mostSubdivisions + side) reads)))
 
 abbrev μ-loop : tie.MeasureT-loop
-μ-loop header fractions centre neighbours counts₀ store₀ vertices₀ triangles₀ mask classes cells codes cases₀ marks₀ side₀ none counts store vertices triangles cases marks side = sideCount - side
+μ-loop header fractions centre neighbours store₀ vertices₀ triangles₀ mask classes cells codes cases₀ marks₀ counts₀ reads₀ side₀ none store vertices triangles cases marks counts reads side =
+    sideCount - side
 
 -- the entry, from a turn of the loop
 abbrev Entry : Type 0
 Entry = tie.Start Inv-loop μ-loop
 
 abbrev start : tie.In-loop Inv-loop μ-loop → Entry
-start c = c .before .before .before .before .before .before .before .before .before .before .before
+start c = c .before .before .before .before .before .before .before .before .before .before .before .before
 
 abbrev starOf : Entry → Star
 starOf b = star (b .args .header) (b .args .centre .now) (b .args .neighbours .now)
@@ -60,7 +63,7 @@ held : (c : tie.After-face-cases Inv-loop μ-loop) → let b = start (turn c) in
     Held (starOf b) (Side (turn c .before .loop .side)) (b .args .header .block .subdivisions) [] (after .0) (after .1 .0)
 held c =
     let centre = start (turn c) .args .centre .now in
-    record { numbers = c .face-cases .ensures .0 centre; marked = c .face-cases .ensures .1 centre }
+    record { numbers = c .face-cases .ensures .0 centre; marked = c .face-cases .ensures .1 .0 centre }
 
 transition-cell-class-requires : tie.Need-transition-cell-class-requires Inv-loop μ-loop
 transition-cell-class-requires c κs = search needs
@@ -73,18 +76,18 @@ transition-vertex-data-requires c κs = search needs
 
 next-side-requires : tie.Need-next-side-requires Inv-loop μ-loop
 next-side-requires c κs =
-    (c .before .before .before .before .before .before .before .before .pre .0 .0 .sides, omega arith)
+    (c .before .before .before .before .before .before .before .before .before .pre .0 .0 .sides, omega arith)
 
 loop-holds : tie.Need-loop-holds Inv-loop μ-loop
 loop-holds c =
-    let b = c .before .before .before .before .before .before .before .before .before in
+    let b = c .before .before .before .before .before .before .before .before .before .before in
     let next = c .next-side .ensures in (
       (next .le-six, next .is-named),
       (
         (length-replicate {A = ℕ} sheetPlaces 0, length-replicate {A = ℕ} sheetPlaces 0),
         (
           record { vertices-same = refl; triangles-same = refl; store-same = refl },
-          rw (← transition-skip (starOf b) 0 _ next, transition-start) (b .pre .1 .1),
+          (rw (← transition-skip (starOf b) 0 _ next, transition-start) (b .pre .1 .1 .0), read-first (starOf b) _ _ next (b .pre .1 .1 .1)),
         ),
       ),
     )
@@ -103,6 +106,12 @@ face-cases-requires c κs =
       record { few = shaped .few; sides = shaped .sides; side-is = below here; is-named = l .inv .0 .1 (below here); neighbours-are = shaped .neighbours-are },
       (shaped .some, l .inv .1 .0),
     )
+
+add-reads : tie.Need-add-reads Inv-loop μ-loop
+add-reads c =
+    let filled = c .before .before in
+    let here = turn filled in
+    omega (arith, here .before .loop .inv .1 .1 .1 .1 .few, filled .face-cases .ensures .1 .1 .1, here .loop-test .taken)
 
 slice-aggregate-write-sheet : tie.Need-slice-aggregate-write-sheet Inv-loop μ-loop
 slice-aggregate-write-sheet c = search needs
@@ -127,7 +136,7 @@ write-sheet-requires c κs =
     let filled = c .before .before .before .before .before .before .before .before .before .before .before in
     let here = turn filled in
     let long = still-long filled in
-    let codes = here .before .before .before in
+    let codes = here .before .before .before .before in
     let b = start here in
     let l = here .before .loop in (
       record { classes-are = codes .before .before .transition-cell-class .ensures; cells-are = codes .before .transition-cell-data .ensures; codes-are = codes .transition-vertex-data .ensures },
@@ -135,7 +144,7 @@ write-sheet-requires c κs =
         b .pre .0,
         (
           (held-sheeted (starOf b) (Side (l .side)) (held filled) (b .pre .0 .0 .few) (long .0) (long .1), held filled),
-          ((below here, l .inv .0 .1 (below here)), (fits-still (l .inv .1 .1 .0) (b .pre .1 .0), l .inv .1 .1 .1)),
+          ((below here, l .inv .0 .1 (below here)), (fits-still (l .inv .1 .1 .0) (b .pre .1 .0), l .inv .1 .1 .1 .0)),
         ),
       ),
     )
@@ -157,6 +166,8 @@ loop-again c =
     let filled = put .before .before .before .before .before .before .before .before .before .before .before .before in
     let here = turn filled in
     let l = here .before .loop in
+    let s = starOf (start here) in
+    let told = filled .face-cases .ensures .1 .1 in
     let w = put .write-sheet in
     let next = c .next-side2 .ensures in (
       (next .le-six, next .is-named),
@@ -165,7 +176,10 @@ loop-again c =
         (
           same-then (l .inv .1 .1 .0)
               record { vertices-same = omega (arith, w .kept); triangles-same = omega (arith, w .kept); store-same = omega (arith, w .kept) },
-          rw (← transition-skip (starOf (start here)) (l .side + 1) _ next) (w .ensures),
+          (
+            rw (← transition-skip s (l .side + 1) _ next) (w .ensures),
+            read-side s (l .side) _ (l .reads) _ (l .inv .0 .1 (below here)) next (told .0) (told .1) (l .inv .1 .1 .1 .1),
+          ),
         ),
       ),
     )
@@ -181,9 +195,10 @@ same-length-3 c = c .before .loop .inv .1 .1 .0 .triangles-same
 
 returns : tie.Need-returns Inv-loop μ-loop
 returns c =
-    let b = c .before .before .before .before .before .before .before .before .before .before .before in
+    let b = c .before .before .before .before .before .before .before .before .before .before .before .before in
     let l = c .before .loop in
-    rw (← transition-end (starOf b) (l .side) (omega arith)) (l .inv .1 .1 .1)
+    let end : l .side ≡ sideCount = omega arith in
+    (rw (← transition-end (starOf b) (l .side) end) (l .inv .1 .1 .1 .0), read-sides (starOf b) (l .side) (l .reads) end (l .inv .1 .1 .1 .1))
 
 pub write-named-sides-spec : {M : Type 1} → statement M
 write-named-sides-spec =
@@ -199,6 +214,7 @@ write-named-sides-spec =
     slice-aggregate-face-cases
     slice-aggregate-face-cases-2
     face-cases-requires
+    add-reads
     slice-aggregate-write-sheet
     slice-aggregate-write-sheet-2
     slice-aggregate-write-sheet-3

@@ -1,4 +1,4 @@
--- `writing::write_regular_cells` meets its contract: the mesh grows by one layer in each turn.
+-- `writing::write_regular_cells` meets its contract: the mesh grows by one layer in each turn, and what its case numbers read is counted.
 use Prim.Native.Nat.{ℕ, _-_, _≤_}
 use mathlib.Core.Path.{_≡_, refl, sym, _∙_}
 use native.Mathlib.Omega.{arith}
@@ -9,21 +9,23 @@ use Rattle.model.specs.Star.{Star, star}
 use Rattle.model.specs.Mesh.{regularTo}
 use Rattle.cases.specs.Sheets.{sheetPlaces}
 use Rattle.cells.specs.declared.SheetIndex.the-variants.{Layer}
-use Rattle.algorithm.specs.Passes.{Held, Holds, SameLengths}
+use Rattle.algorithm.specs.Passes.{Held, Holds, ReadTo, SameLengths}
 use Rattle.algorithm.proofs.Walk.{regular-start, regular-end, held-sheeted}
 use Rattle.algorithm.proofs.Holding.{holds-none, same-then, fits-still}
+use Rattle.algorithm.proofs.Reading.{read-none, read-layer, read-layers}
 use Rattle.algorithm.proofs.writing.write_regular_cells.Statement.{statement}
 use Rattle.algorithm.proofs.writing.write_regular_cells.Tie as tie
 
 abbrev Inv-loop : tie.InvT-loop
-Inv-loop header fractions centre neighbours store₀ vertices₀ triangles₀ n classes cells codes cases₀ marks₀ counts₀ x₀ none store vertices triangles cases marks counts x =
+Inv-loop header fractions centre neighbours store₀ vertices₀ triangles₀ n classes cells codes cases₀ marks₀ counts₀ reads₀ x₀ none store vertices triangles cases marks counts reads x =
     (x ≤ n)
     × (((length cases ≡ sheetPlaces) × (length marks ≡ sheetPlaces))
     × (SameLengths vertices₀ vertices triangles₀ triangles store₀ store
-    × Holds (regularTo (star header centre neighbours) x 0 0) counts vertices triangles store))
+    × (Holds (regularTo (star header centre neighbours) x 0 0) counts vertices triangles store
+    × ReadTo (regularTo (star header centre neighbours) x 0 0) x reads)))
 
 abbrev μ-loop : tie.MeasureT-loop
-μ-loop header fractions centre neighbours store₀ vertices₀ triangles₀ n classes cells codes cases₀ marks₀ counts₀ x₀ none store vertices triangles cases marks counts x = n - x
+μ-loop header fractions centre neighbours store₀ vertices₀ triangles₀ n classes cells codes cases₀ marks₀ counts₀ reads₀ x₀ none store vertices triangles cases marks counts reads x = n - x
 
 -- the entry, from a turn of the loop
 abbrev Entry : Type 0
@@ -53,7 +55,7 @@ held : (c : tie.After-layer-cases Inv-loop μ-loop) → let b = start (turn c) i
     Held (starOf b) (Layer (turn c .before .loop .x)) (b .args .header .block .subdivisions) (after .0) [] (after .1 .0)
 held c =
     let neighbours = start (turn c) .args .neighbours .now in
-    record { numbers = c .layer-cases .ensures .0 neighbours; marked = c .layer-cases .ensures .1 neighbours }
+    record { numbers = c .layer-cases .ensures .0 neighbours; marked = c .layer-cases .ensures .1 .0 neighbours }
 
 regular-cell-class-requires : tie.Need-regular-cell-class-requires Inv-loop μ-loop
 regular-cell-class-requires c κs = search needs
@@ -73,7 +75,10 @@ loop-holds c =
         (length-replicate {A = ℕ} sheetPlaces 0, length-replicate {A = ℕ} sheetPlaces 0),
         (
           record { vertices-same = refl; triangles-same = refl; store-same = refl },
-          rw (regular-start (starOf b), b .pre .1 .1) (holds-none (a .header .block .subdivisions) (a .vertices .now) (a .triangles .now)),
+          (
+            rw (regular-start (starOf b), b .pre .1 .1) (holds-none (a .header .block .subdivisions) (a .vertices .now) (a .triangles .now)),
+            read-none (starOf b),
+          ),
         ),
       ),
     )
@@ -89,6 +94,12 @@ layer-cases-requires c κs =
     let here = c .before .before in
     let shaped = start here .pre .0 .0 in
     ((shaped .few, shaped .centre-is), (omega (arith, here .loop-test .taken), here .before .loop .inv .1 .0))
+
+add-reads : tie.Need-add-reads Inv-loop μ-loop
+add-reads c =
+    let filled = c .before .before in
+    let here = turn filled in
+    omega (arith, here .before .loop .inv .1 .1 .1 .1 .few, filled .layer-cases .ensures .1 .1 .1, here .loop-test .taken, start here .pre .0 .0 .few)
 
 slice-aggregate-write-sheet : tie.Need-slice-aggregate-write-sheet Inv-loop μ-loop
 slice-aggregate-write-sheet c = search needs
@@ -121,7 +132,7 @@ write-sheet-requires c κs =
         b .pre .0,
         (
           (held-sheeted (starOf b) (Layer (l .x)) (held filled) (b .pre .0 .0 .few) (long .0) (long .1), held filled),
-          (omega (arith, here .loop-test .taken), (fits-still (l .inv .1 .1 .0) (b .pre .1 .0), l .inv .1 .1 .1)),
+          (omega (arith, here .loop-test .taken), (fits-still (l .inv .1 .1 .0) (b .pre .1 .0), l .inv .1 .1 .1 .0)),
         ),
       ),
     )
@@ -140,6 +151,7 @@ loop-again c =
     let filled = put .before .before .before .before .before .before .before .before .before .before .before .before in
     let here = turn filled in
     let l = here .before .loop in
+    let told = filled .layer-cases .ensures .1 .1 in
     let w = put .write-sheet in (
       omega (arith, here .loop-test .taken),
       (
@@ -147,7 +159,7 @@ loop-again c =
         (
           same-then (l .inv .1 .1 .0)
               record { vertices-same = omega (arith, w .kept); triangles-same = omega (arith, w .kept); store-same = omega (arith, w .kept) },
-          w .ensures,
+          (w .ensures, read-layer (starOf (start here)) (l .x) (l .reads) _ (told .0) (told .1) (l .inv .1 .1 .1 .1)),
         ),
       ),
     )
@@ -165,7 +177,10 @@ returns : tie.Need-returns Inv-loop μ-loop
 returns c =
     let b = c .before .before .before .before .before .before .before .before .before .before in
     let l = c .before .loop in
-    rw (← regular-end (starOf b) (l .x) (omega arith)) (l .inv .1 .1 .1)
+    let end : l .x ≡ b .args .header .block .subdivisions = omega arith in (
+      rw (← regular-end (starOf b) (l .x) end) (l .inv .1 .1 .1 .0),
+      read-layers (starOf b) (l .x) (l .reads) end (omega (arith, b .pre .0 .0 .few)) (l .inv .1 .1 .1 .1),
+    )
 
 pub write-regular-cells-spec : {M : Type 1} → statement M
 write-regular-cells-spec =
@@ -180,6 +195,7 @@ write-regular-cells-spec =
     slice-aggregate-layer-cases
     slice-aggregate-layer-cases-2
     layer-cases-requires
+    add-reads
     slice-aggregate-write-sheet
     slice-aggregate-write-sheet-2
     slice-aggregate-write-sheet-3

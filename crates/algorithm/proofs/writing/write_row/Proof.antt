@@ -1,4 +1,4 @@
--- `writing::write_row` meets its contract: the mesh grows by each marked cell, and the others leave it as it is.
+-- `writing::write_row` meets its contract: the mesh grows by each marked cell, and the others make nothing.
 use Prim.Native.Nat.{_+_, _-_, _*_, _≤_, _<_}
 use mathlib.Core.Path.{refl, _∙_}
 use native.Mathlib.Omega.{arith}
@@ -101,7 +101,7 @@ write-sheet-cell-requires c κs =
         cell-ready (starOf b) (b .args .fractions .now) (shaped .0) (shaped .1) (b .args .sheet) (b .pre .1 .1 .1 .0) (b .args .u) v u-in v-in,
         (
           numbered .number-at .ensures ∙ b .pre .1 .1 .0 .1 .numbers .case-at (b .args .u) v u-in v-in,
-          (r .fits .store-fits, (room-vertices r, room-triangles r)),
+          (r .fits .store-fits, (room-vertices r, (room-triangles r, r .holds .read-so-far))),
         ),
       ),
     )

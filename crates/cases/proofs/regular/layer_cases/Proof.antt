@@ -20,7 +20,7 @@ same-length-2 c = search needs
 returns : tie.Need-returns
 returns c =
     let rows = c .before .before .before .before .before .before .before .layer-rows .ensures in
-    (rows, λ ns. marked-sheet allRegular _ _ _ _ _ (rows ns) (c .before .before .mark-layer .ensures))
+    (rows .0, (λ ns. marked-sheet allRegular _ _ _ _ _ (rows .0 ns) (c .before .before .mark-layer .ensures), rows .1))
 
 pub layer-cases-spec : {M : Type 1} → statement M
 layer-cases-spec =

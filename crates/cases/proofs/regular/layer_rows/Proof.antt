@@ -1,29 +1,38 @@
--- `regular::layer_rows` meets its contract. The loop's invariant: the rows passed are written.
+-- `regular::layer_rows` meets its contract. The loop's invariant: the rows passed are written, and what they read is counted.
 use native.Mathlib.Omega.{arith}
 use borrow.Author.Needs.{needs}
-use Prim.Native.Nat.{_-_, _≤_}
+use Prim.Native.Nat.{_-_, _*_, _≤_}
 use mathlib.Core.Path.{_≡_, _∙_}
 use mathlib.Core.List.{List}
 use lib.Ieee.{Float}
 use lib.ListN.{length}
+use Rattle.model.specs.Limits.{mostSubdivisions}
 use Rattle.model.specs.Star.{star}
 use Rattle.model.specs.Points.{regularCase}
+use Rattle.model.specs.Mesh.{regularReads}
 use Rattle.cases.specs.Sheets.{sheetPlaces, Sheet}
 use Rattle.cases.proofs.Rows.{no-row, one-more-row}
 use Rattle.cases.proofs.regular.layer_rows.Statement.{statement}
 use Rattle.cases.proofs.regular.layer_rows.Tie as tie
 
 abbrev Inv-loop : tie.InvT-loop
-Inv-loop header centre x cases₀ n y₀ cases y = (y ≤ n) × ((length cases ≡ sheetPlaces) × ((ns : List Float) → Sheet (regularCase (star header centre ns) x) n y cases))
+Inv-loop header centre x cases₀ n reads₀ y₀ cases reads y =
+    (y ≤ n)
+    × ((length cases ≡ sheetPlaces)
+    × (((ns : List Float) → Sheet (regularCase (star header centre ns) x) n y cases)
+    × ((reads ≡ regularReads * n * y) × (reads ≤ regularReads * mostSubdivisions * y))))
 
 abbrev μ-loop : tie.MeasureT-loop
-μ-loop header centre x cases₀ n y₀ cases y = n - y
+μ-loop header centre x cases₀ n reads₀ y₀ cases reads y = n - y
 
 loop-holds : tie.Need-loop-holds Inv-loop μ-loop
-loop-holds c = (omega arith, (omega arith, λ ns. no-row _ _ _))
+loop-holds c = (omega arith, (omega arith, (λ ns. no-row _ _ _, (omega arith, omega arith))))
 
 row-requires : tie.Need-row-requires Inv-loop μ-loop
 row-requires c κs = search needs
+
+add-reads : tie.Need-add-reads Inv-loop μ-loop
+add-reads c = omega arith
 
 add-y : tie.Need-add-y Inv-loop μ-loop
 add-y c = search needs
@@ -38,7 +47,10 @@ loop-again c =
       omega arith,
       (
         written .kept .1 .1 .1 .1 .0 ∙ l .inv .1 .0,
-        λ ns. one-more-row _ _ (l .y) (l .cases) _ (written .ensures ns) (l .inv .1 .1 ns),
+        (
+          λ ns. one-more-row _ _ (l .y) (l .cases) _ (written .ensures .0 ns) (l .inv .1 .1 .0 ns),
+          (omega (arith, written .ensures .1, l .inv .1 .1 .1 .0), omega (arith, written .ensures .1, l .inv .1 .1 .1 .1)),
+        ),
       ),
     )
 
@@ -49,7 +61,7 @@ returns : tie.Need-returns Inv-loop μ-loop
 returns c =
     let l = c .before .loop in
     let e : l .y ≡ c .before .before .before .before .args .header .block .subdivisions = omega arith in
-    λ ns. rw e at (l .inv .1 .1 ns)
+    (λ ns. rw e at (l .inv .1 .1 .0 ns), (rw e at (l .inv .1 .1 .1 .0), omega (arith, l .inv .1 .1 .1 .1)))
 
 pub layer-rows-spec : {M : Type 1} → statement M
 layer-rows-spec =
@@ -59,6 +71,7 @@ layer-rows-spec =
     μ-loop
     loop-holds
     row-requires
+    add-reads
     add-y
     loop-less
     loop-again

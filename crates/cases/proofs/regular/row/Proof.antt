@@ -57,11 +57,13 @@ same-length c = search needs
 returns : tie.Need-returns
 returns c =
     let lines = c .before .before .before .before in
-    let a = entry lines .args in
-    λ ns.
-    row-as
-    (case-is (star (a .header) (a .centre .now) ns) (a .x) (a .y) _ _ _ _ (lines .before .before .before .line .ensures) (lines .before .before .line2 .ensures)
-    (lines .before .line3 .ensures) (lines .line4 .ensures)) (c .before .before .row-between .ensures)
+    let a = entry lines .args in (
+      λ ns.
+          row-as
+          (case-is (star (a .header) (a .centre .now) ns) (a .x) (a .y) _ _ _ _ (lines .before .before .before .line .ensures) (lines .before .before .line2 .ensures)
+          (lines .before .line3 .ensures) (lines .line4 .ensures)) (c .before .before .row-between .ensures .0),
+      c .before .before .row-between .ensures .1,
+    )
 
 pub row-spec : {M : Type 1} → statement M
 row-spec =

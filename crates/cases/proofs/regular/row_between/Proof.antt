@@ -1,4 +1,4 @@
--- `regular::row_between` meets its contract. The loop's invariant: whatever row was begun, the places passed hold their cells' numbers.
+-- `regular::row_between` meets its contract. The loop's invariant: whatever row was begun, the places passed hold their cells' numbers. Eight samples were read for each.
 use native.Mathlib.Omega.{arith}
 use borrow.Author.Needs.{needs}
 use Prim.Native.Nat.{ℕ, _-_, _≤_}
@@ -62,6 +62,9 @@ loop-again c =
       ),
     )
 
+mul-result : tie.Need-mul-result Inv-loop μ-loop
+mul-result c = omega arith
+
 same-length : tie.Need-same-length Inv-loop μ-loop
 same-length c = omega arith
 
@@ -70,7 +73,7 @@ returns c =
     let l = c .before .loop in
     let made = c .before .before .before .before .by-sixteens .ensures in
     let e : l .z ≡ c .before .before .before .before .before .before .before .before .before .before .before .args .n = omega arith in
-    rw e at (l .inv .1 .1 _ (made .1))
+    (rw e at (l .inv .1 .1 _ (made .1)), omega arith)
 
 pub row-between-spec : {M : Type 1} → statement M
 row-between-spec =
@@ -90,5 +93,6 @@ row-between-spec =
     add-z
     loop-less
     loop-again
+    mul-result
     same-length
     returns)

@@ -66,7 +66,7 @@ returns c =
     let put = c .before .before .before .before in
     let lent = put .before .before .before in (
       λ centre ns e. row-as (nine lent centre ns e) (put .row-on .ensures .0),
-      λ centre ns e. row-as (λ v h. ap (markOf allTransition) (nine lent centre ns e v h)) (put .row-on .ensures .1),
+      (λ centre ns e. row-as (λ v h. ap (markOf allTransition) (nine lent centre ns e v h)) (put .row-on .ensures .1 .0), put .row-on .ensures .1 .1),
     )
 
 pub row-spec : {M : Type 1} → statement M

@@ -1,4 +1,4 @@
--- `transition::row_on` meets its contract. The loop's invariant: the places passed hold their cells' numbers and marks.
+-- `transition::row_on` meets its contract. The loop's invariant: the places passed hold their cells' numbers and marks. Nine samples were read for each.
 use native.Mathlib.Omega.{arith}
 use borrow.Author.Needs.{needs}
 use Prim.Native.Nat.{_+_, _*_, _-_, _≤_}
@@ -68,6 +68,9 @@ loop-again c =
       ),
     )
 
+mul-result : tie.Need-mul-result Inv-loop μ-loop
+mul-result c = omega arith
+
 same-length : tie.Need-same-length Inv-loop μ-loop
 same-length c = omega arith
 
@@ -78,7 +81,7 @@ returns : tie.Need-returns Inv-loop μ-loop
 returns c =
     let l = c .before .loop in
     let e : l .v ≡ c .before .before .before .before .before .args .n = omega arith in
-    (rw e at (l .inv .1 .0 .1), rw e at (l .inv .1 .1 .1))
+    (rw e at (l .inv .1 .0 .1), (rw e at (l .inv .1 .1 .1), omega arith))
 
 pub row-on-spec : {M : Type 1} → statement M
 row-on-spec =
@@ -97,6 +100,7 @@ row-on-spec =
     add-v
     loop-less
     loop-again
+    mul-result
     same-length
     same-length-2
     returns)

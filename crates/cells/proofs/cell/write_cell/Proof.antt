@@ -19,7 +19,21 @@ fill-cell-requires c κs =
 put-triangles-requires : tie.Need-put-triangles-requires
 put-triangles-requires c κs =
     let p = c .before .before .before .before .before .before .before .before .before .before .before .before .before .before .before .before .before .before .pre in
-    (p .1 .0 .1, p .1 .1 .1 .1)
+    (p .1 .0 .1, p .1 .1 .1 .1 .0)
+
+-- the entry, and the place where the vertices are put, from that where all is
+abbrev start : tie.After-struct-known2 → tie.Start
+start c = c .before .before .before .before .before .before .before .before .before .before .before .before .before .before .before .before .before .before .before .before .before .before .before
+
+abbrev filled : tie.After-struct-known2 → tie.After-fill-cell
+filled c = c .before .before .before .before .before .before .before .before .before .before .before .before .before
+
+add-reads : tie.Need-add-reads
+unfolding fillTo
+add-reads c =
+    let p = start c .pre .1 .1 .1 in
+    let put = filled c .fill-cell .ensures in
+    omega (arith, p .0 .short, p .1 .1, put .reads-are)
 
 same-length : tie.Need-same-length
 same-length c = search needs
@@ -33,10 +47,11 @@ same-length-3 c = search needs
 returns : tie.Need-returns
 unfolding fillTo triangleOf rowTriangle
 returns c =
-    let a = c .before .before .before .before .before .before .before .before .before .before .before .before .before .before .before .before .before .before .before .before .before .args in
+    let b = start c in
+    let a = b .args in
+    let put = c .before .before .before .before .put-triangles .ensures in
     cell-put (cellOf (star (a .header) (a .centre .now) (a .neighbours .now)) (a .at) (a .codes .now) (a .row .now) (a .turned)) (a .counts .vertices) (a .counts .triangles)
-    (a .vertices .now) (a .triangles .now) (a .store .now) _ _ _ _ _ _ _
-    (c .before .before .before .before .before .before .before .before .before .before .before .fill-cell .ensures) (c .before .before .put-triangles .ensures .0) (c .before .before .put-triangles .ensures .1)
+    (a .vertices .now) (a .triangles .now) (a .store .now) _ _ _ _ _ _ _ _ _ (b .pre .1 .1 .1 .1 .1) (filled c .fill-cell .ensures) (put .0) (put .1)
 
 pub write-cell-spec : {M : Type 1} → statement M
 write-cell-spec =
@@ -44,6 +59,7 @@ write-cell-spec =
     (tie.spec
     fill-cell-requires
     put-triangles-requires
+    add-reads
     same-length
     same-length-2
     same-length-3

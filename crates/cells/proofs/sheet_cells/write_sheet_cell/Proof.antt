@@ -68,7 +68,7 @@ write-cell-requires c κs =
           b .pre .1 .1 .1 .0,
           (
             vertex-room (same r) (a .counts .vertices) (a .vertices .now) (a .store .now) (room .0),
-            triangle-room (same r) (a .counts .triangles) (a .triangles .now) (room .1),
+            (triangle-room (same r) (a .counts .triangles) (a .triangles .now) (room .1 .0), room .1 .1),
           ),
         ),
       ),
@@ -88,7 +88,7 @@ returns c =
     let put = c .before .before .before .before .before .before in
     let r = put .before .before .before .before in
     let a = start r .args in
-    put-as (same r) (a .counts .vertices) (a .counts .triangles) (a .vertices .now) (a .triangles .now) (a .store .now) _ _ _ _ _ (put .write-cell .ensures)
+    put-as (same r) (a .counts .vertices) (a .counts .triangles) (a .vertices .now) (a .triangles .now) (a .store .now) _ _ _ _ _ _ (put .write-cell .ensures)
 
 pub write-sheet-cell-spec : {M : Type 1} → statement M
 write-sheet-cell-spec =

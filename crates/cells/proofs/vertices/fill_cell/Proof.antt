@@ -1,6 +1,6 @@
 -- `vertices::fill_cell` meets its contract. The loop's invariant: the buffers are as the definition's first k vertices leave them.
 -- Assumes nothing.
-use Prim.Native.Nat.{_-_, _≤_}
+use Prim.Native.Nat.{_-_, _≤_, _<_}
 use mathlib.Core.Bool.{false}
 use mathlib.Core.Path.{_≡_, refl, ap, _∙_}
 use native.Mathlib.Omega.{arith}
@@ -18,12 +18,12 @@ use Rattle.cells.proofs.vertices.fill_cell.Statement.{statement}
 use Rattle.cells.proofs.vertices.fill_cell.Tie as tie
 
 abbrev Inv-loop : tie.InvT-loop
-Inv-loop header fractions centre neighbours at codes row store₀ vertices₀ base count cell₀ next₀ k₀ store vertices cell next k =
+Inv-loop header fractions centre neighbours at codes row store₀ vertices₀ base count cell₀ next₀ reads₀ k₀ store vertices cell next reads k =
     (k ≤ count) × FillPut (fillTo (cellOf (star header centre neighbours) at codes row false) base store₀ k) base vertices₀
-    (cell .index) (cell .count) next vertices store
+    (cell .index) (cell .count) next reads vertices store
 
 abbrev μ-loop : tie.MeasureT-loop
-μ-loop header fractions centre neighbours at codes row store₀ vertices₀ base count cell₀ next₀ k₀ store vertices cell next k = count - k
+μ-loop header fractions centre neighbours at codes row store₀ vertices₀ base count cell₀ next₀ reads₀ k₀ store vertices cell next reads k = count - k
 
 vertex-count-requires : tie.Need-vertex-count-requires Inv-loop μ-loop
 vertex-count-requires c κs = search needs
@@ -54,7 +54,7 @@ put-code-requires c κs =
         b .pre .1 .0 .1 .1 .usable (l .k) (omega arith),
         (
           ap length (l .inv .1 .store-is) ∙ length-fill-store cell (a .base) (a .store .now) (l .k) ∙ b .pre .1 .1 .0,
-          fill-ready cell (a .base) (a .store .now) (l .k) (cell .uses (l .k)) refl (a .vertices .now) _ _ _ _ _ (l .inv .1)
+          fill-ready cell (a .base) (a .store .now) (l .k) (cell .uses (l .k)) refl (a .vertices .now) _ _ _ _ _ _ (l .inv .1)
               (verticesOf (a .row .now)) (omega arith) (b .pre .1 .1 .1),
         ),
       ),
@@ -75,18 +75,28 @@ add-k c =
     let b = c .before .before .before .before .before .before .before .before .before .before .before .before .before .before .before .before .before in
     omega (arith, b .pre .1 .0, c .before .before .before .before .before .before .before .before .before .before .vertex-count .ensures, c .before .before .before .before .before .before .before .before .loop-test .taken)
 
+add-reads : tie.Need-add-reads Inv-loop μ-loop
+add-reads c =
+    let b = c .before .before .before .before .before .before .before .before .before .before .before .before .before .before .before .before .before .before in
+    let a = b .args in
+    let l = c .before .before .before .before .before .before .before .before .before .before .loop in
+    let cell = cellOf (star (a .header) (a .centre .now) (a .neighbours .now)) (a .at) (a .codes .now) (a .row .now) false in
+    let inside : l .k < verticesOf (a .row .now) = omega (arith, c .before .before .before .before .before .before .before .before .before .before .before .vertex-count .ensures, c .before .before .before .before .before .before .before .before .before .loop-test .taken) in
+    let room = fill-ready cell (a .base) (a .store .now) (l .k) (cell .uses (l .k)) refl (a .vertices .now) _ _ _ _ _ _ (l .inv .1) (verticesOf (a .row .now)) inside (b .pre .1 .1 .1) in
+    omega (arith, room .short, l .inv .1 .next-is, l .inv .1 .reads-are, c .before .before .before .before .before .put-code .ensures .reads-are)
+
 loop-less : tie.Need-loop-less Inv-loop μ-loop
-loop-less c = omega (arith, c .before .before .before .before .before .before .before .before .loop-test .taken)
+loop-less c = omega (arith, c .before .before .before .before .before .before .before .before .before .loop-test .taken)
 
 loop-again : tie.Need-loop-again Inv-loop μ-loop
 loop-again c =
-    let b = c .before .before .before .before .before .before .before .before .before .before .before .before .before .before .before .before .before in
+    let b = c .before .before .before .before .before .before .before .before .before .before .before .before .before .before .before .before .before .before in
     let a = b .args in
-    let l = c .before .before .before .before .before .before .before .before .before .loop in
+    let l = c .before .before .before .before .before .before .before .before .before .before .loop in
     let cell = cellOf (star (a .header) (a .centre .now) (a .neighbours .now)) (a .at) (a .codes .now) (a .row .now) false in (
-      omega (arith, c .before .before .before .before .before .before .before .before .loop-test .taken),
-      fill-more cell (a .base) (a .store .now) (l .k) (cell .uses (l .k)) refl (a .vertices .now) _ _ _ _ _ (l .inv .1)
-          _ _ _ _ (omega (arith, b .pre .1 .0, c .before .before .before .before .before .before .before .before .before .before .vertex-count .ensures, c .before .before .before .before .before .before .before .before .loop-test .taken)) (c .before .before .before .before .put-code .ensures),
+      omega (arith, c .before .before .before .before .before .before .before .before .before .loop-test .taken),
+      fill-more cell (a .base) (a .store .now) (l .k) (cell .uses (l .k)) refl (a .vertices .now) _ _ _ _ _ _ (l .inv .1)
+          _ _ _ _ _ (omega (arith, b .pre .1 .0, c .before .before .before .before .before .before .before .before .before .before .before .vertex-count .ensures, c .before .before .before .before .before .before .before .before .before .loop-test .taken)) (c .before .before .before .before .before .put-code .ensures),
     )
 
 same-length : tie.Need-same-length Inv-loop μ-loop
@@ -117,6 +127,7 @@ fill-cell-spec =
     mul-cell
     element-write-cell
     add-k
+    add-reads
     loop-less
     loop-again
     same-length
