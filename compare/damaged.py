@@ -5,7 +5,8 @@
 
 Each seed makes a call that is good but for a fault or two (a length, a number, a mask, a sample, a
 face that disagrees, a buffer one place short, or none), and compares the answer, its three numbers
-and all three lent buffers with tools/reference.py, which follows document 01's table of refusals.
+and all three lent buffers with tools/reference.py, which follows document 01's table of refusals. Of a
+mesh the third number is its sample reads, which the reference counts one by one.
 """
 
 import random
@@ -94,7 +95,7 @@ class Call:
         if isinstance(answer, reference.Refusal):
             numbers = list(answer)
         else:
-            numbers = [0, answer.vertices, answer.triangles, 0]
+            numbers = [0, *answer]
         return numbers + store + vertices + triangles
 
 

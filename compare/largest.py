@@ -49,11 +49,12 @@ def main():
     if number != 10 or not vertices or not triangles:
         sys.exit("without room: %d %d %d, not 10 and two counts" % (number, vertices, triangles))
     exact = [STORE, 6 * vertices, 3 * triangles]
-    expect(exact, (0, vertices, triangles, 0), 0)
+    reads = 8 * N ** 3 + 9 * 6 * N ** 2 + 14 * vertices
+    expect(exact, (0, vertices, triangles, reads), 0)
     for short, wanted in enumerate([(9, STORE, 0, 0), (10, vertices, triangles, 0), (10, vertices, triangles, 0)]):
         sizes = [size - (place == short) for place, size in enumerate(exact)]
         expect(sizes, wanted, sum(sizes))
-    print("%d vertices, %d triangles; exact sizes are accepted, one less of each is refused" % (vertices, triangles))
+    print("%d vertices, %d triangles, %d reads; exact sizes are accepted, one less of each is refused" % (vertices, triangles, reads))
 
 
 if __name__ == "__main__":

@@ -170,6 +170,14 @@ extern "C" {
     (3 * (size_t)(n) * ((size_t)(n) * ((size_t)(n) + 4) - 1) + SIRVESHAN_SIDES(mask) * 4 * (size_t)(n) * (2 * (size_t)(n) + 1))
 #define SIRVESHAN_MOST_TRIANGLES(n, mask) ((size_t)(n) * (size_t)(n) * (5 * (size_t)(n) + 12 * SIRVESHAN_SIDES(mask)))
 
+/*
+ * As many sample reads as extraction reports at most. Proved (crates/promises/specs/Reads.antt): 50n^3 + 168n^2 - 42n, and for each
+ * named side 121n^2 + 56n more. A block whose samples alternate has that many. At n = 16 that is 247,136 with no finer neighbour,
+ * 438,368 with six; at n = 64 13,792,640 and 16,787,840.
+ */
+#define SIRVESHAN_MOST_READS(n, mask)                                                                                            \
+    ((size_t)(n) * (size_t)(n) * (8 * (size_t)(n) + 9 * SIRVESHAN_SIDES(mask)) + 14 * SIRVESHAN_MOST_VERTICES(n, mask))
+
 /* A block, which of its neighbours are finer, and where inside begins. */
 typedef struct sirveshan_header {
     float x, y, z;       /* its lowest point, the base: each finite and at most 1,048,576 in size */
@@ -198,10 +206,16 @@ typedef struct sirveshan_refusal {
  * On a mesh refused.number is 0: the first 6 * vertices floats and the first 3 * triangles indices are written, and all beyond
  * stays as it was. Judged are 1 to 10, in that order. To have room that just fits, call with both lengths 0 first: 10 tells both
  * counts (and a mesh with no vertex is accepted). On a refusal both counts are 0 and no lent place is altered.
+ *
+ * reads tells how often a sample was read once every check had passed: eight times for each of the n*n*n regular cells, nine for
+ * each of the n*n transition cells of a named side, and fourteen for each vertex, so 8*n*n*n + 9*s*n*n + 14*vertices with s named
+ * sides, at most SIRVESHAN_MOST_READS(n, mask). The judges, and the count of what needs room, which read samples before, are not in
+ * it. On a refusal it is 0.
  */
 typedef struct sirveshan_extracted {
     sirveshan_refusal refused;
     size_t vertices, triangles;
+    uint64_t reads;
 } sirveshan_extracted;
 
 sirveshan_extracted sirveshan_extract(sirveshan_header header, const float *centre, size_t centre_length,

@@ -57,6 +57,7 @@ class Counts(NamedTuple):
     """Extraction's answer when nothing is refused."""
     vertices: int
     triangles: int
+    reads: int
 
 
 class Block(NamedTuple):
@@ -71,10 +72,11 @@ class Block(NamedTuple):
 
 
 class Mesh(NamedTuple):
-    """Six f32 bit patterns a vertex, three indices a triangle, the index store."""
+    """Six f32 bit patterns a vertex, three indices a triangle, the index store; the sample reads that it took."""
     vertices: list
     triangles: list
     store: list
+    reads: int
 
 
 # f32
@@ -370,7 +372,7 @@ def steps_around(point):
 
 
 class Field:
-    """A block's numbers as floats, and its samples by grid point."""
+    """A block's numbers as floats, and its samples by grid point; each read of one is counted."""
 
     def __init__(self, block):
         self.n = block.n
@@ -378,6 +380,7 @@ class Field:
         self.base = tuple(value(pattern) for pattern in block.base)
         self.size = value(block.size)
         self.threshold = value(block.threshold)
+        self.reads = 0
         self._centre = values(block.centre)
         self._neighbours = {}
         one = block_length(2 * block.n)
@@ -385,9 +388,11 @@ class Field:
             self._neighbours[side] = values(block.neighbours[k * one:(k + 1) * one])
 
     def centre(self, point):
+        self.reads += 1
         return self._centre[sample_place(self.n, point)]
 
     def neighbour(self, side, point):
+        self.reads += 1
         return self._neighbours[side][sample_place(2 * self.n, point)]
 
     def regular_gradient(self, point):
@@ -562,13 +567,15 @@ def mesh_of(block, mesher=Mesher):
         for u in steps:
             for v in steps:
                 mesher.transition_cell(side, u, v)
-    return Mesh(mesher.vertices, mesher.triangles, mesher.store)
+    return Mesh(mesher.vertices, mesher.triangles, mesher.store, mesher.field.reads)
 
 
 # Extraction
 
 def extract(block, vertices, triangles, store):
-    """Counts or a refusal, 1 to 10; fills the three lent lists when nothing is refused."""
+    """Counts or a refusal, 1 to 10; fills the three lent lists when nothing is refused.
+
+    A refusal reports no reads: they are those made once every check has passed."""
     refusal = (refuse_block(block)
                or refuse_face_mismatch(block)
                or refuse_store(block.n, len(store)))
@@ -581,7 +588,7 @@ def extract(block, vertices, triangles, store):
     lay(vertices, [number for vertex in mesh.vertices for number in vertex])
     lay(triangles, [index for triangle in mesh.triangles for index in triangle])
     lay(store, mesh.store)
-    return Counts(len(mesh.vertices), len(mesh.triangles))
+    return Counts(len(mesh.vertices), len(mesh.triangles), mesh.reads)
 
 
 def lay(lent, numbers):
@@ -771,7 +778,7 @@ def listing_text(answer, vertices, triangles):
     """The lines for an extraction's answer and its flat lists."""
     if isinstance(answer, Refusal):
         return "refused %d %d %d %d\n" % answer
-    lines = ["mesh %d %d" % answer]
+    lines = ["mesh %d %d" % (answer.vertices, answer.triangles)]
     for k in range(answer.vertices):
         lines.append("v " + " ".join("%08x" % number for number in vertices[6 * k:6 * k + 6]))
     for k in range(answer.triangles):
@@ -802,7 +809,7 @@ def accepted_mesh(record):
 def mesh_lines(mesh):
     if isinstance(mesh, Refusal):
         return listing_text(mesh, [], [])
-    return listing_text(Counts(len(mesh.vertices), len(mesh.triangles)),
+    return listing_text(Counts(len(mesh.vertices), len(mesh.triangles), mesh.reads),
                         [number for vertex in mesh.vertices for number in vertex],
                         [index for triangle in mesh.triangles for index in triangle])
 

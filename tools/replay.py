@@ -44,12 +44,12 @@ class Lent(NamedTuple):
 
 
 class Answer(NamedTuple):
-    """The four numbers (0 and the counts for a mesh), and what is laid into the buffers."""
+    """The four numbers (0, the counts and the reads for a mesh), and what is laid into the buffers."""
     numbers: tuple
     mesh: ref.Mesh
 
 
-NOTHING = ref.Mesh([], [], [])
+NOTHING = ref.Mesh([], [], [], 0)
 
 
 def exact(mesh):
@@ -62,16 +62,16 @@ def reference_answer(block, lent):
     answer = ref.extract(block, vertices, triangles, store)
     if isinstance(answer, ref.Refusal):
         return Answer(tuple(answer), NOTHING)
-    return Answer((0, answer.vertices, answer.triangles, 0), ref.mesh_of(block))
+    return Answer((0, *answer), ref.mesh_of(block))
 
 
 def mesh_of_text(text):
-    """The mesh in the oracle's two texts."""
+    """The mesh in the oracle's two texts, which tell no reads."""
     listing, store = text.split("store\n")
     rows = [line.split() for line in listing.splitlines()[1:]]
     return ref.Mesh([tuple(int(word, 16) for word in row[1:]) for row in rows if row[0] == "v"],
                     [tuple(map(int, row[1:])) for row in rows if row[0] == "t"],
-                    [int(line) for line in store.splitlines()[:-1]])
+                    [int(line) for line in store.splitlines()[:-1]], None)
 
 
 # Bytes
@@ -120,7 +120,7 @@ class Vectors:
         if answer.numbers[0]:
             self.refused[kind].add(answer.numbers[0])
             return answer
-        assert answer.mesh == self.mesh(block)
+        assert answer.mesh._replace(reads=None) == self.mesh(block)
         self.blocks.append(block)
         for met, cases in zip((self.regular, self.transition), compare.cases_met(block)):
             met |= cases

@@ -1,9 +1,10 @@
 #!/usr/bin/env python3
-"""Document 01's figures, case A and refusals, document 02's STL and blank, asked of tools/reference.py; the example records.
+"""Document 01's figures, case A and refusals, document 02's STL, blank and reads, asked of tools/reference.py; the example records.
 
     python3 tools/test_reference.py
 """
 
+import random
 import struct
 import unittest
 
@@ -102,7 +103,7 @@ class Figures(unittest.TestCase):
         for mask in (0, 63):
             for sample in (ZERO, HALF, ONE):
                 block = flat_block(2, mask, sample)
-                self.assertEqual(reference.extract(block, *lent(block)), Counts(0, 0))
+                self.assertEqual(reference.extract(block, *lent(block)), Counts(0, 0, 64 + (216 if mask else 0)))
 
     def test_negative_zero_is_inside(self):
         block = flat_block()._replace(threshold=ZERO)
@@ -120,7 +121,7 @@ class Extraction(unittest.TestCase):
 
     def test_fills_the_first_places(self):
         vertices, triangles, store = lent(case_a())
-        self.assertEqual(reference.extract(case_a(), vertices, triangles, store), Counts(3, 1))
+        self.assertEqual(reference.extract(case_a(), vertices, triangles, store), Counts(3, 1, 50))
         self.assertEqual(triangles, [0, 1, 2] + [7] * 597)
         self.assertEqual(vertices[18:], [7] * 582)
         self.assertEqual(store, [0] * 64 + [7] * 5)
@@ -144,7 +145,7 @@ class Extraction(unittest.TestCase):
             self.refused(case_a()._replace(size=pattern), Refusal(3, 3))
         for pattern in (bits(1 / 1024), LIMIT):
             block = case_a()._replace(size=pattern, base=(LIMIT, LIMIT | NEGATIVE_ZERO, ZERO))
-            self.assertEqual(reference.extract(block, *lent(block)), Counts(3, 1))
+            self.assertEqual(reference.extract(block, *lent(block)), Counts(3, 1, 50))
 
     def test_4_5_6(self):
         self.refused(case_a()._replace(centre=[NAN] * 31), Refusal(4, 32))
@@ -175,7 +176,21 @@ class Extraction(unittest.TestCase):
         self.refused(case_a(), Refusal(9, 64), store=63, vertices=0)
         self.refused(case_a(), Refusal(10, 3, 1), vertices=17)
         self.refused(case_a(), Refusal(10, 3, 1), triangles=2)
-        self.assertEqual(reference.extract(case_a(), [0] * 18, [0] * 3, [0] * 64), Counts(3, 1))
+        self.assertEqual(reference.extract(case_a(), [0] * 18, [0] * 3, [0] * 64), Counts(3, 1, 50))
+
+
+class Reads(unittest.TestCase):
+    """Document 02, [7]: the samples that meshing reads, counted one by one as the field is asked for them."""
+
+    def test_as_many_as_stated(self):
+        for n, mask in ((1, 0), (2, 0), (2, 0b000001), (3, 0b100110), (1, 63)):
+            chance = random.Random(n + mask)
+            samples = chance.choices([ZERO, ONE], k=reference.samples_length(n, mask))
+            records.agree(n, mask, samples)
+            own = reference.block_length(n)
+            mesh = reference.mesh_of(flat_block(n, mask)._replace(centre=samples[:own], neighbours=samples[own:]))
+            sides = len(reference.sides_named(mask))
+            self.assertEqual(mesh.reads, 8 * n ** 3 + 9 * sides * n ** 2 + 14 * len(mesh.vertices))
 
 
 class Records(unittest.TestCase):

@@ -49,6 +49,7 @@ static void expect_refused(const char *what, struct call c, size_t number, size_
     expect_refusal(what, o.answer.refused, number, first, second, third);
     expect(what, o.answer.vertices, 0);
     expect(what, o.answer.triangles, 0);
+    expect(what, o.answer.reads, 0);
     expect(what, altered(o.store, 0, c.store_length), 0);
     expect(what, altered(o.vertices, 0, c.vertices_length), 0);
     expect(what, altered(o.triangles, 0, c.triangles_length), 0);
@@ -78,6 +79,7 @@ static void good(void)
     expect_refusal("case A", o.answer.refused, 0, 0, 0, 0);
     expect("case A: vertices", o.answer.vertices, 3);
     expect("case A: triangles", o.answer.triangles, 1);
+    expect("case A: reads", o.answer.reads, 8 + 3 * 14);
     expect("case A: floats", (uint64_t)memcmp(o.vertices, wanted, sizeof wanted), 0);
     expect("case A: corners", (uint64_t)memcmp(o.triangles, corners, sizeof corners), 0);
     expect("case A: the store is filled", altered(o.store, 0, SIRVESHAN_STORE_LENGTH(1)), SIRVESHAN_STORE_LENGTH(1));
@@ -181,6 +183,7 @@ static void no_buffers(void)
     answer = sirveshan_extract(c.header, c.centre, c.centre_length, NULL, 0, store, SIRVESHAN_STORE_LENGTH(1), NULL, 0, NULL, 0);
     expect_refusal("no room needed", answer.refused, 0, 0, 0, 0);
     expect("no room needed", answer.vertices + answer.triangles, 0);
+    expect("no room needed: reads", answer.reads, 8);
     free(store);
 }
 

@@ -331,6 +331,7 @@ def check_summary_of_closed_meshes():
         same("the reference's open sides", opened, 0)
         lines = summary_lines(record)
         same("counts", (lines["vertices"], lines["triangles"]), (str(len(mesh.vertices)), str(len(mesh.triangles))))
+        same("reads", lines["reads"], str(mesh.reads))
         near("area", lines["area"], area)
         near("volume", lines["volume"], volume)
         assert abs(float(lines["volume"]) - about) < 0.05 * abs(about), (lines, about)
@@ -384,7 +385,7 @@ def check_summary_of_open_meshes():
 def check_summary_of_nothing():
     record = reference.record_of(noise(random.Random(6), 3, 0, pick=(1.0,)))
     lines = summary_lines(record)
-    same("lines", lines, {"vertices": "0", "triangles": "0", "box": "none", "area": "0", "volume": "none: there is no surface"})
+    same("lines", lines, {"vertices": "0", "triangles": "0", "box": "none", "area": "0", "volume": "none: there is no surface", "reads": "216"})
 
 
 def check_summaries_of_a_run():

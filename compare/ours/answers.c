@@ -4,7 +4,7 @@
    A call on standard input is a run of little-endian words: n, mask, then threshold, base x y z and
    size as f32 bits; the lengths of centre, neighbours, store, vertices and triangles; the samples'
    bits. The answer on standard output: its number, its three numbers (for a mesh 0, both counts,
-   0), then all of the three lent buffers, which every call finds filled with MARK: as an f32 a
+   the sample reads), then all of the three lent buffers, which every call finds filled with MARK: as an f32 a
    signalling NaN, which no arithmetic leaves as it is. */
 
 #include <stdint.h>
@@ -76,9 +76,10 @@ int main(void)
             (uint32_t)got.refused.number,
             (uint32_t)(mesh ? got.vertices : got.refused.first),
             (uint32_t)(mesh ? got.triangles : got.refused.second),
-            (uint32_t)got.refused.third,
+            (uint32_t)(mesh ? got.reads : got.refused.third),
         };
-        if (mesh ? got.refused.first || got.refused.second : got.vertices || got.triangles)
+        if (mesh ? got.refused.first || got.refused.second || got.refused.third
+                 : got.vertices || got.triangles || got.reads)
             fail("an answer is both a mesh and a refusal");
         put(answer, 4);
         put(store, places);

@@ -2,13 +2,16 @@
 
 use crate::{linked, Header, Refusal};
 
-/// How many vertices and triangles a mesh has.
+/// How many vertices and triangles a mesh has, and how many sample reads it took.
 #[derive(Clone, Copy, Debug, PartialEq, Eq)]
 pub struct Counts {
     /// Vertices, six f32 each.
     pub vertices: usize,
     /// Triangles, three indices each.
     pub triangles: usize,
+    /// Sample reads made once every check had passed: eight a regular cell, nine a transition cell,
+    /// fourteen a vertex. At most [`most_reads`](crate::most_reads).
+    pub reads: u64,
 }
 
 /// Meshes a block into lent buffers: six f32 for a vertex (position, gradient), three indices for a
@@ -43,5 +46,6 @@ pub fn extract(
         )
     };
     answer.refused.check()?;
-    Ok(Counts { vertices: answer.vertices, triangles: answer.triangles })
+    let linked::Extracted { vertices, triangles, reads, .. } = answer;
+    Ok(Counts { vertices, triangles, reads })
 }

@@ -79,6 +79,19 @@ pub fn most_triangles(subdivisions: usize, mask: u8) -> usize {
     n.saturating_mul(n).saturating_mul(most)
 }
 
+/// As many sample reads as extraction reports at most, as is proved (`Reads` in crates/promises): 50n³ + 168n² − 42n, and
+/// 121n² + 56n more for each side of `mask`.
+///
+/// ```
+/// assert_eq!(sirveshan::most_reads(64, 63), 16_787_840);
+/// ```
+pub fn most_reads(subdivisions: usize, mask: u8) -> u64 {
+    let n = subdivisions;
+    let cells =
+        n.saturating_mul(8).saturating_add(9 * sides(mask)).saturating_mul(n.saturating_mul(n));
+    cells.saturating_add(most_vertices(n, mask).saturating_mul(14)) as u64
+}
+
 /// Where the sample of a grid point stands among the samples of its block. Coordinates are 0 to
 /// `subdivisions`; one of the three may be a step outside. Any other point was never sampled.
 ///

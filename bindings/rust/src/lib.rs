@@ -41,8 +41,9 @@ pub mod viewer;
 pub use block::{Block, Header, Side};
 pub use extract::{extract, Counts};
 pub use lengths::{
-    most_triangles, most_vertices, neighbours_length, record_length, sample_length, sample_place,
-    stl_length, store_length, MOST_SUBDIVISIONS, RECORD_HEADER, STL_HEADER, STL_TRIANGLE,
+    most_reads, most_triangles, most_vertices, neighbours_length, record_length, sample_length,
+    sample_place, stl_length, store_length, MOST_SUBDIVISIONS, RECORD_HEADER, STL_HEADER,
+    STL_TRIANGLE,
 };
 pub use mesher::{Mesh, Mesher};
 pub use record::{read_record, write_record, Record};

@@ -23,6 +23,7 @@ pub struct Extracted {
     pub refused: CRefusal,
     pub vertices: usize,
     pub triangles: usize,
+    pub reads: u64,
 }
 
 #[repr(C)]

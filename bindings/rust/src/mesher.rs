@@ -9,6 +9,8 @@ pub struct Mesh<'a> {
     pub vertices: &'a [[f32; 6]],
     /// Three vertex indices for each triangle.
     pub triangles: &'a [[u32; 3]],
+    /// The sample reads that it took, as [`Counts`] tells them.
+    pub reads: u64,
 }
 
 /// Buffers that grow to what the blocks need and are used again for the next block.
@@ -49,6 +51,7 @@ impl Mesher {
         Ok(Mesh {
             vertices: &self.vertices[..counts.vertices],
             triangles: &self.triangles[..counts.triangles],
+            reads: counts.reads,
         })
     }
 

@@ -89,7 +89,7 @@ fn beyond(number: f32) -> f32 {
 fn case_a_comes_out_and_all_beyond_stays() {
     let call = Call { store: store_length(1) + 5, vertices: 18 + 7, triangles: 3 + 2, ..case_a() };
     let (answer, buffers) = run(&call);
-    assert_eq!(answer, Ok(Counts { vertices: 3, triangles: 1 }));
+    assert_eq!(answer, Ok(Counts { vertices: 3, triangles: 1, reads: 50 }));
     #[rustfmt::skip]
     let wanted = [
         0.5, 0.0, 0.0, -0.5, 0.0, 0.0,

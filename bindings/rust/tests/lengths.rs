@@ -1,8 +1,8 @@
 //! Lengths at the sizes that blocks have, and at absurd ones, where nothing panics.
 
 use sirveshan::{
-    most_triangles, most_vertices, neighbours_length, record_length, sample_length, sample_place,
-    stl_length, store_length, Side,
+    most_reads, most_triangles, most_vertices, neighbours_length, record_length, sample_length,
+    sample_place, stl_length, store_length, Side,
 };
 
 #[test]
@@ -18,6 +18,10 @@ fn lengths_of_real_blocks() {
     assert_eq!(most_vertices(16, 63), 27_984);
     assert_eq!(most_triangles(16, 63), 5 * 4096 + 12 * 6 * 256);
     assert_eq!([most_vertices(0, 63), most_triangles(0, 63)], [0, 0]);
+    assert_eq!(
+        [(0, 63), (1, 0), (1, 63), (16, 0)].map(|(n, mask)| most_reads(n, mask)),
+        [0, 176, 1238, 247_136]
+    );
 }
 
 #[test]
@@ -41,6 +45,7 @@ fn absurd_lengths_do_not_panic() {
         assert_eq!(record_length(n, 1), usize::MAX);
         assert_eq!(most_vertices(n, 255), usize::MAX);
         assert_eq!(most_triangles(n, 0), usize::MAX);
+        assert_eq!(most_reads(n, 0), u64::MAX);
         assert_eq!(sample_place(n, [i32::MAX, 0, -5]), None);
         assert_eq!(sample_place(n, [-1, i32::MAX, i32::MAX]), None);
     }

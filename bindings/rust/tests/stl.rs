@@ -94,13 +94,13 @@ fn buffers_grow_and_are_used_again() {
     let (mut mesher, mut written, mut read) = (Mesher::new(), Stl::new(), Stl::new());
     let mesh = mesher.extract(&header, &centre, &[]).unwrap();
     let case_a = [[[0.5, 0.0, 0.0], [0.0, 0.5, 0.0], [0.0, 0.0, 0.5]]];
-    let empty = Mesh { vertices: &[], triangles: &[] };
+    let empty = Mesh { vertices: &[], triangles: &[], reads: 0 };
     for _ in 0..2 {
         assert_eq!(read.read(written.write(&mesh).unwrap()).unwrap(), case_a);
         assert_eq!(written.write(&empty).unwrap(), [0; 84]);
         assert_eq!(read.read(&[0; 84]).unwrap(), [[[0.0; 3]; 3]; 0]);
     }
-    let unnamed = Mesh { vertices: mesh.vertices, triangles: &[[0, 1, 2], [2, 1, 3]] };
+    let unnamed = Mesh { triangles: &[[0, 1, 2], [2, 1, 3]], ..mesh };
     assert_eq!(written.write(&unnamed), Err(Refusal { number: 17, values: [1, 0, 0] }));
     assert_eq!(read.read(&[0; 85]), Err(Refusal { number: 16, values: [84, 0, 0] }));
 }

@@ -70,6 +70,8 @@ pub fn extract(
         refused: [usize; 4],
         vertices: usize,
         triangles: usize,
+        // A library from before document 02, [7], leaves it alone.
+        _reads: u64,
     }
     #[rustfmt::skip]
     extern "C" {

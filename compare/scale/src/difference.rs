@@ -26,7 +26,14 @@ fn compare(what: &str, ours: &[u32], wanted: &[u32]) -> Result<(), String> {
     }
 }
 
-/// The counts if both meshers agree on the block: counts, every vertex bit, every triangle, every
+/// The sample reads that a mesh of so many vertices takes (document 02, [7]).
+fn reads(block: &Block, vertices: usize) -> u32 {
+    let face = block.n * block.n;
+    let sides = block.mask.count_ones() as usize;
+    (8 * face * block.n + 9 * sides * face + 14 * vertices) as u32
+}
+
+/// The counts if both meshers agree on the block: counts, reads, every vertex bit, every triangle, every
 /// place of the index store, and nothing written beyond. Otherwise where they differ.
 pub fn difference(ours: &mut Ours, block: &Block) -> io::Result<Result<Counts, String>> {
     let Answer { mesh, store } = Star::new(block).answer();
@@ -39,7 +46,12 @@ pub fn difference(ours: &mut Ours, block: &Block) -> io::Result<Result<Counts, S
         triangles: triangles.len() + BEYOND,
     };
     let answer = ours.extract(block, &room)?;
-    let wanted = [0, mesh.vertices.len() as u32, mesh.triangles.len() as u32, 0];
+    let wanted = [
+        0,
+        mesh.vertices.len() as u32,
+        mesh.triangles.len() as u32,
+        reads(block, mesh.vertices.len()),
+    ];
     if answer.numbers != wanted {
         return Ok(Err(format!("answer: ours {:?}, the Rust {wanted:?}", answer.numbers)));
     }

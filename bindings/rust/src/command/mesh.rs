@@ -22,7 +22,8 @@ RECORD may be a run: records laid end to end. Each is meshed by itself, and the 
 A refused record of a run has a line `refused N A B C` in its place, and the run goes on; each
 summary of a run begins with a line `record K`.
 
-    --summary   counts, bounding box, surface area and, of a closed mesh, the enclosed volume
+    --summary   counts, bounding box, surface area and, of a closed mesh, the enclosed volume; last the
+                sample reads that it took once every check had passed
     --jobs N    mesh the records of a run on N threads (1 to 256)
 ",
     run,

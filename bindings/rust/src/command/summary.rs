@@ -9,6 +9,7 @@ pub fn summary(mesh: &Mesh) -> Vec<u8> {
     text += &box_line(bounding_box(mesh));
     text += &format!("area {}\n", figure(surface_area(mesh)));
     text += &volume_line(mesh);
+    text += &format!("reads {}\n", mesh.reads);
     text.into_bytes()
 }
 
