@@ -10,6 +10,7 @@ use faces::{block, NOISY, SMOOTH, WAVY};
 use oracle::record::Block;
 use oracle::Star;
 use ours::{extract, Buffers, Library};
+use std::cell::RefCell;
 use std::hint::black_box;
 use std::process::ExitCode;
 use std::time::{Duration, Instant};
@@ -40,15 +41,18 @@ fn mean(call: &mut dyn FnMut(), times: u32) -> f64 {
     start.elapsed().as_secs_f64() / f64::from(times)
 }
 
-/// The best of many short rounds of each call, taken in turn, in microseconds a call.
+/// The best of many short rounds of each call, taken in turn, in microseconds a call. Every other time all but the last go backwards, so that
+/// of two libraries none is always the one that finds the block in the caches.
 fn best(calls: &mut [Box<dyn FnMut() + '_>]) -> Vec<f64> {
     let mut best: Vec<f64> = calls.iter_mut().map(|call| mean(call, 10)).collect();
     let times: Vec<u32> = best.iter().map(|&time| (ROUND / time).clamp(1.0, 50.0) as u32).collect();
     let end = Instant::now() + WHOLE * calls.len() as u32;
+    let mut turns: Vec<usize> = (0..calls.len()).collect();
     while Instant::now() < end {
-        for ((call, best), &times) in calls.iter_mut().zip(&mut best).zip(&times) {
-            *best = best.min(mean(call, times));
+        for &k in &turns {
+            best[k] = best[k].min(mean(&mut calls[k], times[k]));
         }
+        turns[..calls.len() - 1].reverse();
     }
     best.iter().map(|time| 1e6 * time).collect()
 }
@@ -70,11 +74,16 @@ fn row(face: &str, n: usize, mask: u8) -> Outcome {
     let star = &Star::new(block);
     let libraries =
         if before::LINKED { &[Library::Ours, Library::Before][..] } else { &[Library::Ours] };
+    let mut buffers = Buffers::new(n, &star.extract());
+    for &library in libraries {
+        buffers = ready(library, block, star)?;
+    }
+    // Where buffers lie counts for some hundredths at n = 64, so that both libraries write into the same.
+    let buffers = &RefCell::new(buffers);
     let mut calls: Vec<Box<dyn FnMut()>> = Vec::new();
     for &library in libraries {
-        let mut buffers = ready(library, block, star)?;
         calls.push(Box::new(move || {
-            let _ = black_box(buffers.extract(library, black_box(block)));
+            let _ = black_box(buffers.borrow_mut().extract(library, black_box(block)));
         }));
     }
     calls.push(Box::new(|| {
