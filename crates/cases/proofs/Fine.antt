@@ -4,8 +4,7 @@ use mathlib.Core.Path.{_≡_, refl, ap, _∙_}
 use mathlib.Core.List.{List}
 use native.Mathlib.Nat.{add-zero}
 use native.Mathlib.Omega.{arith}
-use lib.Ieee.{Float, nan}
-use lib.ListN.{getD, length}
+use lib.Ieee.{Float}
 use Rattle.model.specs.Limits.{mostSubdivisions, sideCount}
 use Rattle.model.specs.Samples.{sampleLength}
 use Rattle.model.specs.Formulas.{insideBit}

@@ -10,7 +10,7 @@ use Rattle.tables.specs.Arrays.{regular-codes-long, regular-cell-long, transiti
 use Rattle.tables.specs.Cases.{verticesOf, trianglesOf, cornerOf}
 use Rattle.tables.specs.Cases.{regularCodes, regularCode, regularVertices, regularTriangles, regularCorner}
 use Rattle.tables.specs.Cases.{regularCell as regularRow, transitionCell as transitionRow}
-use Rattle.tables.specs.Cases.{transitionCodes, transitionCode, transitionVertices, transitionTriangles, transitionCorner, transitionTurned}
+use Rattle.tables.specs.Cases.{transitionCodes, transitionCode, transitionVertices, transitionTriangles, transitionCorner}
 use Rattle.tables.specs.RulesCorners.{CellRight, regular-cell-right, regular-class-small, transition-cell-right, transition-class-small}
 use Rattle.tables.specs.RulesSlots.{regular-code-right}
 use Rattle.tables.specs.RulesBorder.{transition-code-right}

@@ -1,7 +1,7 @@
 -- What the statement of each public function allows is one answer: two that it allows for the same inputs are equal. The functions lend no buffer.
 use mathlib.Core.Path.{_≡_, sym, _∙_}
 use mathlib.Core.Bool.{true, false}
-use Prim.Native.Nat.{ℕ, _≤_, _<_}
+use Prim.Native.Nat.{ℕ, _<_}
 use native.Mathlib.Decide.{decLt}
 use native.Mathlib.Omega.{arith}
 use contract.Lifetimes.{Lfts}

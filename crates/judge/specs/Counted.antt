@@ -1,7 +1,7 @@
 -- Document 01, 'Answers by number': 7 for samples whose places are counted on from another place, and that two lists lent one after
 -- the other are judged one after the other. Samples that can all be used pass, wherever they are counted from.
 use Prim.Native.Nat.{ℕ, _+_, zero-le}
-use mathlib.Core.Path.{_≡_, refl, sym, ap, _∙_}
+use mathlib.Core.Path.{_≡_, refl, sym, _∙_}
 use mathlib.Core.Bool.{Bool, true, false, _&&_, and-eq-true-iff}
 use mathlib.Core.List.{List, _++_}
 use native.Mathlib.Nat.{zero-add}

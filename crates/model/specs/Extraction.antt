@@ -1,13 +1,11 @@
 -- Document 01, 'Answers by number': extraction and the point read, from their inputs and the lent buffers at entry to the answer
 -- and the buffers at exit. Definitions only.
 use Prim.Native.Nat.{ℕ}
-use mathlib.Core.List.{List, [], _∷_, _++_}
+use mathlib.Core.List.{List, [], _∷_}
 use lib.IntN.{ℤ}
 use lib.Ieee.{Float}
 use lib.ListN.{length}
-use Rattle.model.specs.declared.Vertex.{Vertex}
 use Rattle.model.specs.declared.Triangle.{Triangle}
-use Rattle.model.specs.declared.Refusal.{Refusal}
 use Rattle.model.specs.declared.Refusal.the-variants.{PointNeverSampled}
 use Rattle.model.specs.declared.Reading.{Reading}
 use Rattle.model.specs.declared.Reading.the-variants as Reading

@@ -1,8 +1,8 @@
 -- Document 01, 'What is bought', 'Regular cells' and 'Transition cells': the f32 formulas, each operation rounded once, in the
 -- order written. Definitions only.
 use Prim.Native.Nat.{ℕ, _+_, _*_}
-use mathlib.Core.Bool.{Bool, true, false, cond, _&&_, _||_, not}
-use mathlib.Core.List.{List, [], _∷_}
+use mathlib.Core.Bool.{Bool, false, cond, _&&_, _||_, not}
+use mathlib.Core.List.{List}
 use lib.Dec.{eqb}
 use lib.IntN.{pos}
 use lib.Ieee as Ieee

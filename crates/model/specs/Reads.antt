@@ -10,7 +10,7 @@ use Rattle.laws.specs.Steps.{iterate, total}
 use Rattle.model.specs.Limits.{sideCount}
 use Rattle.model.specs.Sides.{named}
 use Rattle.model.specs.Star.{Star, subdivisions}
-use Rattle.model.specs.Mesh.{Cell, Mesh, vertexReads, regularReads, transitionReads, filled, emptyMesh, cellStep, regularCell, regularColumn, regularLayer, regularMesh, transitionCell, transitionRow, transitionSide, meshOf}
+use Rattle.model.specs.Mesh.{Cell, Mesh, vertexReads, regularReads, transitionReads, emptyMesh, cellStep, regularCell, regularColumn, regularLayer, regularMesh, transitionCell, transitionRow, transitionSide, meshOf}
 
 -- so many reads for case numbers, and those of the vertices that were made
 abbrev pub Reads : ℕ → Mesh → Type 0
@@ -53,7 +53,7 @@ module _ (s : Star) where
   unfolding regularLayer
   layer-reads x = alike-read (regularColumn s x) (regularReads * n) (column-reads x) n
 
-  pub regular-reads : Reads (regularReads * n * n * n) (regularMesh s)
+  regular-reads : Reads (regularReads * n * n * n) (regularMesh s)
   unfolding regularMesh
   regular-reads =
       subst (λ (cases : ℕ). Reads cases (iterate (regularLayer s) n (emptyMesh n))) (zero-add _)

@@ -1,6 +1,6 @@
 -- Extraction, by the two things that its judges can come to, passed and refused. What it leaves when it is accepted is laid by the definition's own
 -- words, into buffers in which 9 and 10 have found room.
-use Prim.Native.Nat.{ℕ, _*_, _/_, _≤_}
+use Prim.Native.Nat.{_*_, _/_, _≤_}
 use native.Mathlib.Omega.{arith}
 use mathlib.Core.Path.{_≡_, refl, sym, ap, _∙_}
 use mathlib.Core.Bool.{and-eq-true-iff}

@@ -1,7 +1,7 @@
 -- What was promised of places (document 02, [6]), for every block: each is worked out by nesting, one multiply at a time, and no value on the way is above
 -- the place itself, so that no width beyond the place's own is needed. It lists the values in the order in which grid's `in_block`, `on_face`,
 -- `regular_place` and `transition_place` make them; what these answer is the model's place, as it was. Definitions only.
-use Prim.Native.Nat.{ℕ, _+_, _*_, _≤_, _<_}
+use Prim.Native.Nat.{ℕ, _+_, _*_, _≤_}
 use mathlib.Core.Path.{_≡_}
 use mathlib.Core.List.{List, [], _∷_, _++_}
 use Rattle.model.specs.Samples.{sampleLength, inBlock, onFace}

@@ -6,16 +6,15 @@ use lib.Count.{ones, onesIn}
 use lib.Ieee as Ieee
 use Rattle.tables.specs.TransitionRows as rows
 use Rattle.tables.specs.Cases as tables
-use Rattle.model.specs.declared.Verdict.the-variants.{Passed}
 use Rattle.model.specs.Limits.{mostMask}
 use Rattle.model.specs.Sides.{named, neighbourOf}
 use Rattle.model.specs.Rotations.{pointFrom, rotationOf, rotations}
-use Rattle.model.specs.Star.{Star, subdivisions}
+use Rattle.model.specs.Star.{Star}
 use Rattle.model.specs.Points.{fineSample, transitionCase}
 use Rattle.model.specs.Judging.{judgeMeasures, judgeMissing, judgeSamples, judgeStar, facesAgree, judgeFaces}
 use Rattle.model.specs.Mesh.{transitionPlace, transitionLeaves, transitionUse, transitionCell, transitionRow, transitionSide, meshOf}
 use Rattle.closed.specs.Refuted.{starOf}
-use Rattle.promises.specs.Reads.{mostReads, Costly}
+use Rattle.promises.specs.Reads.{Costly}
 
 -- one cell with the corners inside that lie two steps from one another; whoever unfolds it can judge it and compute its mesh
 unfoldable alternating : ℕ → List ℕ → Star

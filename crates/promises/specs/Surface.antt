@@ -6,7 +6,7 @@ use native.Mathlib.Omega.{arith}
 use mathlib.Core.Path.{_≡_, refl, sym, ap, _∙_, subst₂}
 use mathlib.Core.List.{List, _++_}
 use lib.Ieee.{Float, nan}
-use lib.ListN.{length, getD, drop, length-append, List·getD-append}
+use lib.ListN.{length, getD, length-append, List·getD-append}
 use Rattle.model.specs.declared.Triangle.{Triangle}
 use Rattle.laws.specs.Steps.{each, laid}
 use Rattle.laws.specs.Lists.{length-each, listed-is}

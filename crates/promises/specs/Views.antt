@@ -1,9 +1,9 @@
 -- The point read, of samples and of a record, and the viewer's three calls, by the two things that their judges can come to, passed and refused.
-use Prim.Native.Nat.{ℕ, _+_, _^_, _≤_, _<_}
+use Prim.Native.Nat.{ℕ, _^_, _≤_, _<_}
 use native.Mathlib.Decide.{decLt}
 use native.Mathlib.Omega.{arith}
 use mathlib.Core.Path.{_≡_, refl, sym, ap, _∙_}
-use mathlib.Core.Bool.{Bool, true, false, cond, _&&_, and-eq-true-iff}
+use mathlib.Core.Bool.{Bool, true, false, cond, and-eq-true-iff}
 use mathlib.Core.List.{List}
 use borrow.Author.Tests.{leb-true}
 use lib.Dec.{T, leb}
@@ -17,7 +17,6 @@ use Rattle.laws.specs.Lists.{length-listed, getD-listed}
 use Rattle.model.specs.declared.PlaceKind.{PlaceKind}
 use Rattle.model.specs.declared.Reading.{Reading}
 use Rattle.model.specs.declared.Reading.the-variants as Reading
-use Rattle.model.specs.declared.Refusal.{Refusal}
 use Rattle.model.specs.declared.Refusal.the-variants.{Subdivisions, PointNeverSampled}
 use Rattle.model.specs.declared.Verdict.{Verdict}
 use Rattle.model.specs.declared.Verdict.the-variants.{Passed, Refused}
@@ -25,7 +24,7 @@ use Rattle.model.specs.declared.PointRead.{PointRead}
 use Rattle.model.specs.declared.PointRead.the-variants as PointRead
 use Rattle.model.specs.Samples.{placeOf, sampled, outsideCount, readingAt, valueOf, valueAt, oneUp}
 use Rattle.model.specs.Limits.{mostSubdivisions}
-use Rattle.model.specs.Refusals.{numbersOf, unless, orElse}
+use Rattle.model.specs.Refusals.{unless, orElse}
 use Rattle.model.specs.Judging.{judgeSubdivisions, judgeCentre}
 use Rattle.model.specs.Extraction.{pointAnswer, readPoint}
 use Rattle.model.specs.Record.{headerOf, countOf, samplesOf, judgeLength, judgeVersion, judgeRecord}

@@ -24,7 +24,7 @@ use Rattle.model.specs.Sides.{named, namedBelow, neighbourLength, neighboursLen
 use Rattle.model.specs.Refusals.{unless, orElse}
 use Rattle.model.specs.Star.{Star, star}
 use Rattle.model.specs.Judging.{judgeMeasures, judgeMissing, sideThere, usable, judgeSamples, judgeBuffer, judgeStar}
-use Rattle.model.specs.Record.{sampleFrom, countOf, headerOf, samplesOf, starOf, recordOf, judgeRecord, readAnswer, readRecord, writeAnswer, writeRecord}
+use Rattle.model.specs.Record.{sampleFrom, countOf, headerOf, samplesOf, starOf, recordOf, readRecord, writeAnswer, writeRecord}
 use Rattle.grid.specs.Counts.{mostSamples, count-small}
 use Rattle.grid.specs.Shape.{Shaped}
 use Rattle.grid.specs.SideLaws.{named-below}

@@ -1,5 +1,4 @@
 // What a file of vectors is made of: words of 32 bits, big-endian; parts, each a word with its length in bytes and then the bytes.
-ghost use mathlib.Core.Path.{_≡_};
 ghost use Prim.Native.Nat.{_≤_, _<_};
 ghost use lib.ListN.{length};
 ghost use Rattle.replay.specs.Spans.{Within};

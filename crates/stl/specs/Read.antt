@@ -14,7 +14,7 @@ use Rattle.model.specs.declared.Verdict.{Verdict}
 use Rattle.model.specs.declared.Verdict.the-variants.{Passed, Refused}
 use Rattle.model.specs.Words.{littleAt}
 use Rattle.stl.specs.declared.StlRead.the-variants as StlRead
-use Rattle.stl.specs.Definition.{headerLength, cornersLength, floatCount, cornersFrom, countIn, cornersIn, positionsIn, judgeReading, readAnswer, readStl}
+use Rattle.stl.specs.Definition.{headerLength, floatCount, cornersFrom, countIn, cornersIn, positionsIn, judgeReading, readAnswer, readStl}
 use Rattle.stl.specs.Passing.{Readable, readable}
 use Rattle.stl.specs.Files.{SameCorners}
 

@@ -4,26 +4,22 @@ use Prim.Native.Nat.{ℕ, _+_, _*_, _≤_, _<_}
 use native.Mathlib.Nat.{zero-add, add-zero}
 use native.Mathlib.Omega.{arith}
 use mathlib.Core.Path.{_≡_, refl, sym, ap, ap₂, _∙_}
-use mathlib.Core.Bool.{not}
 use mathlib.Core.List.{List, _++_}
-use lib.Dec.{T}
-use lib.Ieee.{Float, nan, isNan}
+use lib.Ieee.{Float, nan}
 use lib.ListN.{length, getD, take, drop, length-drop, take-append-drop, List·getD-append}
 use lib.Seq.{ext-getD, getD-take, getD-drop, take-add, take-all, drop-drop, length-take-le}
 use Rattle.laws.specs.Steps.{each, laid}
 use Rattle.laws.specs.Counting.{gather}
 use Rattle.laws.specs.Lists.{getD-listed}
 use Rattle.laws.specs.Gathered.{length-gather, getD-gather, gather-pieces, three-pieces}
-use Rattle.model.specs.declared.Verdict.{Verdict}
-use Rattle.model.specs.declared.Verdict.the-variants.{Passed, Refused}
 use Rattle.model.specs.Words.{littleFloatAt, littleFloatBytes}
 use Rattle.words.specs.Orders.{Bytes, little}
 use Rattle.words.specs.Floats.{Fit, floats-back}
 use Rattle.stl.specs.declared.StlWritten.the-variants as StlWritten
 use Rattle.stl.specs.declared.StlRead.the-variants as StlRead
-use Rattle.stl.specs.Definition.{vertexCount, triangleCount, cornerOf, cornersOf, headerLength, startLength, normalLength, cornersLength, attributeLength, triangleLength, zeros, triangleBytes, fileOf, fileLength, writeAnswer, writeStl, countIn, floatCount, cornersFrom, cornersIn, positionsIn, judgeReading, ReadOutcome, readAnswer, readStl}
+use Rattle.stl.specs.Definition.{vertexCount, triangleCount, cornerOf, cornersOf, headerLength, startLength, normalLength, cornersLength, attributeLength, triangleLength, zeros, triangleBytes, fileOf, fileLength, writeAnswer, writeStl, countIn, floatCount, cornersFrom, cornersIn, positionsIn, ReadOutcome, readAnswer, readStl}
 use Rattle.stl.specs.Parts.{length-zeros, zero-at, startOf, facetOf, file-parts, length-file}
-use Rattle.stl.specs.Passing.{Writable, writing-passes, Readable, readable, reading-passes}
+use Rattle.stl.specs.Passing.{Writable, writing-passes, Readable, reading-passes}
 use Rattle.stl.specs.Corners.{nine, corners-by, corner-at}
 use Rattle.stl.specs.Files.{attributeFrom, Plain, ThreeEach, NumbersIn}
 use Rattle.stl.specs.Read.{was-read}

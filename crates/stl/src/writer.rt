@@ -15,7 +15,6 @@ use crate::layout::ATTRIBUTE;
 use crate::layout::CORNER;
 use crate::layout::HEADER;
 use crate::layout::NORMAL;
-use crate::layout::START;
 use crate::layout::file_length;
 use judge::judge_buffer;
 use judge::unless;

@@ -2,8 +2,6 @@
 use mathlib.Core.List.{List, [], _∷_}
 use Prim.Native.Nat.{ℕ, _*_, _/_, _%_}
 use lib.ListN.{getD}
-use Rattle.tables.specs.declared.aux_tables.Offset.{Offset}
-use Rattle.tables.specs.declared.aux_tables.Corner.{Corner}
 use Rattle.tables.specs.declared.aux_tables.CellPoint.{CellPoint}
 use Rattle.tables.specs.declared.aux_tables.CellPoint.the-variants.{Fine, Coarse}
 

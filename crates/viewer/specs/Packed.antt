@@ -1,7 +1,7 @@
 -- The viewer's packed numbers, by what the record's judges find. Assumes nothing.
 use Prim.Native.Nat.{ℕ, _+_, _≤_}
 use mathlib.Core.Path.{_≡_}
-use mathlib.Core.Bool.{Bool, true, false, cond}
+use mathlib.Core.Bool.{Bool, cond}
 use mathlib.Core.List.{List}
 use lib.Dec.{lit≤}
 use Rattle.model.specs.declared.Refusal.{Refusal}

@@ -1,7 +1,6 @@
 -- The part of the lent array is the case's row of codes. Assumes nothing.
 use mathlib.Core.Path.{_∙_}
 use native.Mathlib.Omega.{arith}
-use borrow.Author.Needs.{needs}
 use Rattle.tables.specs.Arrays.{regular-codes-length, regular-codes-at}
 use Rattle.tables.proofs.regular_case_codes.Statement.{statement}
 use Rattle.tables.proofs.regular_case_codes.Tie as tie

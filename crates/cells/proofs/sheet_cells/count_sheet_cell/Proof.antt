@@ -1,5 +1,5 @@
 -- `sheet_cells::count_sheet_cell` meets its contract: away from the low faces by the case alone, else code by code.
-use mathlib.Core.Path.{_≡_, refl, sym, _∙_}
+use mathlib.Core.Path.{refl, sym, _∙_}
 use native.Mathlib.Omega.{arith}
 use borrow.Author.Needs.{needs}
 use Rattle.cells.specs.Rows.{Followed}

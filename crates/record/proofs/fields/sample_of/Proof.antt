@@ -1,5 +1,4 @@
 -- `sample_of` meets its contract: no sample of a record that passed is a NaN, and the list of samples has it at its place.
-use Prim.Native.Nat.{ℕ}
 use mathlib.Core.Path.{sym, ap, _∙_}
 use native.Mathlib.Omega.{arith}
 use borrow.Author.Needs.{needs}

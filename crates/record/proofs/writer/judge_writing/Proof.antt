@@ -4,7 +4,7 @@ use mathlib.Core.Path.{_≡_, sym, ap, _∙_}
 use native.Mathlib.Omega.{arith}
 use borrow.Author.Needs.{needs}
 use lib.ListN.{length-append}
-use Rattle.model.specs.declared.Verdict.the-variants.{Passed, Refused}
+use Rattle.model.specs.declared.Verdict.the-variants.{Passed}
 use Rattle.model.specs.Star.{Star, star}
 use Rattle.model.specs.Judging.{judgeBuffer, judgeStar}
 use Rattle.record.specs.Writable.{writable}

@@ -3,7 +3,6 @@ use Prim.Native.Nat.{ℕ, _+_, _-_, _*_, _≤_}
 use native.Mathlib.Omega.{arith}
 use mathlib.Core.Path.{_≡_, refl, sym, ap, ap₂, _∙_}
 use mathlib.Core.List.{List}
-use borrow.Author.Needs.{needs}
 use lib.Ieee.{Float, binary32, ofBits}
 use lib.ListN.{length, set}
 use lib.Seq.{sets, length-sets}
