@@ -1,8 +1,8 @@
 -- Document 01, 'Answers by number': 8 over one face, with the neighbour's samples at hand, and over the faces of the named sides; and what holds of a
 -- block that 8 passes.
-use Prim.Native.Nat.{ℕ, _+_, _*_, _≤_, _<_}
+use Prim.Native.Nat.{ℕ, _+_, _*_, _≤_, _<_, zero-le}
 use mathlib.Core.Path.{_≡_, refl, _∙_}
-use mathlib.Core.Bool.{Bool, true, cond, Bool·beq}
+use mathlib.Core.Bool.{Bool, true, false, cond, Bool·beq}
 use mathlib.Core.List.{List}
 use native.Mathlib.Omega.{arith}
 use lib.Ieee.{Float, nan}
@@ -21,7 +21,7 @@ use Rattle.model.specs.Points.{fineSample}
 use Rattle.model.specs.Judging.{facesAgree, faceSpot, faceRow, faceSide, judgeFaces}
 use Rattle.grid.specs.RotationLaws.{OnFace, OnSide}
 use Rattle.grid.specs.Walks.{sidePlace, spot-read}
-use Rattle.judge.specs.First.{unless-passed, each-passed}
+use Rattle.judge.specs.First.{unless-passed, each-passed, passed-over}
 use Rattle.judge.specs.NamedSides.{ofNamed}
 
 -- a face's point among the centre's samples, and the coinciding one among the neighbour's
@@ -68,9 +68,12 @@ pub face-by-face : (s : Star) →
 unfolding judgeFaces facesAgree fineSample
 face-by-face s = refl
 
--- where 8 passes, the samples agree at each point of each named side's face
-pub faces-agree : (s : Star) → judgeFaces s ≡ Passed → (side u v : ℕ) → side < sideCount → named (s .mask) side ≡ true
-    → u ≤ subdivisions s → v ≤ subdivisions s → facesAgree s side u v ≡ true
+-- 8 passes exactly where the samples agree at each point of each named side's face
+abbrev pub AllAgree : Star → Type 0
+AllAgree s =
+    (side u v : ℕ) → side < sideCount → named (s .mask) side ≡ true → u ≤ subdivisions s → v ≤ subdivisions s → facesAgree s side u v ≡ true
+
+pub faces-agree : (s : Star) → judgeFaces s ≡ Passed → AllAgree s
 unfolding judgeFaces
 faces-agree s passed side u v hs is-named hu hv =
     let n = subdivisions s in
@@ -79,3 +82,17 @@ faces-agree s passed side u v hs is-named hu hv =
     let at-row = each-passed (λ u. faceRow s side u (n + 1)) (n + 1) u all-rows (omega arith) in
     let at-spot = each-passed (faceSpot s side u) (n + 1) v at-row (omega arith) in
     unless-passed (facesAgree s side u v) (FaceMismatch (record { side = side; u = u; v = v })) at-spot
+
+pub faces-pass : (s : Star) → AllAgree s → judgeFaces s ≡ Passed
+unfolding judgeFaces
+faces-pass s all =
+    passed-over (λ side. cond (named (s .mask) side) (faceSide s side (subdivisions s + 1)) Passed) 0 sideCount refl
+    (λ side _ h. of-side side h (named (s .mask) side) refl) zero-le
+  where
+    of-side : (side : ℕ) → side < sideCount → (b : Bool) → named (s .mask) side ≡ b → cond b (faceSide s side (subdivisions s + 1)) Passed ≡ Passed
+    of-side side h false is = refl
+    of-side side h true is =
+        passed-over (λ u. faceRow s side u (subdivisions s + 1)) 0 (subdivisions s + 1) refl
+        (λ u _ hu.
+        passed-over (faceSpot s side u) 0 (subdivisions s + 1) refl (λ v _ hv. rw (all side u v h is (omega arith) (omega arith))) zero-le)
+        zero-le

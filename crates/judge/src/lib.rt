@@ -62,6 +62,9 @@ pub fn numbers_of(refusal: Refusal) -> Numbers
         Refusal::PointNeverSampled(count) => numbers(15, count, 0, 0),
         Refusal::StlLength(wanted) => numbers(16, wanted, 0, 0),
         Refusal::NoVertex(triangle) => numbers(17, triangle, 0, 0),
+        Refusal::VolumeSize => numbers(20, 0, 0, 0),
+        Refusal::VolumeLength => numbers(21, 0, 0, 0),
+        Refusal::FirstPoint => numbers(22, 0, 0, 0),
     }
 }
 

@@ -1,7 +1,8 @@
 // What a reader must believe: the plain types here, and in specs/ the definition of everything that the other crates
 // are proved against, in document 01's words. Those marked repr(C) pass between this code and its callers in C and Rust.
 
-// Three whole numbers, one for each axis: a grid point, a cell, an origin.
+// Three whole numbers, one for each axis: a grid point, a cell, an origin, the sizes of a volume.
+#[repr(C)]
 pub struct Xyz {
     pub x: usize,
     pub y: usize,
@@ -103,6 +104,9 @@ pub enum Refusal {
     PointNeverSampled(usize),
     StlLength(usize),
     NoVertex(usize),
+    VolumeSize,
+    VolumeLength,
+    FirstPoint,
 }
 
 // A refusal as document 01 gives it out.

@@ -16,6 +16,7 @@ use Rattle.promises.specs.BlankKept.{blank-kept}
 use Rattle.promises.specs.WeightsKept.{weights-kept}
 use Rattle.promises.specs.FinerKept.{no-gap-is-left}
 use Rattle.promises.specs.ReadsKept.{reads-kept}
+use Rattle.promises.specs.VolumeKept.{volume-kept}
 use Rattle.promises.specs.LargerKept.{larger-kept}
 use Rattle.promises.specs.Views.{point, packed-record, subdivisions-apart, blank-apart, viewer-sample}
 
@@ -46,6 +47,7 @@ kept =
       blank = blank-kept;
       weights = weights-kept;
       reads = reads-kept;
+      volume = volume-kept;
       larger = larger-kept;
       starred = figures-agree;
     }

@@ -7,6 +7,7 @@ pub mod Blank
 pub mod Weights
 pub mod Finer
 pub mod Reads
+pub mod Volume
 pub mod Former
 pub mod Larger
 pub mod Orders
@@ -31,4 +32,5 @@ pub mod WeightsKept
 pub mod FinerKept
 pub mod ReadsKept
 pub mod ReadsReached
+pub mod VolumeKept
 pub mod LargerKept

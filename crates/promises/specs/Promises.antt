@@ -40,6 +40,7 @@ use Rattle.promises.specs.Blank.{BlankPromises}
 use Rattle.promises.specs.Weights.{WeightsPromises}
 use Rattle.promises.specs.Finer.{NoGapIsLeft}
 use Rattle.promises.specs.Reads.{ReadsPromises}
+use Rattle.promises.specs.Volume.{VolumePromises}
 use Rattle.promises.specs.Larger.{LargerPromises}
 
 -- ---- 1. every call is answered
@@ -151,6 +152,7 @@ pub record Promises : Type 0 where
   pub blank : BlankPromises
   pub weights : WeightsPromises
   pub reads : ReadsPromises
+  pub volume : VolumePromises
   pub larger : LargerPromises
   -- what the definitions work out is what document 01 states
   pub starred : map (λ (f : Figure). f .worked) figures ≡ map (λ (f : Figure). f .stated) figures

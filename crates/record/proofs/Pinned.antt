@@ -10,6 +10,7 @@ use Rattle.record.proofs.fields.mask_of.Reads as mask-of
 use Rattle.record.proofs.fields.header_of.Reads as header-of
 use Rattle.record.proofs.fields.count_of.Reads as count-of
 use Rattle.record.proofs.fields.sample_of.Reads as sample-of
+use Rattle.record.proofs.judging.is_usable.Reads as is-usable
 use Rattle.record.proofs.judging.judge_record.Reads as judge-record
 use Rattle.record.proofs.reader.read_record.Reads as read-record
 use Rattle.record.proofs.writer.write_record.Reads as write-record
@@ -31,6 +32,9 @@ count-of-pinned κs a r r′ e e′ h k = pinned h k
 
 pub sample-of-pinned : (κs : Lfts 1) (a : _) (r r′ : _) (e e′ : _) → sample-of.Learnt κs a r e → sample-of.Learnt κs a r′ e′ → r ≡ r′
 sample-of-pinned κs a r r′ e e′ h k = pinned h k
+
+pub is-usable-pinned : (κs : Lfts 0) (a : _) (r r′ : _) (e e′ : _) → is-usable.Learnt κs a r e → is-usable.Learnt κs a r′ e′ → r ≡ r′
+is-usable-pinned κs a r r′ e e′ h k = pinned h k
 
 pub judge-record-pinned : (κs : Lfts 1) (a : _) (r r′ : _) (e e′ : _) → judge-record.Learnt κs a r e → judge-record.Learnt κs a r′ e′ → r ≡ r′
 judge-record-pinned κs a r r′ e e′ h k = pinned h k

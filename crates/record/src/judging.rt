@@ -1,6 +1,7 @@
 // The judges of a record's bytes, in the reader's order: 11, 12, 1, 2, 3, 13, 7.
 ghost use mathlib.Core.Path.{_≡_};
 ghost use Prim.Native.Nat.{_+_, _*_, _≤_, _<_};
+ghost use lib.Ieee.{binary32, ofBits};
 ghost use lib.ListN.{length};
 ghost use Rattle.laws.specs.Below.{allBelow};
 ghost use Rattle.model.specs.Refusals.{first};
@@ -35,11 +36,17 @@ const LEAST_SIZE: u32 = 0x3A80_0000;
 const SIGN: u32 = 0x8000_0000;
 
 // The pattern without its sign is at most that of 1,048,576.
+pub fn is_usable(bits: u32) -> bool
+    ensures { λ r. ⌜ r ≡ usable (ofBits binary32 bits) ⌝ }
+{
+    bits % SIGN <= LIMIT
+}
+
 fn is_usable_at(bytes: &[u8], at: usize) -> bool
     requires { ⌜ at + 4 ≤ length (now bytes) ⌝ }
     ensures { λ r. ⌜ r ≡ usable (floatAt (now (bytes .entry)) at) ⌝ }
 {
-    word_at(bytes, at) % SIGN <= LIMIT
+    is_usable(word_at(bytes, at))
 }
 
 // The pattern is that of 1/1024, that of 1,048,576 or one between.

@@ -19,16 +19,20 @@ use Rattle.stl.specs.declared.StlWritten.{StlWritten}
 use Rattle.stl.specs.declared.StlWritten.the-variants as StlWritten
 use Rattle.stl.specs.declared.StlRead.{StlRead}
 use Rattle.stl.specs.declared.StlRead.the-variants as StlRead
+use Rattle.volume.specs.declared.BlockCut.{BlockCut}
+use Rattle.volume.specs.declared.BlockCut.the-variants as BlockCut
 use Rattle.model.specs.Limits.{sideCount}
 use Rattle.model.specs.Formulas.{vector}
 use Rattle.model.specs.Refusals.{numbers, numbersOf}
 use Rattle.model.specs.Extraction.{Outcome}
 use Rattle.model.specs.Record.{ReadOutcome, WriteOutcome}
 use Rattle.stl.specs.Definition as Stl
+use Rattle.volume.specs.Definition.{CutOutcome}
 use Rattle.sirveshan.specs.declared.Extracted.{Extracted}
 use Rattle.sirveshan.specs.declared.HeaderRead.{HeaderRead}
 use Rattle.sirveshan.specs.declared.Written.{Written}
 use Rattle.sirveshan.specs.declared.TrianglesRead.{TrianglesRead}
+use Rattle.sirveshan.specs.declared.SamplesCut.{SamplesCut}
 use Rattle.sirveshan.specs.declared.Sampled.{Sampled}
 
 abbrev pub notRefused : Numbers
@@ -66,6 +70,10 @@ asStlWritten (StlWritten.Refused r) = record { refused = numbersOf r; length = 0
 abbrev pub asTrianglesRead : StlRead → TrianglesRead
 asTrianglesRead (StlRead.Triangles triangles) = record { refused = notRefused; triangles = triangles }
 asTrianglesRead (StlRead.Refused r) = record { refused = numbersOf r; triangles = 0 }
+
+abbrev pub asSamplesCut : BlockCut → SamplesCut
+asSamplesCut (BlockCut.Samples samples) = record { refused = notRefused; samples = samples }
+asSamplesCut (BlockCut.Refused r) = record { refused = numbersOf r; samples = 0 }
 
 -- a face's kind is its own number, and in-block the next one
 abbrev pub kindNumber : PlaceKind → ℕ
@@ -110,3 +118,10 @@ pub record ReadStlCall : Type 0 where
 
 abbrev pub readStlCall : Stl.ReadOutcome → ReadStlCall
 readStlCall o = record { answer = asTrianglesRead (o .answer); positions = o .positions }
+
+pub record CutCall : Type 0 where
+  pub answer : SamplesCut
+  pub samples : List Float
+
+abbrev pub cutCall : CutOutcome → CutCall
+cutCall o = record { answer = asSamplesCut (o .answer); samples = o .samples }

@@ -6,8 +6,9 @@ ghost use Rattle.model.specs.Extraction.{extract};
 ghost use Rattle.model.specs.Record.{readRecord, writeRecord};
 ghost use Rattle.model.specs.Viewer.{subdivisionsAnswer, blankAnswer, sampleAnswer, recordPoint};
 ghost use Rattle.stl.specs.Definition.{writeStl, readStl};
-ghost use Rattle.sirveshan.specs.Calls.{asExtracted, asHeaderRead, asWritten, asStlWritten, asTrianglesRead, kindNumber, asSampled};
-ghost use Rattle.sirveshan.specs.Calls.{extractCall, readCall, writeCall, writeStlCall, readStlCall};
+ghost use Rattle.volume.specs.Definition.{cutBlock};
+ghost use Rattle.sirveshan.specs.Calls.{asExtracted, asHeaderRead, asWritten, asStlWritten, asTrianglesRead, asSamplesCut, kindNumber, asSampled};
+ghost use Rattle.sirveshan.specs.Calls.{extractCall, readCall, writeCall, writeStlCall, readStlCall, cutCall};
 use grid::transition_sides::SIDES;
 use judge::numbers_of;
 use model::Block;
@@ -21,12 +22,15 @@ use model::RecordRead;
 use model::RecordWritten;
 use model::Report;
 use model::Vector;
+use model::Xyz;
 use record::reader::read_record;
 use record::writer::write_record;
 use stl::StlRead;
 use stl::StlWritten;
 use stl::reader::read_stl;
 use stl::writer::write_stl;
+use volume::BlockCut;
+use volume::cut_block;
 
 // In each answer the refusal's number is 0 where nothing is refused, and what stands beside it is 0 where something is.
 #[repr(C)]
@@ -52,6 +56,12 @@ pub struct Written {
 pub struct TrianglesRead {
     pub refused: Numbers,
     pub triangles: usize,
+}
+
+#[repr(C)]
+pub struct SamplesCut {
+    pub refused: Numbers,
+    pub samples: usize,
 }
 
 #[repr(C)]
@@ -167,6 +177,21 @@ fn as_triangles_read(answer: StlRead) -> TrianglesRead
     }
 }
 
+fn as_samples_cut(answer: BlockCut) -> SamplesCut
+    ensures { λ r. ⌜ r ≡ asSamplesCut answer ⌝ }
+{
+    match answer {
+        BlockCut::Samples(samples) => SamplesCut {
+            refused: NOT_REFUSED,
+            samples,
+        },
+        BlockCut::Refused(refusal) => SamplesCut {
+            refused: numbers_of(refusal),
+            samples: 0,
+        },
+    }
+}
+
 fn kind_number(kind: PlaceKind) -> usize
     ensures { λ r. ⌜ r ≡ kindNumber kind ⌝ }
 {
@@ -248,6 +273,20 @@ pub extern "C" fn sirveshan_read_stl(src: &[u8], positions: &mut [f32]) -> Trian
     ensures { λ r. ⌜ record { answer = r; positions = now (positions .exit) } ≡ readStlCall (readStl (now (src .entry)) (now (positions .entry))) ⌝ }
 {
     as_triangles_read(read_stl(src, positions))
+}
+
+// The block of n subdivisions whose (0, 0, 0) is the point `first` of a raw volume, in the first places of a lent list.
+#[no_mangle]
+pub extern "C" fn sirveshan_cut(
+    src: &[u8],
+    sizes: Xyz,
+    n: usize,
+    first: Xyz,
+    samples: &mut [f32],
+) -> SamplesCut
+    ensures { λ r. ⌜ record { answer = r; samples = now (samples .exit) } ≡ cutCall (cutBlock (now (src .entry)) sizes n first (now (samples .entry))) ⌝ }
+{
+    as_samples_cut(cut_block(src, sizes, n, first, samples))
 }
 
 // The viewer's calls.

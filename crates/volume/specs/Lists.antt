@@ -1,0 +1,49 @@
+-- A list by its places: one place more of it set, and a lent list whose first places are laid. Assumes nothing.
+use Prim.Native.Nat.{ℕ, _+_, _-_, _≤_, _<_}
+use native.Mathlib.Decide.{decLt}
+use native.Mathlib.Omega.{arith}
+use mathlib.Core.Path.{_≡_, sym, ap, _∙_}
+use mathlib.Core.List.{List}
+use lib.ListN.{length, getD, set, List·getD-append}
+use lib.Seq.{ext-getD, getD-append-add, getD-drop, getD-set-same, getD-set-other}
+use Rattle.laws.specs.Steps.{listed, laid}
+use Rattle.laws.specs.Lists.{length-listed, getD-listed, length-laid}
+
+-- the last, or one before it
+pub last-or : (P : ℕ → Type 0) (n k : ℕ) → k < n + 1 → (k < n → P k) → P n → P k
+last-or P n k h before here = go (decLt k n)
+  where
+    go : Dec (k < n) → P k
+    go (yes l) = before l
+    go (no l) =
+        let e : k ≡ n = omega arith in
+        rw e here
+
+module _ {A : Type 0} (d : A) (f : ℕ → A) where
+  pub set-more : (l : List A) (k : ℕ) → k < length l → ((i : ℕ) → i < k → getD l i d ≡ f i) → (x : A) → x ≡ f k → (i : ℕ) → i < k + 1 → getD (set l k x) i d ≡ f i
+  set-more l k room before x is i h =
+      last-or (λ i. getD (set l k x) i d ≡ f i) k i h
+      (λ lower. getD-set-other l k i x d (λ e. omega arith) ∙ before i lower)
+      (getD-set-same l k x d room ∙ is)
+
+  module _ (count : ℕ) (before after : List A) where
+    pub laid-by : count ≤ length before → length after ≡ length before → ((p : ℕ) → p < count → getD after p d ≡ f p)
+        → ((p : ℕ) → count ≤ p → getD after p d ≡ getD before p d) → after ≡ laid (listed f count) before
+    laid-by room long first rest =
+        let written = listed f count in
+        let count-is : length written ≡ count = length-listed f count in
+        let fits : length written ≤ length before = rw count-is room in
+        ext-getD d after (laid written before) (long ∙ sym (length-laid written before fits))
+        (λ p h. go p (decLt p count))
+      where
+        go : (p : ℕ) → Dec (p < count) → getD after p d ≡ getD (laid (listed f count) before) p d
+        go p (yes l) =
+            first p l
+            ∙ sym (List·getD-append (listed f count) _ d p (rw (length-listed f count) l) ∙ getD-listed f count p d l)
+        go p (no l) =
+            let k = p - count in
+            let is : length (listed f count) + k ≡ p = rw (length-listed f count) (omega arith) in
+            rest p (omega arith)
+            ∙ sym
+            (ap (λ (q : ℕ). getD (laid (listed f count) before) q d) (sym is)
+            ∙ getD-append-add (listed f count) _ k d ∙ getD-drop (length (listed f count)) before k d ∙ ap (λ (q : ℕ). getD before q d) is)
