@@ -66,7 +66,7 @@
  *    4  centre length wrong                                 length wanted
  *    5  a neighbour is missing                              first side not wholly there
  *    6  neighbour list too long                             length wanted
- *    7  a sample not finite or beyond 1,048,576             its place, neighbours counted on after the centre
+ *    7  a sample not finite or beyond 1,048,576             its place: neighbours counted on after the centre, in cutting the volume's
  *    8  a face disagrees with its neighbour                 side; u; v
  *    9  index store too short                               places wanted
  *   10  vertices or triangles do not fit                    vertices wanted; triangles wanted
@@ -77,6 +77,9 @@
  *   15  grid point never sampled                            coordinates outside, 1 to 3
  *   16  STL length not its count's, or too many triangles   length wanted, 0 in writing
  *   17  a triangle names no vertex                          triangle
+ *   20  volume size 0 or above 1,024
+ *   21  volume length not four times its sizes' product
+ *   22  first point not in the volume
  * [end of refusals]
  *
  * The u and v of 8 run 0 to n over the face's grid points. The point is, by side: 0 (0, v, n-u), 1 (n, v, u), 2 (u, 0, n-v),
@@ -107,6 +110,14 @@
  *                     0  12   its normal: written as zeros, and not looked at
  *                    12  36   its three corners, x y z each
  *                    48   2   its attribute: written as zeros, and not looked at
+ *
+ *
+ * THE RAW VOLUME
+ *
+ * One flat list of floats as their IEEE 754 bits, little-endian, x fastest, with nothing before or after them. Its three sizes, 1
+ * to 1,024 each, are told beside it. The sample of its point (x, y, z) is number
+ *
+ *     x + size x * (y + size y * z)
  */
 #ifndef SIRVESHAN_H
 #define SIRVESHAN_H
@@ -152,6 +163,10 @@ extern "C" {
 
 /* Bytes of an STL file. */
 #define SIRVESHAN_STL_LENGTH(triangles) ((size_t)84 + 50 * (size_t)(triangles))
+
+/* The largest size of a raw volume, and its bytes by its sizes. */
+#define SIRVESHAN_MOST_ACROSS 1024
+#define SIRVESHAN_VOLUME_LENGTH(x, y, z) (4 * (size_t)(x) * (size_t)(y) * (size_t)(z))
 
 /* Places of the index store: 4 n^3 + 60 n^2. */
 #define SIRVESHAN_STORE_LENGTH(n) ((size_t)(n) * (size_t)(n) * (4 * (size_t)(n) + 60))
@@ -269,6 +284,29 @@ typedef struct sirveshan_triangles_read {
 } sirveshan_triangles_read;
 
 sirveshan_triangles_read sirveshan_read_stl(const uint8_t *src, size_t length, float *positions, size_t positions_length);
+
+/*
+ * Cuts a block of n subdivisions out of a raw volume: its point `first` becomes the block's (0, 0, 0), and the block's samples, the
+ * six faces outside included, fill the first SIRVESHAN_CENTRE_LENGTH(n) places of samples; all beyond stays. Their number is
+ * answered. A point beyond the volume takes the nearest of the volume's samples. Judged are 1, 20, 21, 22, 7 (the volume's number of
+ * the first bad sample that is taken, in the order of the block's places) and 14, in that order: 14 tells how many samples need
+ * room. On a refusal the number is 0 and no lent place is altered. What was cut passes 4 and 7. Two blocks side by side (first
+ * points n apart along an axis) agree on their common face, in the samples and in the gradients. A block passes 8 with finer
+ * neighbours cut with 2n from a volume of twice the resolution (at even points the coarse volume's samples), each at twice the
+ * first point of the block beyond the side; where it reaches beyond the coarse volume's s samples along an axis, the fine volume
+ * must have just 2s - 1 there.
+ */
+typedef struct sirveshan_point {
+    size_t x, y, z;
+} sirveshan_point;
+
+typedef struct sirveshan_samples_cut {
+    sirveshan_refusal refused;
+    size_t samples;
+} sirveshan_samples_cut;
+
+sirveshan_samples_cut sirveshan_cut(const uint8_t *src, size_t length, sirveshan_point sizes, size_t n, sirveshan_point first,
+                                    float *samples, size_t samples_length);
 
 /*
  * Four calls for a viewer. Each takes the bytes of one record, judges it whole (11, 12, 1, 2, 3, 13, 7) and writes nowhere. The

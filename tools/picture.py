@@ -3,6 +3,7 @@
 
     ./mesh examples/face-finer.record | python3 tools/picture.py docs/face.png
     ./sirveshan stl examples/face-run.records -o - | python3 tools/picture.py docs/stl.png --stl
+    ./sirveshan cut examples/face.volume 30 15 22 -n 8 --all --threshold 0 -o - | ./sirveshan stl - -o - | python3 tools/picture.py docs/volume.png --stl
 
 Plain Python: the listing or the file comes in on standard input, a PNG goes to the file named.
 """

@@ -1,5 +1,5 @@
 #!/usr/bin/env python3
-"""Makes the example records of examples/, always the same bytes.
+"""Makes the example records of examples/ and its raw volume, always the same bytes.
 
     python3 tools/records.py
 
@@ -8,11 +8,13 @@ subdivisions.  face-finer is the same face with finer neighbours on three sides,
 where a knob shows that the coarse samples miss; it has 7 subdivisions, the most
 that leaves a record with three neighbours below the listing program's 65,536
 bytes.  face-run is a run: the face in four blocks side by side, two along x and
-two along z.  ledge is a block that lies before the face, with a thin ledge that
-only its finer neighbour's samples meet: all its own samples are outside, and the
-transition cells have triangles.
+two along z.  face.volume is the face as a raw volume of 30 x 15 x 22 samples, half
+a metre apart: little-endian f32, x fastest.  ledge is a block that lies before the
+face, with a thin ledge that only its finer neighbour's samples meet: all its own
+samples are outside, and the transition cells have triangles.
 """
 
+import struct
 from pathlib import Path
 
 from reference import (ROTATIONS, Block, bits, block_length, face_point, fine_place, neighbours_length,
@@ -22,6 +24,11 @@ EXAMPLES = Path(__file__).resolve().parent.parent / "examples"
 
 BASE = (120.0, 40.0, 15.0)
 SIZE = 8.0
+
+# The raw volume: its sizes, its first point in metres from the base, and the step between its samples.
+VOLUME_SIZES = (30, 15, 22)
+VOLUME_FIRST = (-3.5, 0.5, -1.5)
+VOLUME_STEP = 0.5
 
 # Bumps on the face: x and z of the middle, height, width, all in metres from the base.
 BUMPS = [(2.0, 2.5, 1.5, 1.5), (5.5, 5.0, -1.25, 2.0), (6.5, 1.0, 1.0, 1.0), (1.0, 6.5, 0.75, 2.5)]
@@ -117,10 +124,17 @@ def runs():
     return {"face-run.records": b"".join(map(record_of, blocks))}
 
 
+def volumes():
+    """The raw volumes by file name."""
+    x, y, z = ([start + VOLUME_STEP * k for k in range(size)] for start, size in zip(VOLUME_FIRST, VOLUME_SIZES))
+    samples = [depth_in_rock(a, b, c) for c in z for b in y for a in x]
+    return {"face.volume": struct.pack("<%df" % len(samples), *samples)}
+
+
 def main():
     EXAMPLES.mkdir(exist_ok=True)
-    for name, record in {**examples(), **runs()}.items():
-        (EXAMPLES / name).write_bytes(record)
+    for name, content in {**examples(), **runs(), **volumes()}.items():
+        (EXAMPLES / name).write_bytes(content)
 
 
 if __name__ == "__main__":

@@ -18,6 +18,7 @@ As a command, one record on standard input:
     python3 tools/reference.py stl               the mesh as an STL file
 """
 
+import functools
 import math
 import struct
 import sys
@@ -30,6 +31,8 @@ LIMIT = 1048576.0
 LEAST_SIZE = 1 / 1024
 HEADER = 27
 VERSION = 1
+
+VOLUME_ACROSS = 1024
 
 STL_MOST_TRIANGLES = 4294967295
 STL_START = 84
@@ -722,6 +725,59 @@ def read_stl(file, positions):
 def mesh_stl(mesh):
     return stl_of([number for vertex in mesh.vertices for number in vertex],
                   [index for triangle in mesh.triangles for index in triangle])
+
+
+# Cutting blocks from a raw volume: document 02, [8].  Little-endian f32, x fastest
+
+@functools.lru_cache(maxsize=4)
+def block_points(n):
+    """The grid point of each of a block's places, in order."""
+    span = range(-1, n + 2)
+    placed = {sample_place(n, (x, y, z)): (x, y, z) for x in span for y in span for z in span}
+    return [placed[place] for place in range(block_length(n))]
+
+
+def volume_place(sizes, first, point):
+    """The volume's place for a block's point: beyond the volume that of the nearest sample."""
+    x, y, z = (min(max(start + step, 0), size - 1) for start, step, size in zip(first, point, sizes))
+    return (z * sizes[1] + y) * sizes[0] + x
+
+
+def refuse_volume(length, sizes, n, first):
+    """1, 20, 21, 22."""
+    refusal = refuse_subdivisions(n)
+    if refusal:
+        return refusal
+    if not all(1 <= size <= VOLUME_ACROSS for size in sizes):
+        return Refusal(20)
+    if length != 4 * math.prod(sizes):
+        return Refusal(21)
+    if not all(start < size for start, size in zip(first, sizes)):
+        return Refusal(22)
+    return None
+
+
+def cut(volume, sizes, n, first, samples):
+    """How many samples were cut, or a refusal: 1, 20, 21, 22, 7, 14; fills the first places of the lent list."""
+    refusal = refuse_volume(len(volume), sizes, n, first)
+    if refusal:
+        return refusal
+    places = [volume_place(sizes, first, point) for point in block_points(n)]
+    taken = [int.from_bytes(volume[4 * place:4 * place + 4], "little") for place in places]
+    for place, pattern in zip(places, taken):
+        if not within_limit(value(pattern)):
+            return Refusal(7, place)
+    refusal = refuse_buffer(len(samples), len(taken))
+    if refusal:
+        return refusal
+    lay(samples, taken)
+    return len(taken)
+
+
+def first_points(sizes, n):
+    """Where the blocks of a whole volume begin, side by side, x fastest: together they have every cell."""
+    x, y, z = (range(0, max(size - 1, 1), n) for size in sizes)
+    return [(a, b, c) for c in z for b in y for a in x]
 
 
 # The viewer's calls

@@ -61,8 +61,9 @@ def read_table(text):
         if len(row) != len(COLUMNS):
             raise Wrong("%s: %d columns in the row of %s" % (TABLE, len(row), row[0]))
         refusals.append(Refusal(int(row[0]), row[1], row[2], tuple(row[3:6]), row[6]))
-    if [refusal.number for refusal in refusals] != list(range(1, len(refusals) + 1)):
-        raise Wrong("%s: its numbers are not 1, 2, 3 and so on" % TABLE)
+    numbers = [refusal.number for refusal in refusals]
+    if numbers != sorted(set(numbers)):
+        raise Wrong("%s: its numbers do not rise" % TABLE)
     for refusal in refusals:
         if list(refusal.numbers) != sorted(refusal.numbers, key=lambda number: not number):
             raise Wrong("%s: %d leaves out a number before one that it uses" % (TABLE, refusal.number))

@@ -1,5 +1,5 @@
 #!/usr/bin/env python3
-"""Document 01's figures, case A and refusals, document 02's STL, blank and reads, asked of tools/reference.py; the example records.
+"""Document 01's figures, case A and refusals, document 02's STL, blank, reads and cut blocks, asked of tools/reference.py; the example records.
 
     python3 tools/test_reference.py
 """
@@ -301,6 +301,60 @@ class Stl(unittest.TestCase):
         self.not_read(Refusal(14, 9), file, room=8)
 
 
+class Cut(unittest.TestCase):
+    # A volume of 4 x 3 x 5 whose samples tell their place.
+    SIZES = (4, 3, 5)
+    VOLUME = struct.pack("<60f", *range(60))
+
+    def cut(self, n, first):
+        samples = [7] * (reference.block_length(n) + 3)
+        self.assertEqual(reference.cut(self.VOLUME, self.SIZES, n, first, samples), reference.block_length(n))
+        self.assertEqual(samples[-3:], [7] * 3)
+        return reference.values(samples[:-3])
+
+    def not_cut(self, refusal, volume=VOLUME, sizes=SIZES, n=2, first=(0, 0, 0), room=90):
+        samples = [7] * room
+        self.assertEqual(reference.cut(volume, sizes, n, first, samples), refusal)
+        self.assertEqual(samples, [7] * room)
+
+    def test_x_is_fastest(self):
+        samples = self.cut(1, (1, 1, 2))
+        for (x, y, z), place in {(0, 0, 0): 29, (1, 0, 0): 30, (0, 1, 0): 33, (0, 0, 1): 41, (-1, 1, 0): 32, (1, 0, 2): 54}.items():
+            self.assertEqual(samples[reference.sample_place(1, (x, y, z))], place)
+
+    def test_beyond_the_volume(self):
+        samples = self.cut(2, (3, 2, 0))
+        for point, place in {(0, 0, 0): 11, (2, 2, 2): 35, (3, 0, 1): 23, (-1, 2, 0): 10, (0, 1, -1): 11}.items():
+            self.assertEqual(samples[reference.sample_place(2, point)], place)
+
+    def test_side_by_side(self):
+        one, next_one = self.cut(2, (0, 0, 0)), self.cut(2, (0, 0, 2))
+        for x in range(3):
+            for y in range(3):
+                for here, there in ((2, 0), (1, -1), (3, 1)):
+                    self.assertEqual(one[reference.sample_place(2, (x, y, here))], next_one[reference.sample_place(2, (x, y, there))])
+
+    def test_refusals_in_order(self):
+        bad = bytearray(self.VOLUME)
+        bad[4 * 17:4 * 18] = struct.pack("<I", NAN)
+        bad[4 * 5:4 * 6] = struct.pack("<f", -1048577)
+        self.not_cut(Refusal(1, 0), sizes=(0, 0, 0), n=0)
+        self.not_cut(Refusal(1, 65), n=65)
+        self.not_cut(Refusal(20), sizes=(4, 0, 5), volume=b"")
+        self.not_cut(Refusal(20), sizes=(4, 1025, 5))
+        self.not_cut(Refusal(21), volume=self.VOLUME[:-1], first=(4, 0, 0))
+        self.not_cut(Refusal(21), sizes=(4, 3, 4), first=(4, 0, 0))
+        self.not_cut(Refusal(22), volume=bytes(bad), first=(0, 3, 0))
+        self.not_cut(Refusal(7, 17), volume=bytes(bad), first=(0, 1, 1), room=0)
+        self.not_cut(Refusal(7, 5), volume=bytes(bad), n=1, room=0)
+        self.not_cut(Refusal(14, 81), room=80)
+
+    def test_blocks_of_a_whole_volume(self):
+        self.assertEqual(reference.first_points((4, 3, 5), 2), [(0, 0, 0), (2, 0, 0), (0, 0, 2), (2, 0, 2)])
+        self.assertEqual(reference.first_points((1, 2, 3), 2), [(0, 0, 0)])
+        self.assertEqual(len(reference.first_points((512, 512, 512), 16)), 32 ** 3)
+
+
 class Viewer(unittest.TestCase):
     def test_answers(self):
         record = reference.record_of(case_a())
@@ -365,8 +419,8 @@ class Listing(unittest.TestCase):
 
 class Examples(unittest.TestCase):
     def test_stored_as_made(self):
-        for name, record in {**records.examples(), **records.runs()}.items():
-            self.assertEqual((records.EXAMPLES / name).read_bytes(), record)
+        for name, content in {**records.examples(), **records.runs(), **records.volumes()}.items():
+            self.assertEqual((records.EXAMPLES / name).read_bytes(), content)
 
     def test_all_are_meshed(self):
         for record in records.examples().values():

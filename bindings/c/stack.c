@@ -33,6 +33,8 @@ static void *calls(void *unused)
     size_t centre = SIRVESHAN_CENTRE_LENGTH(subdivisions), rest = SIRVESHAN_NEIGHBOURS_LENGTH(subdivisions, mask), k;
     sirveshan_written written;
     sirveshan_triangles_read read;
+    sirveshan_point sizes = {40, 40, 40}, first = {39, 0, 20};
+    sirveshan_samples_cut cut;
     volatile uint8_t here = 0;
     uint8_t *low = painted;
     sirveshan_extracted meshed;
@@ -52,6 +54,10 @@ static void *calls(void *unused)
     if (sirveshan_subdivisions(bytes, written.length) != subdivisions || sirveshan_blank(bytes, written.length) > 1)
         abort();
     if (sirveshan_sample(bytes, written.length, 0, 0, 0) > UINT32_MAX)
+        abort();
+    cut = sirveshan_cut((const uint8_t *)samples, SIRVESHAN_VOLUME_LENGTH(40, 40, 40), sizes, subdivisions, first, positions,
+                        sizeof positions / 4);
+    if (cut.refused.number != 0)
         abort();
     for (k = 0; low[k] == PAINT; k++)
         ;

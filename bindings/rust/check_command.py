@@ -609,6 +609,175 @@ def check_stl_check_refusals():
         refused(run("stl", "--check", "-", given=damaged), reference.refuse_stl_file(damaged))
 
 
+# Cutting
+
+FACE = (EXAMPLES / "face.volume").read_bytes()
+FACE_SIZES = records.VOLUME_SIZES
+FACE_WORDS = [EXAMPLES / "face.volume", *FACE_SIZES]
+
+
+def cut_record(n, first, threshold=0.0, base=(0.0, 0.0, 0.0), size=None):
+    """The record of a block of the example's volume."""
+    samples = [0] * reference.block_length(n)
+    same("reference", reference.cut(FACE, FACE_SIZES, n, first, samples), len(samples))
+    size = float(n) if size is None else size
+    return reference.record_of(reference.Block(n, 0, reference.bits(threshold), tuple(map(reference.bits, base)), reference.bits(size), samples, []))
+
+
+def cut_length(n):
+    return reference.HEADER + 4 * reference.block_length(n)
+
+
+def cut_volume(n, base, size):
+    """Those of all its blocks, each a side on from the one before it."""
+    blocks = []
+    for first in reference.first_points(FACE_SIZES, n):
+        at = [reference.f32(reference.f32(start) + reference.f32(size) * (k // n)) for start, k in zip(base, first)]
+        blocks.append(cut_record(n, first, 0.25, at, size))
+    return b"".join(blocks)
+
+
+def with_bad_samples(*places):
+    volume = bytearray(FACE)
+    for place in places:
+        volume[4 * place:4 * place + 4] = struct.pack("<I", NAN)
+    return bytes(volume)
+
+
+def check_cut_help():
+    done = run("cut", "--help")
+    same("status", (done.returncode, done.stderr), (0, b""))
+    assert b"usage: sirveshan cut VOLUME" in done.stdout, done.stdout
+
+
+def check_cut_of_one_block():
+    with tempfile.TemporaryDirectory() as folder:
+        for k, (n, first) in enumerate([(1, (0, 0, 0)), (8, (8, 0, 8)), (5, (29, 14, 21)), (64, (20, 3, 2))]):
+            file = Path(folder) / ("%d.record" % k)
+            silent(run("cut", *FACE_WORDS, "-n", n, "--at", *first, "--threshold", 0, "-o", file))
+            same("file", file.read_bytes(), cut_record(n, first))
+            words = ["--threshold", "-1.5", "--base", "-3", "1e3", "0.1", "--size=2.5", "-o", "-"]
+            done = run("cut", "-", *FACE_SIZES, "-n", n, "--at", *first, *words, given=FACE)
+            same("standard output", (done.returncode, done.stderr), (0, b""))
+            same("standard output", done.stdout, cut_record(n, first, -1.5, (-3.0, 1e3, 0.1), 2.5))
+        same("files", len(names_in(folder)), k + 1)
+
+
+def check_cut_of_all_blocks():
+    with tempfile.TemporaryDirectory() as folder:
+        file = Path(folder) / "run.records"
+        for n, jobs in ((8, 1), (8, 3), (16, 2), (3, 1)):
+            words = ["-n", n, "--all", "--threshold", 0.25, "--base", 116.5, 40.3, -13.5, "--size", 4.1]
+            wanted = cut_volume(n, (116.5, 40.3, -13.5), 4.1)
+            silent(run("cut", *FACE_WORDS, *words, "--jobs", jobs, "-o", file, "--force"))
+            same("file", file.read_bytes(), wanted)
+            same("standard output", run("cut", *FACE_WORDS, *words, "-o", "-").stdout, wanted)
+        same("a mesh for each", run("mesh", file).stdout.count(b"mesh "), len(reference.first_points(FACE_SIZES, 3)))
+
+
+def check_cut_refusals():
+    places = {(2, 0, 0): 2, (29, 14, 21): 30 * 15 * 22 - 1}
+    with tempfile.TemporaryDirectory() as folder:
+        file = Path(folder) / "a.record"
+        for sizes, n, first, volume, number in [
+                (FACE_SIZES, 0, (99, 0, 0), b"", 1), (FACE_SIZES, 65, (0, 0, 0), FACE, 1), ((0, 15, 22), 8, (0, 0, 0), b"", 20),
+                ((30, 1025, 22), 8, (0, 0, 0), FACE, 20), (FACE_SIZES, 8, (99, 0, 0), FACE[:-1], 21), ((30, 15, 21), 8, (99, 0, 0), FACE, 21),
+                (FACE_SIZES, 8, (0, 15, 0), FACE, 22), (FACE_SIZES, 8, (0, 0, 2 ** 63), FACE, 22),
+                (FACE_SIZES, 8, (0, 0, 0), with_bad_samples(*places.values()), 7)]:
+            refusal = reference.cut(volume, sizes, n, first, [])
+            same("reference", refusal.number, number)
+            for target in (file, "-"):
+                refused(run("cut", "-", *sizes, "-n", n, "--at", *first, "--threshold", 0, "-o", target, given=volume), refusal)
+            if number in (1, 20, 21):
+                refused(run("cut", "-", *sizes, "-n", n, "--all", "--threshold", 0, "-o", file, given=volume), refusal)
+        for words in (["--threshold", "nan"], ["--threshold", 0, "--size", 0], ["--threshold", 0, "--base", 0, "inf", 0]):
+            done = run("cut", *FACE_WORDS, "-n", 2, "--at", 0, 0, 0, *words, "-o", file)
+            same("status", (done.returncode, done.stderr[:10]), (1, b"refused 3 "))
+        same("files", names_in(folder), [])
+
+
+def check_cut_with_refused_blocks():
+    volume = with_bad_samples(2, 30 * 15 * 22 - 1)
+    firsts = reference.first_points(FACE_SIZES, 8)
+    answers = {first: reference.cut(volume, FACE_SIZES, 8, first, [0] * 2000) for first in firsts}
+    bad = [first for first in firsts if isinstance(answers[first], reference.Refusal)]
+    same("reference", bad, [(0, 0, 0), (24, 8, 16)])
+    lines = ["refused 7 %d 0 0: sample %d is not finite or beyond 1,048,576 (the block at %d %d %d)" % (*[answers[first].first] * 2, *first) for first in bad]
+    with tempfile.TemporaryDirectory() as folder:
+        file = Path(folder) / "a.records"
+        words = ["cut", "-", *FACE_SIZES, "-n", 8, "--all", "--threshold", 0, "--size", 0.5, "-o"]
+        told_of(run(*words, file, given=volume), b"", lines)
+        same("files", names_in(folder), [])
+        told_of(run(*words, "-", given=volume), b"", lines)
+        told_of(run(*words, file, "--skip-refused", given=volume), b"", lines)
+        same("what is not refused", run("mesh", file).stdout.count(b"mesh "), len(firsts) - len(bad))
+        told_of(run(*words, "-", "--skip-refused", given=volume), file.read_bytes(), lines)
+        last = with_bad_samples(30 * 15 * 22 - 1)
+        told_of(run(*words, "-", given=last), run(*words, "-", given=FACE).stdout[:-cut_length(8)], lines[1:])
+
+
+def told_of(done, output, lines):
+    """Blocks were refused, a line each; what else there was is written."""
+    same("status and words", (done.returncode, done.stderr.decode().splitlines()), (1, lines))
+    same("output", done.stdout, output)
+
+
+def check_cut_with_no_block_left():
+    nan = struct.pack("<I", NAN) * (4 * 3 * 3)
+    lines = ["refused 7 %d 0 0: sample %d is not finite or beyond 1,048,576 (the block at %d 0 0)" % (k, k, k) for k in (0, 2)]
+    with tempfile.TemporaryDirectory() as folder:
+        for target in (Path(folder) / "a.records", "-"):
+            words = ["cut", "-", 4, 3, 3, "-n", 2, "--all", "--threshold", 0, "-o", target]
+            told_of(run(*words, given=nan), b"", lines)
+            told_of(run(*words, "--skip-refused", given=nan), b"", [*lines, "sirveshan: every block is refused: nothing is written"])
+        same("files", names_in(folder), [])
+
+
+def check_cut_bad_usage():
+    with tempfile.TemporaryDirectory() as folder:
+        file = Path(folder) / "a.record"
+        good = [*FACE_WORDS, "-n", 8, "--at", 0, 0, 0, "--threshold", 0, "-o", file]
+        bad_usage(run("cut", Path(folder) / "none", *good[1:]))
+        for without in (["-n", 8], ["--at", 0, 0, 0], ["--threshold", 0], ["-o", file], FACE_WORDS[3:]):
+            at = good.index(without[0])
+            bad_usage(run("cut", *good[:at], *good[at + len(without):]))
+        for more in (["--all"], ["--at", 0, 0], ["--base", 0, 0], ["--size", "big"], ["--jobs", 0], ["-n", -1], ["more"], ["--plain"], ["--jobs", 2],
+                     ["--skip-refused"]):
+            bad_usage(run("cut", *more, *good))
+        for words in (["--at", 0, -1, 0], ["--at", 0, 0, 0.5]):
+            bad_usage(run("cut", *FACE_WORDS, "-n", 8, *words, "--threshold", 0, "-o", file))
+        same("files", names_in(folder), [])
+
+
+def little_memory():
+    """Room for no volume, but for a block."""
+    resource.setrlimit(resource.RLIMIT_DATA, (1 << 26, 1 << 26))
+
+
+def zeros(path, length):
+    with open(path, "wb") as file:
+        file.truncate(length)
+
+
+def check_cut_holds_no_volume():
+    with tempfile.TemporaryDirectory() as folder:
+        volume, blocks = Path(folder) / "wide.volume", Path(folder) / "all.records"
+        zeros(volume, 4 << 30)
+        done = run("cut", volume, 1024, 1024, 1024, "-n", 16, "--at", 1023, 512, 1020, "--threshold", 1, "-o", "-", preexec_fn=little_memory)
+        same("status", (done.returncode, done.stderr), (0, b""))
+        same("its length", len(done.stdout), cut_length(16))
+        refused(run("cut", volume, 1024, 1024, 1023, "-n", 16, "--all", "--threshold", 1, "-o", "-"), reference.Refusal(21))
+        zeros(volume, 4 * 257 * 257 * 321)
+        silent(run("cut", volume, 257, 257, 321, "-n", 64, "--all", "--threshold", 1, "--jobs", 2, "-o", blocks, preexec_fn=little_memory))
+        same("their length", blocks.stat().st_size, 4 * 4 * 5 * cut_length(64))
+
+
+def check_cut_reads_no_more_than_the_volume():
+    for sizes, number in (((9, 9, 9), 21), ((9, 0, 9), 20), ((1025, 2, 2), 20)):
+        words = ["cut", "/dev/zero", *sizes, "-n", 4, "--all", "--threshold", 0, "-o", "-"]
+        refused(run(*words, preexec_fn=little_memory), reference.Refusal(number))
+
+
 # Progress
 
 def on_a_terminal(*words, given):
@@ -642,6 +811,10 @@ def check_progress_on_a_terminal():
             same("progress for %d" % count, b" records" in said, shown)
             if shown:
                 assert said.endswith(b"\r\x1b[K"), said[-40:]
+    words = ["cut", *map(str, FACE_WORDS), "-n", "1", "--all", "--threshold", "0.25", "--base", "0", "0", "0", "--size", "1", "-o", "-"]
+    blocks, said = on_a_terminal(*words, given=b"")
+    same("blocks", blocks, cut_volume(1, (0.0, 0.0, 0.0), 1.0))
+    assert b" records" in said and said.endswith(b"\r\x1b[K"), said[-40:]
 
 
 def main():

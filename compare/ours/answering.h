@@ -1,18 +1,23 @@
-/* What the programs that answer calls share: room, what a call brings, and what goes back. A program names itself first:
-   PROGRAM. */
+/* What the programs that answer calls share: room, what a call brings, and what goes back. A lent buffer is found filled with
+   MARK. A program names itself first: PROGRAM. */
 
 #include <stdint.h>
 #include <stdio.h>
 #include <stdlib.h>
 #include <string.h>
 
-static void fail(const char *what)
+#include "sirveshan.h"
+
+/* As an f32 a signalling NaN, which no arithmetic leaves as it is. */
+#define MARK 0x7fa5a5a5u
+
+static inline void fail(const char *what)
 {
     fprintf(stderr, PROGRAM ": %s\n", what);
     exit(1);
 }
 
-static void *room(size_t bytes)
+static inline void *room(size_t bytes)
 {
     void *made = malloc(bytes + 4);
     if (!made)
@@ -20,7 +25,7 @@ static void *room(size_t bytes)
     return made;
 }
 
-static void *given(size_t bytes)
+static inline void *given(size_t bytes)
 {
     void *made = room(bytes);
     if (fread(made, 1, bytes, stdin) != bytes)
@@ -28,13 +33,29 @@ static void *given(size_t bytes)
     return made;
 }
 
-static void put(const void *buffer, size_t bytes)
+static inline void *marked(size_t bytes)
+{
+    uint32_t mark = MARK;
+    char *made = room(bytes);
+    for (size_t k = 0; k < bytes; k++)
+        made[k] = ((char *)&mark)[k % 4];
+    return made;
+}
+
+static inline void put(const void *buffer, size_t bytes)
 {
     if (fwrite(buffer, 1, bytes, stdout) != bytes)
         fail("cannot write");
 }
 
-static void put_last(const void *buffer, size_t bytes)
+/* A refusal's four numbers and a figure, of eight bytes each. */
+static inline void put_numbers(sirveshan_refusal refused, size_t figure)
+{
+    uint64_t numbers[5] = {refused.number, refused.first, refused.second, refused.third, figure};
+    put(numbers, sizeof numbers);
+}
+
+static inline void put_last(const void *buffer, size_t bytes)
 {
     put(buffer, bytes);
     if (fflush(stdout))

@@ -4,25 +4,8 @@
    of eight bytes each: what blank answers; the number of the refusal when the record is read and meshed, 0 for none; and how many triangles
    the mesh has. */
 
-#include <stdint.h>
-#include <stdio.h>
-#include <stdlib.h>
-
-#include "sirveshan.h"
-
-static void fail(const char *what)
-{
-    fprintf(stderr, "blank_answers: %s\n", what);
-    exit(1);
-}
-
-static void *room(size_t bytes)
-{
-    void *made = malloc(bytes + 4);
-    if (!made)
-        fail("no memory");
-    return made;
-}
+#define PROGRAM "blank_answers"
+#include "answering.h"
 
 /* Reads the record and asks for its mesh with no room: 10 tells the counts, and a mesh of nothing needs none. */
 static void mesh(const uint8_t *record, size_t length, uint64_t answer[3])
@@ -48,14 +31,11 @@ int main(void)
     uint32_t length;
     while (fread(&length, 4, 1, stdin) == 1) {
         uint64_t answer[3] = {0};
-        uint8_t *record = room(length);
-        if (fread(record, 1, length, stdin) != length)
-            fail("a call is cut short");
+        uint8_t *record = given(length);
         answer[0] = sirveshan_blank(record, length);
         mesh(record, length, answer);
         free(record);
-        if (fwrite(answer, sizeof answer, 1, stdout) != 1 || fflush(stdout))
-            fail("cannot write");
+        put_last(answer, sizeof answer);
     }
     return 0;
 }

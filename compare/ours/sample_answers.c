@@ -7,8 +7,6 @@
 #define PROGRAM "sample_answers"
 #include "answering.h"
 
-#include "sirveshan.h"
-
 static void point_call(const uint8_t *record, size_t length, const int32_t *point, uint64_t *answer)
 {
     sirveshan_sampled got = sirveshan_sample_kind(record, length, point[0], point[1], point[2]);

@@ -4,29 +4,14 @@
    and triangles and of the lent buffer in bytes, then the vertices' bits and the triangles; or 1
    for reading, the length of the file, 0, the length of the lent list in f32, then the file's
    bytes. The answer on standard output: the refusal's four numbers and the length or the count, of
-   eight bytes each, then all of the lent buffer, which every call finds filled with MARK: as an f32
-   a signalling NaN, which no arithmetic leaves as it is. */
+   eight bytes each, then all of the lent buffer, which every call finds filled with MARK. */
 
 #define PROGRAM "stl_answers"
 #include "answering.h"
 
-#include "sirveshan.h"
-
-#define MARK 0x7fa5a5a5u
-
-static void *marked(size_t bytes)
-{
-    uint32_t mark = MARK;
-    char *made = room(bytes);
-    for (size_t k = 0; k < bytes; k++)
-        made[k] = ((char *)&mark)[k % 4];
-    return made;
-}
-
 static void answer(sirveshan_refusal refused, size_t figure, const void *lent, size_t bytes)
 {
-    uint64_t numbers[5] = {refused.number, refused.first, refused.second, refused.third, figure};
-    put(numbers, sizeof numbers);
+    put_numbers(refused, figure);
     put_last(lent, bytes);
 }
 

@@ -15,6 +15,9 @@ pub const STL_HEADER: usize = 84;
 /// The bytes of a triangle in an STL file.
 pub const STL_TRIANGLE: usize = 50;
 
+/// The largest size of a raw volume along an axis.
+pub const MOST_ACROSS: usize = 1024;
+
 /// How many samples a block of `subdivisions` has: the points of its grid, and one more layer at
 /// each of its six faces.
 ///
@@ -47,6 +50,11 @@ pub fn record_length(subdivisions: usize, mask: u8) -> usize {
 /// How many bytes the STL file of so many triangles has.
 pub fn stl_length(triangles: usize) -> usize {
     triangles.saturating_mul(STL_TRIANGLE).saturating_add(STL_HEADER)
+}
+
+/// How many bytes a raw volume of these sizes has.
+pub fn volume_length(sizes: [usize; 3]) -> usize {
+    sizes.into_iter().fold(4, usize::saturating_mul)
 }
 
 /// How many sides `mask` names.

@@ -45,6 +45,17 @@ pub struct TrianglesRead {
 }
 
 #[repr(C)]
+pub struct CPoint {
+    axes: [usize; 3],
+}
+
+#[repr(C)]
+pub struct SamplesCut {
+    pub refused: CRefusal,
+    pub samples: usize,
+}
+
+#[repr(C)]
 pub struct Sampled {
     pub refused: CRefusal,
     pub value: f32,
@@ -98,6 +109,21 @@ extern "C" {
         positions: *mut f32,
         positions_length: usize,
     ) -> TrianglesRead;
+    pub fn sirveshan_cut(
+        src: *const u8,
+        length: usize,
+        sizes: CPoint,
+        n: usize,
+        first: CPoint,
+        samples: *mut f32,
+        samples_length: usize,
+    ) -> SamplesCut;
+}
+
+impl From<[usize; 3]> for CPoint {
+    fn from(axes: [usize; 3]) -> CPoint {
+        CPoint { axes }
+    }
 }
 
 impl From<&Header> for CHeader {

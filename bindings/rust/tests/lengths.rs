@@ -2,7 +2,7 @@
 
 use sirveshan::{
     most_reads, most_triangles, most_vertices, neighbours_length, record_length, sample_length,
-    sample_place, stl_length, store_length, Side,
+    sample_place, stl_length, store_length, volume_length, Side,
 };
 
 #[test]
@@ -14,6 +14,7 @@ fn lengths_of_real_blocks() {
     assert_eq!([1, 12, 16, 64].map(store_length), [64, 15552, 31744, 1_294_336]);
     assert_eq!(record_length(1, 0), 155);
     assert_eq!([0, 1, 226].map(stl_length), [84, 134, 11384]);
+    assert_eq!([[7, 5, 6], [1024; 3], [0, 9, 9]].map(volume_length), [840, 1 << 32, 0]);
     assert_eq!(most_vertices(1, 0), 12);
     assert_eq!(most_vertices(16, 63), 27_984);
     assert_eq!(most_triangles(16, 63), 5 * 4096 + 12 * 6 * 256);
@@ -46,6 +47,7 @@ fn absurd_lengths_do_not_panic() {
         assert_eq!(most_vertices(n, 255), usize::MAX);
         assert_eq!(most_triangles(n, 0), usize::MAX);
         assert_eq!(most_reads(n, 0), u64::MAX);
+        assert_eq!(volume_length([n, 9, n]), usize::MAX);
         assert_eq!(sample_place(n, [i32::MAX, 0, -5]), None);
         assert_eq!(sample_place(n, [-1, i32::MAX, i32::MAX]), None);
     }

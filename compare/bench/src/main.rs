@@ -5,6 +5,7 @@ mod blank;
 mod faces;
 mod ours;
 mod stl;
+mod volume;
 
 use faces::{block, NOISY, SMOOTH, WAVY};
 use oracle::record::Block;
@@ -21,6 +22,7 @@ bench growth                              the same as n grows to 64, with no fin
 bench parts [N]                           where our time goes, at n = 16 or the one named
 bench stl                                 STL files: writing and reading against a copy of the same bytes
 bench blank                               the viewer's question whether a block is blank
+bench volume [SIZE]                       a raw volume of SIZE samples a side (512) cut whole, against reading its file once
 bench ours|before|rust TIMES N MASK FACE  meshes one block that often and prints nothing
                                           (FACE: smooth, wavy, noisy); compare/instructions counts it";
 const SIZES: [usize; 3] = [4, 8, 16];
@@ -187,6 +189,8 @@ fn run(words: &[&str]) -> Outcome {
         ["growth"] => growth(),
         ["stl"] => stl::table(),
         ["blank"] => blank::table(),
+        ["volume"] => volume::table(512),
+        ["volume", size] => volume::table(number(size)?),
         ["parts"] => parts(16),
         ["parts", n] => parts(number(n)?),
         ["ours" | "before" | "rust", times, n, mask, face @ ("smooth" | "wavy" | "noisy")] => {

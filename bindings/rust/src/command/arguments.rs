@@ -2,6 +2,7 @@
 
 use crate::failure::Failure;
 use std::ffi::{OsStr, OsString};
+use std::str::FromStr;
 
 /// What was not taken yet; after a word `--` nothing is an option.
 pub struct Arguments {
@@ -66,6 +67,22 @@ impl Arguments {
         }
     }
 
+    /// Takes an option whose value can be any of its kind, such as a number below 0.
+    pub fn value<T: FromStr>(&mut self, name: &str) -> Result<Option<T>, Failure> {
+        let Some(word) = self.option(name)? else { return Ok(None) };
+        read(name, &word).map(Some)
+    }
+
+    /// Takes an option and the three words after it, one for each axis.
+    pub fn three<T: FromStr>(&mut self, name: &str) -> Result<Option<[T; 3]>, Failure> {
+        let Some(at) = self.words.iter().position(|word| word == name) else { return Ok(None) };
+        if self.words.len() < at + 4 {
+            return Err(Failure::Usage(format!("{name} wants three values")));
+        }
+        let words: Vec<OsString> = self.words.drain(at..at + 4).collect();
+        Ok(Some([read(name, &words[1])?, read(name, &words[2])?, read(name, &words[3])?]))
+    }
+
     /// All that is left, told by place: one word for each of `names`.
     pub fn by_place<const N: usize>(self, names: [&str; N]) -> Result<[OsString; N], Failure> {
         if let Some(option) = self.words.iter().find(|word| is_option(word)) {
@@ -81,6 +98,13 @@ impl Arguments {
             }
         })
     }
+}
+
+/// A word that stands for a value.
+pub fn read<T: FromStr>(name: &str, word: &OsStr) -> Result<T, Failure> {
+    word.to_str().and_then(|word| word.parse().ok()).ok_or_else(|| {
+        Failure::Usage(format!("{name} {}: this is no such number", word.to_string_lossy()))
+    })
 }
 
 fn starts_with(word: &OsStr, beginning: &str) -> bool {

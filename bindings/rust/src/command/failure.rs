@@ -4,9 +4,9 @@ use sirveshan::Refusal;
 use std::io::{self, Write};
 
 pub enum Failure {
-    /// A record was refused.
+    /// A record or a cut was refused.
     Refused(Refusal),
-    /// Records of a run were refused, each told of already.
+    /// Records of a run, or blocks of a volume, were refused, each told of already.
     SomeRefused,
     /// The command was not called as it can be.
     Usage(String),

@@ -35,7 +35,7 @@ impl Input {
     }
 
     /// The next bytes, fewer at the end.
-    fn up_to(&mut self, count: u64) -> Result<Vec<u8>, Failure> {
+    pub fn up_to(&mut self, count: u64) -> Result<Vec<u8>, Failure> {
         let mut bytes = Vec::new();
         let read = (&mut self.reader).take(count).read_to_end(&mut bytes);
         read.map_err(|error| self.failure(error))?;

@@ -2,12 +2,14 @@
 //! its outcome into an exit status.
 
 mod arguments;
+mod cut;
 mod failure;
 mod figures;
 mod info;
 mod input;
 mod jobs;
 mod listing;
+mod mapped;
 mod mesh;
 mod output;
 mod progress;
@@ -31,14 +33,15 @@ struct Command {
     run: fn(Arguments) -> Result<(), Failure>,
 }
 
-const COMMANDS: &[&Command] = &[&mesh::COMMAND, &stl::COMMAND, &info::COMMAND, &sample::COMMAND];
+const COMMANDS: &[&Command] =
+    &[&mesh::COMMAND, &stl::COMMAND, &cut::COMMAND, &info::COMMAND, &sample::COMMAND];
 
 const ABOUT: &str = "\
 RECORD is the file of a block record, or - for standard input.
 
-Exit status: 0 done; 1 a record was refused: a line `refused N A B C: ` and the words on standard
-error, with the refusal's number and its three numbers; 2 bad usage, or an input that can't be read;
-3 output that can't be written.
+Exit status: 0 done; 1 a record or a cut was refused: a line `refused N A B C: ` and the words on
+standard error, with the refusal's number and its three numbers; 2 bad usage, or an input that can't
+be read; 3 output that can't be written.
 
 sirveshan COMMAND --help tells of one command, sirveshan --version which version this is.
 ";
