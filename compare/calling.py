@@ -19,14 +19,15 @@ def missing(what):
 
 
 class Program:
-    """One of ours/, running; one that cannot be built or that ends early ends the comparison with a plain line."""
+    """One of ours/, built and then running, so that two of them do not build at once; one that cannot be built or that ends early ends the
+    comparison with a plain line."""
 
     def __init__(self, name):
         run = HERE / "ours" / "run"
         built = subprocess.run([run, "--build", name])
         if built.returncode:
             sys.exit(built.returncode)
-        self.process = subprocess.Popen([run, name], stdin=subprocess.PIPE, stdout=subprocess.PIPE)
+        self.process = subprocess.Popen([run, "--built", name], stdin=subprocess.PIPE, stdout=subprocess.PIPE)
 
     def ask(self, call, length):
         """The bytes of its answer to the bytes of a call."""
