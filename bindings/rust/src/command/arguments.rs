@@ -67,6 +67,11 @@ impl Arguments {
         }
     }
 
+    /// Takes `--jobs N`: on how many threads to work.
+    pub fn jobs(&mut self) -> Result<Option<usize>, Failure> {
+        self.number("--jobs", 1..=256)
+    }
+
     /// Takes an option whose value can be any of its kind, such as a number below 0.
     pub fn value<T: FromStr>(&mut self, name: &str) -> Result<Option<T>, Failure> {
         let Some(word) = self.option(name)? else { return Ok(None) };
@@ -91,13 +96,18 @@ impl Arguments {
         let mut words = self.words;
         words.extend(self.plain);
         words.try_into().map_err(|words: Vec<OsString>| match names.get(words.len()) {
-            Some(name) => Failure::Usage(format!("{name} is missing")),
+            Some(name) => missing(name),
             None => {
                 let word = words[N].to_string_lossy();
                 Failure::Usage(format!("{word} is one word too many"))
             }
         })
     }
+}
+
+/// What must be there is not.
+pub fn missing(name: &str) -> Failure {
+    Failure::Usage(format!("{name} is missing"))
 }
 
 /// A word that stands for a value.

@@ -1,6 +1,6 @@
 //! `sirveshan cut`: a block of a raw volume as a record, or the whole volume as a run of records.
 
-use crate::arguments::{read, Arguments};
+use crate::arguments::{missing, read, Arguments};
 use crate::failure::{refusal_line, tell, Failure};
 use crate::jobs::in_order;
 use crate::mapped::Bytes;
@@ -43,7 +43,7 @@ before the first that is refused.
 
 fn run(mut arguments: Arguments) -> Result<(), Failure> {
     let (overwrite, skip) = (arguments.flag("--force"), arguments.flag("--skip-refused"));
-    let jobs = arguments.number("--jobs", 1..=256)?;
+    let jobs = arguments.jobs()?;
     let (all, at) = (arguments.flag("--all"), arguments.three("--at")?);
     let (subdivisions, threshold) = (arguments.value("-n")?, arguments.value("--threshold")?);
     let (base, size) = (arguments.three("--base")?, arguments.value("--size")?);
@@ -51,7 +51,11 @@ fn run(mut arguments: Arguments) -> Result<(), Failure> {
     let [path, x, y, z] = arguments.by_place(["VOLUME", "SX", "SY", "SZ"])?;
     let sizes = [read("SX", &x)?, read("SY", &y)?, read("SZ", &z)?];
     let subdivisions: usize = subdivisions.ok_or_else(|| missing("-n N"))?;
+    let threshold = threshold.ok_or_else(|| missing("--threshold T"))?;
     let file = file.ok_or_else(|| missing("-o FILE"))?;
+    if all == at.is_some() {
+        return Err(Failure::Usage("one of --at X Y Z and --all is wanted".into()));
+    }
     if !all && (skip || jobs.is_some()) {
         return Err(Failure::Usage("--skip-refused and --jobs go with --all".into()));
     }
@@ -59,24 +63,20 @@ fn run(mut arguments: Arguments) -> Result<(), Failure> {
     let cutter = Cutter {
         volume: Volume::new(bytes.as_slice(), sizes),
         subdivisions,
-        threshold: threshold.ok_or_else(|| missing("--threshold T"))?,
+        threshold,
         base: base.unwrap_or([0.0; 3]),
         size: size.unwrap_or(subdivisions as f32),
     };
-    match (all, at) {
-        (false, Some(first)) => cutter.one(first, Records::open(&file, overwrite)?),
-        (true, None) => cutter.all(Records::open(&file, overwrite)?, skip, jobs.unwrap_or(1)),
-        _ => Err(Failure::Usage("one of --at X Y Z and --all is wanted".into())),
+    let records = Records::open(&file, overwrite)?;
+    match at {
+        Some(first) => cutter.one(first, records),
+        None => cutter.all(records, skip, jobs.unwrap_or(1)),
     }
 }
 
 /// A byte more than the volume has: a longer one is refused with 21 just so, and a size above the most with 20.
 fn most_bytes(sizes: [usize; 3]) -> usize {
     volume_length(sizes.map(|size| size.min(MOST_ACROSS))) + 1
-}
-
-fn missing(option: &str) -> Failure {
-    Failure::Usage(format!("{option} is missing"))
 }
 
 /// What all blocks of a call have in common.

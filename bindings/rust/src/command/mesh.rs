@@ -32,7 +32,7 @@ summary of a run begins with a line `record K`.
 fn run(mut arguments: Arguments) -> Result<(), Failure> {
     let summary = arguments.flag("--summary");
     let text = if summary { summary::summary } else { listing::listing };
-    let jobs = arguments.number("--jobs", 1..=256)?.unwrap_or(1);
+    let jobs = arguments.jobs()?.unwrap_or(1);
     let [path] = arguments.by_place(["RECORD"])?;
     let mut answers = Answers { numbered: summary, progress: Progress::new(), refused: false };
     let pieces = Run::open(&path)?;

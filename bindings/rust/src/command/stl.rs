@@ -1,6 +1,6 @@
 //! `sirveshan stl`: the mesh of a record, or of each record of a run, as one STL file; or what such a file holds.
 
-use crate::arguments::Arguments;
+use crate::arguments::{missing, Arguments};
 use crate::failure::{tell_refusal, Failure};
 use crate::input::{Piece, Run};
 use crate::jobs::in_order;
@@ -38,10 +38,10 @@ fn run(mut arguments: Arguments) -> Result<(), Failure> {
         return check(&path);
     }
     let (overwrite, skip) = (arguments.flag("--force"), arguments.flag("--skip-refused"));
-    let jobs = arguments.number("--jobs", 1..=256)?.unwrap_or(1);
+    let jobs = arguments.jobs()?.unwrap_or(1);
     let file = arguments.option("-o")?;
     let [path] = arguments.by_place(["RECORD"])?;
-    let file = file.ok_or_else(|| Failure::Usage("-o FILE is missing".into()))?;
+    let file = file.ok_or_else(|| missing("-o FILE"))?;
     let pieces = Run::open(&path)?;
     let mut facets = Facets::new(Target::open(&file, overwrite)?);
     in_order(jobs, pieces, worker, |answer| facets.put(answer))?;
