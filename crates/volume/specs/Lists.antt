@@ -4,26 +4,17 @@ use native.Mathlib.Decide.{decLt}
 use native.Mathlib.Omega.{arith}
 use mathlib.Core.Path.{_≡_, sym, ap, _∙_}
 use mathlib.Core.List.{List}
+use borrow.Author.Count.{below-more}
 use lib.ListN.{length, getD, set, List·getD-append}
 use lib.Seq.{ext-getD, getD-append-add, getD-drop, getD-set-same, getD-set-other}
 use Rattle.laws.specs.Steps.{listed, laid}
 use Rattle.laws.specs.Lists.{length-listed, getD-listed, length-laid}
 
--- the last, or one before it
-pub last-or : (P : ℕ → Type 0) (n k : ℕ) → k < n + 1 → (k < n → P k) → P n → P k
-last-or P n k h before here = go (decLt k n)
-  where
-    go : Dec (k < n) → P k
-    go (yes l) = before l
-    go (no l) =
-        let e : k ≡ n = omega arith in
-        rw e here
-
 module _ {A : Type 0} (d : A) (f : ℕ → A) where
   pub set-more : (l : List A) (k : ℕ) → k < length l → ((i : ℕ) → i < k → getD l i d ≡ f i) → (x : A) → x ≡ f k → (i : ℕ) → i < k + 1 → getD (set l k x) i d ≡ f i
-  set-more l k room before x is i h =
-      last-or (λ i. getD (set l k x) i d ≡ f i) k i h
-      (λ lower. getD-set-other l k i x d (λ e. omega arith) ∙ before i lower)
+  set-more l k room before x is =
+      below-more (λ i. getD (set l k x) i d ≡ f i) k
+      (λ i lower. getD-set-other l k i x d (λ e. omega arith) ∙ before i lower)
       (getD-set-same l k x d room ∙ is)
 
   module _ (count : ℕ) (before after : List A) where

@@ -4,13 +4,13 @@ use native.Mathlib.Nat.{mul-lt-mul-of-pos-left, add-mul-mod-self-left, mod-eq-of
 use native.Mathlib.Omega.{arith}
 use mathlib.Core.Path.{_≡_, refl, sym, ap, _∙_}
 use mathlib.Core.List.{List}
+use borrow.Author.Count.{below-more}
 use lib.Ieee.{Float, nan}
 use lib.ListN.{length, getD, set}
 use lib.Seq.{getD-set-same, getD-set-other}
 use Rattle.model.specs.Limits.{mostSubdivisions}
 use Rattle.model.specs.Samples.{sampleLength, inBlock}
 use Rattle.volume.specs.Definition.{volumeSample}
-use Rattle.volume.specs.Lists.{last-or}
 use Rattle.volume.specs.Known.{Readable}
 
 -- ---- a column
@@ -33,9 +33,9 @@ module _ (bytes xs : List ℕ) (row at wide : ℕ) (before : List Float) where
       → ColumnPut bytes xs row at wide k before now → ColumnPut bytes xs row at wide (k + 1) before (set now (at + wide * k) x)
   column-more k now x some room is h =
       record {
-        put = λ i l.
-            last-or (λ i. getD (set now (at + wide * k) x) (at + wide * i) nan ≡ volumeSample bytes (row + getD xs i 0)) k i l
-            (λ lower.
+        put =
+            below-more (λ i. getD (set now (at + wide * k) x) (at + wide * i) nan ≡ volumeSample bytes (row + getD xs i 0)) k
+            (λ i lower.
             let apart : at + wide * i ≡ at + wide * k → ⊥ = λ e. let less : wide * i < wide * k = mul-lt-mul-of-pos-left lower some in omega arith in
             getD-set-other now (at + wide * k) (at + wide * i) x nan apart ∙ h .put i lower)
             (getD-set-same now (at + wide * k) x nan room ∙ is);
@@ -72,12 +72,12 @@ module _ (bytes xs : List ℕ) (fixed : ℕ) (along : List ℕ) (at wide rows : 
   line-more j now after narrow column h =
       record {
         put = λ i k l r.
-            last-or (λ i. getD after (at + i + wide * k) nan ≡ volumeSample bytes (fixed + getD along i 0 + getD xs k 0)) j i l
-            (λ lower.
+            below-more (λ i. getD after (at + i + wide * k) nan ≡ volumeSample bytes (fixed + getD along i 0 + getD xs k 0)) j
+            (λ i lower.
             column .others (at + i + wide * k)
             (λ k′ _ e. let same = same-column wide i j k k′ (omega arith) narrow (omega arith) in omega arith)
             ∙ h .put i k lower r)
-            (column .put k r);
+            (column .put k r) i l;
         others = λ p other.
             column .others p (λ k r e. other j k (omega arith) r e)
             ∙ h .others p (λ i k l r e. other i k (omega arith) r e);
@@ -136,11 +136,11 @@ module _ (n : ℕ) where
     squares-more y now after hy line h =
         record {
           put = λ s i j hs hi hj.
-              last-or (λ i. getD after (inBlock n s i j) nan ≡ volumeSample bytes (getD ys i 0 + getD zs j 0 + getD xs s 0)) y i hi
-              (λ lower.
+              below-more (λ i. getD after (inBlock n s i j) nan ≡ volumeSample bytes (getD ys i 0 + getD zs j 0 + getD xs s 0)) y
+              (λ i lower.
               line .others (inBlock n s i j) (λ l k hl hk e. other-line s k i y j l lower hy hj (omega arith) e)
               ∙ h .put s i j hs lower hj)
-              (ap (λ (p : ℕ). getD after p nan) (sym (in-squares s y j)) ∙ line .put j s (omega arith) (omega arith));
+              (ap (λ (p : ℕ). getD after p nan) (sym (in-squares s y j)) ∙ line .put j s (omega arith) (omega arith)) i hi;
           others = λ p beyond.
               line .others p
               (λ j s hj hs e.
@@ -179,15 +179,15 @@ module _ (n : ℕ) where
         λ i j hi hj. (omega arith, omega (arith, line-in i j (omega arith) (omega arith), mul-add (m * m) from 1)) in
         record {
           put = λ s i j l hi hj.
-              last-or
-              (λ s. getD after (inBlock n (square + s) i j) nan ≡ volumeSample bytes (getD across (n + 1 + s) 0 + getD along j 0 + getD xs i 0)) side s l
-              (λ lower.
+              below-more
+              (λ s. getD after (inBlock n (square + s) i j) nan ≡ volumeSample bytes (getD across (n + 1 + s) 0 + getD along j 0 + getD xs i 0)) side
+              (λ s lower.
               line .others (inBlock n (square + s) i j)
               (λ j′ i′ hj′ hi′ e.
               let squares : m * m * (square + s + 1) ≤ m * m * from = mul-le-mul-left (m * m) (omega arith) in
               omega (arith, whole i′ j′ hi′ hj′, line-in i j hi hj, mul-add (m * m) (square + s) 1))
               ∙ h .put s i j lower hi hj)
-              (ap (λ (p : ℕ). getD after p nan) (sym (in-face from i j)) ∙ line .put j i (omega arith) (omega arith));
+              (ap (λ (p : ℕ). getD after p nan) (sym (in-face from i j)) ∙ line .put j i (omega arith) (omega arith)) s l;
           before-stay = λ p l.
               line .others p
               (λ j i hj hi e.
