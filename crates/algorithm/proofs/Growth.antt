@@ -11,6 +11,7 @@ use Rattle.model.specs.declared.Counts.{Counts}
 use Rattle.model.specs.Limits.{sideCount}
 use Rattle.model.specs.Star.{Star, subdivisions}
 use Rattle.model.specs.Mesh.{Cell, Mesh, emptyMesh, cellStep, regularLayer, regularMesh, transitionSide, meshOf}
+use Rattle.model.specs.Adding.{cell-triangles}
 use Rattle.cells.specs.declared.SheetIndex.{SheetIndex}
 use Rattle.cells.specs.SheetCells.{sheetCell}
 use Rattle.cells.specs.Puts.{Adds, Few, SameMade}
@@ -18,7 +19,7 @@ use Rattle.cases.specs.Sheets.{rowStart}
 use Rattle.cases.specs.Marks.{NextMarked}
 use Rattle.algorithm.specs.Passes.{plus, Held, SheetIn, rowTo, rowsTo, wholeSheet, Grows, Counted}
 use Rattle.algorithm.proofs.Walk.{row-skip, sheet-whole}
-use Rattle.algorithm.proofs.Holding.{cell-made, cell-triangles}
+use Rattle.algorithm.proofs.Holding.{cell-made}
 
 abbrev none : Counts
 none = record { vertices = 0; triangles = 0 }

@@ -10,6 +10,7 @@ use lib.Seq.{take-all}
 use Rattle.laws.specs.Steps.{listed, each}
 use Rattle.model.specs.Star.{Star, subdivisions}
 use Rattle.model.specs.Mesh.{Cell, Mesh, fillTo, triangleOf, filled, emptyMesh, cellStep, storeLength, meshOf}
+use Rattle.model.specs.Adding.{cell-triangles}
 use Rattle.model.specs.Extraction.{vertexFloats, triangleIndices}
 use Rattle.grid.specs.Shape.{Shaped}
 use Rattle.points.specs.Fractions.{Fractions}
@@ -32,10 +33,6 @@ module _ (c : Cell) (m : Mesh) where
   pub cell-made : length (cellStep c m .made) ≡ length (m .made) + length (filled c m .made)
   unfolding cellStep
   cell-made = length-append (m .made) (filled c m .made)
-
-  pub cell-triangles : length (cellStep c m .triangles) ≡ length (m .triangles) + c .triangles
-  unfolding cellStep
-  cell-triangles = rw (length-append, length-listed)
 
 -- ---- a cell written
 

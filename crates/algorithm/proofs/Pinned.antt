@@ -1,10 +1,22 @@
--- What extraction's statement allows is one outcome: of two that it allows for the same inputs, the answers are equal, and so is what
--- each lent buffer holds.
+-- What the statement of a public function allows is one outcome: of two that it allows for the same inputs, the answers are equal, and so is
+-- what each lent buffer holds.
 use mathlib.Core.Path.{_≡_}
 use contract.Lifetimes.{Lfts}
 use denote.Ref.{now}
 use Rattle.model.specs.Pinned.{pinned}
+use Rattle.algorithm.proofs.counting.plus.Reads as plus
+use Rattle.algorithm.proofs.counting.count_mesh.Reads as count-mesh
 use Rattle.algorithm.proofs.extract.Reads as extract
+
+pub plus-pinned : (κs : Lfts 0) (a : _) (r r′ : _) (e e′ : _) → plus.Learnt κs a r e → plus.Learnt κs a r′ e′ → r ≡ r′
+plus-pinned κs a r r′ e e′ h k = pinned h k
+
+pub count-mesh-pinned : (κs : Lfts 2) (a : _) (r r′ : _) (e e′ : _) → count-mesh.Learnt κs a r e → count-mesh.Learnt κs a r′ e′ → r ≡ r′
+count-mesh-pinned κs a r r′ e e′ h k =
+    λ i. record {
+      vertices = pinned (h .1 .vertices-are) (k .1 .vertices-are) i;
+      triangles = pinned (h .1 .triangles-are) (k .1 .triangles-are) i;
+    }
 
 pub extract-pinned : (κs : Lfts 5) (a : _) (r r′ : _) (e e′ : _) → extract.Learnt κs a r e → extract.Learnt κs a r′ e′
     → (r ≡ r′)

@@ -9,20 +9,19 @@ use mathlib.Core.List.{List}
 use lib.ListN.{length, length-append}
 use Rattle.laws.specs.Steps.{iterate}
 use Rattle.laws.specs.Iterated.{iterate-upto, part-skip, steps-skip}
-use Rattle.model.specs.Limits.{mostSubdivisions, sideCount}
+use Rattle.model.specs.Limits.{sideCount}
 use Rattle.model.specs.Sides.{named}
 use Rattle.model.specs.Star.{Star, subdivisions}
 use Rattle.model.specs.Mesh.{Cell, Mesh, emptyMesh, cellStep, regularCell, regularColumn, regularLayer, regularMesh, regularTo, transitionCell, transitionRow, transitionSide, transitionTo, meshOf}
 use Rattle.grid.specs.SideLaws.{NextSide}
-use Rattle.cases.specs.Sheets.{rowStart, sheetPlaces}
+use Rattle.cases.specs.Sheets.{rowStart}
 use Rattle.cases.specs.Marks.{uncut, NextMarked}
 use Rattle.cells.specs.declared.SheetIndex.{SheetIndex}
 use Rattle.cells.specs.declared.SheetIndex.the-variants.{Layer, Side}
-use Rattle.cells.specs.SheetCells.{sheetOf, sheetCell, caseAt, allOf}
-use Rattle.cells.specs.SheetNumbers.{case-small}
+use Rattle.cells.specs.SheetCells.{sheetCell, caseAt, allOf}
 use Rattle.cells.specs.Puts.{Nothing, SameMade}
 use Rattle.cells.specs.Uncut.{nothing-step, regular-nothing, transition-nothing}
-use Rattle.algorithm.specs.Passes.{Sheeted, Held, SheetIn, rowTo, rowsTo, rowBefore, wholeSheet, sheetAfter}
+use Rattle.algorithm.specs.Passes.{Held, SheetIn, rowTo, rowsTo, rowBefore, wholeSheet, sheetAfter}
 
 -- ---- what a later mesh has at least
 
@@ -76,16 +75,6 @@ module _ (s : Star) (sheet : SheetIndex) {n : ℕ} {layer side marks : List ℕ}
           triangles-same = part-skip (λ (m : Mesh). m .triangles) steps m from next (step .ordered) (λ v l h m. passed v l h m .triangles-same);
           store-same = part-skip (λ (m : Mesh). m .store) steps m from next (step .ordered) (λ v l h m. passed v l h m .store-same);
         }
-
-  -- the numbers are the tables'
-  pub held-sheeted : n ≤ mostSubdivisions → length (sheetOf sheet layer side) ≡ sheetPlaces → length marks ≡ sheetPlaces → Sheeted n sheet layer side marks
-  held-sheeted few long marks-long =
-      record {
-        few = few;
-        long = long;
-        marks-long = marks-long;
-        number-at = λ u v hu hv. omega (arith, held .numbers .case-at u v hu hv, case-small s sheet u v);
-      }
 
 module _ (cell : ℕ → ℕ → Cell) (n : ℕ) (m : Mesh) where
   upto-rows : (u : ℕ) (m : Mesh) → Upto m (rowTo (cell u) n m)

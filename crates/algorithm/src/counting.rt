@@ -37,7 +37,7 @@ use tables::transition_cell_class;
 use tables::transition_cell_data;
 use tables::transition_vertex_data;
 
-fn plus(a: Counts, b: Counts) -> Counts
+pub fn plus(a: Counts, b: Counts) -> Counts
     requires { ⌜ (a .vertices + b .vertices < 2 ^ 64) × (a .triangles + b .triangles < 2 ^ 64) ⌝ }
     ensures { λ r. ⌜ r ≡ plus a b ⌝ }
 {
@@ -77,7 +77,7 @@ fn count_row(
 }
 
 // The cells of a sheet.
-fn count_sheet(
+pub fn count_sheet(
     n: usize,
     sheet: SheetIndex,
     classes: &[u8],

@@ -9,7 +9,7 @@ ghost use Rattle.model.specs.Extraction.{extract};
 ghost use Rattle.grid.specs.Shape.{Shaped};
 ghost use Rattle.algorithm.specs.Passes.{judged, counted, refusedReport, Leaves};
 
-mod counting;
+pub mod counting;
 mod writing;
 
 use counting::count_mesh;
@@ -26,15 +26,15 @@ use model::Report;
 use model::Verdict;
 use writing::write_mesh;
 
-const NONE: Counts = Counts {
+pub const NONE: Counts = Counts {
     vertices: 0,
     triangles: 0,
 };
 
 // In the place of the sheet that the other kind of cell has.
-const NO_LAYER: [u8; 0] = [];
+pub const NO_LAYER: [u8; 0] = [];
 
-const NO_SIDE: [u16; 0] = [];
+pub const NO_SIDE: [u16; 0] = [];
 
 // 1 to 9, in that order.
 fn judge(header: Header, centre: &[f32], neighbours: &[f32], held: usize) -> Verdict

@@ -22,6 +22,7 @@ use Rattle.model.specs.Rotations.{xyz, pointFrom, facePoint}
 use Rattle.model.specs.Formulas.{inside}
 use Rattle.model.specs.Star.{Star, subdivisions}
 use Rattle.model.specs.Points.{regularCase, transitionCase, fineSample}
+use Rattle.model.specs.OverCells.{trianglesAt, trianglesOnSide}
 use Rattle.model.specs.Judging.{facesAgree, judgeFaces}
 use Rattle.model.specs.Mesh.{meshOf}
 use Rattle.grid.specs.Places.{Within}
@@ -29,7 +30,7 @@ use Rattle.grid.specs.RotationLaws.{turned}
 use Rattle.judge.specs.Faces.{faces-agree}
 use Rattle.blankness.specs.Weights.{taken, taken-most, alike, of-alike}
 use Rattle.blankness.specs.Linked.{cube-alike, square-alike}
-use Rattle.blankness.specs.Counted.{ofRegular, ofTransition, ofSide, triangles-counted}
+use Rattle.blankness.specs.Counted.{ofSide, triangles-counted}
 
 -- ---- a cell of either kind: its case number is what the weights of its inside points come to
 
@@ -80,23 +81,23 @@ module _ (s : Star) where
   abbrev spotIn : ℕ → ℕ → ℕ → ℕ → Bool
   spotIn side u v k = fineIn side (2 * u + k % 3) (2 * v + k / 3)
 
-  regular-alike : (x y z : ℕ) → ofRegular s x y z ≡ 0 → (k : ℕ) → k < 8 → cornerIn x y z k ≡ centreIn x y z
+  regular-alike : (x y z : ℕ) → trianglesAt s x y z ≡ 0 → (k : ℕ) → k < 8 → cornerIn x y z k ≡ centreIn x y z
   unfolding regularCase centreIn
   regular-alike x y z e k h =
       points-alike power 8 powers regularTriangles regular-uncut-alone (cornerIn x y z) (lit≤ tt) e k h
       ∙ (λ i. centreIn (add-zero x i) (add-zero y i) (add-zero z i))
 
-  transition-alike : (side u v : ℕ) → ofTransition s side u v ≡ 0 → (k : ℕ) → k < 9 → spotIn side u v k ≡ fineIn side (2 * u) (2 * v)
+  transition-alike : (side u v : ℕ) → trianglesOnSide s side u v ≡ 0 → (k : ℕ) → k < 9 → spotIn side u v k ≡ fineIn side (2 * u) (2 * v)
   unfolding transitionCase fineIn
   transition-alike side u v e k h =
       points-alike contributionOf 9 contributions transitionTriangles transition-uncut-alone (spotIn side u v) (lit≤ tt) e k h
       ∙ (λ i. fineIn side (add-zero (2 * u) i) (add-zero (2 * v) i))
 
-  regular-none : (x y z : ℕ) (b : Bool) → ((k : ℕ) → k < 8 → cornerIn x y z k ≡ b) → ofRegular s x y z ≡ 0
+  regular-none : (x y z : ℕ) (b : Bool) → ((k : ℕ) → k < 8 → cornerIn x y z k ≡ b) → trianglesAt s x y z ≡ 0
   unfolding regularCase centreIn
   regular-none x y z b h = no-triangle power 8 powers regularTriangles regular-uncut-alone (cornerIn x y z) b h
 
-  transition-none : (side u v : ℕ) (b : Bool) → ((k : ℕ) → k < 9 → spotIn side u v k ≡ b) → ofTransition s side u v ≡ 0
+  transition-none : (side u v : ℕ) (b : Bool) → ((k : ℕ) → k < 9 → spotIn side u v k ≡ b) → trianglesOnSide s side u v ≡ 0
   unfolding transitionCase fineIn
   transition-none side u v b h = no-triangle contributionOf 9 contributions transitionTriangles transition-uncut-alone (spotIn side u v) b h
 
@@ -106,9 +107,9 @@ module _ (s : Star) where
     side-none : (side : ℕ) → side < sideCount → ofSide s side ≡ 0
     side-none side hs = go (named (s .mask) side) (λ e. e)
       where
-        go : (c : Bool) → (c ≡ true → named (s .mask) side ≡ true) → cond c (square (ofTransition s side) n) 0 ≡ 0
+        go : (c : Bool) → (c ≡ true → named (s .mask) side ≡ true) → cond c (square (trianglesOnSide s side) n) 0 ≡ 0
         go true is-named =
-            square-none (ofTransition s side) n
+            square-none (trianglesOnSide s side) n
             (λ u v hu hv. transition-none side u v b
             (λ k hk. o .fine side (omega arith) (is-named refl) (2 * u + k % 3) (2 * v + k / 3) (omega arith) (omega arith)))
         go false is-named = refl
@@ -117,7 +118,7 @@ module _ (s : Star) where
     one-side-none =
         triangles-counted s
         ∙ ap₂ _+_
-        (cube-none (ofRegular s) n
+        (cube-none (trianglesAt s) n
         (λ x y z hx hy hz. regular-none x y z b
         (λ k hk. o .centre (x + k % 2) (y + k / 2 % 2) (z + k / 4 % 2) (omega arith) (omega arith) (omega arith))))
         (total-none (ofSide s) sideCount side-none)
@@ -125,20 +126,20 @@ module _ (s : Star) where
   -- ---- no triangle: the centre is on one side, and so is each face
 
   module _ (some : 0 < n) (none : length (meshOf s .triangles) ≡ 0) where
-    parts-none : (cube (ofRegular s) n ≡ 0) × (total (ofSide s) sideCount ≡ 0)
+    parts-none : (cube (trianglesAt s) n ≡ 0) × (total (ofSide s) sideCount ≡ 0)
     parts-none = let e = sym (triangles-counted s) ∙ none in (omega (arith, e), omega (arith, e))
 
     centre-alike : (x y z : ℕ) → x ≤ n → y ≤ n → z ≤ n → centreIn x y z ≡ centreIn 0 0 0
     centre-alike =
         cube-alike centreIn n
-        (λ x y z k hx hy hz hk. regular-alike x y z (cube-each (ofRegular s) n (parts-none .0) x y z hx hy hz) k hk) some
+        (λ x y z k hx hy hz hk. regular-alike x y z (cube-each (trianglesAt s) n (parts-none .0) x y z hx hy hz) k hk) some
 
     fine-alike : (side : ℕ) → side < sideCount → named (s .mask) side ≡ true
         → (u2 v2 : ℕ) → u2 ≤ 2 * n → v2 ≤ 2 * n → fineIn side u2 v2 ≡ fineIn side 0 0
     fine-alike side hs is-named =
-        let e : square (ofTransition s side) n ≡ 0 = rw is-named at (none-each (ofSide s) sideCount (parts-none .1) side hs) in
+        let e : square (trianglesOnSide s side) n ≡ 0 = rw is-named at (none-each (ofSide s) sideCount (parts-none .1) side hs) in
         square-alike (fineIn side) n
-        (λ u v k hu hv hk. transition-alike side u v (square-each (ofTransition s side) n e u v hu hv) k hk) some
+        (λ u v k hu hv hk. transition-alike side u v (square-each (trianglesOnSide s side) n e u v hu hv) k hk) some
 
     -- ---- and where 8 passes, on the same
 

@@ -1,5 +1,2 @@
-mod Rows
-mod Lines
 mod Marking
 mod Pairing
-mod Fine

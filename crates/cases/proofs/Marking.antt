@@ -1,16 +1,14 @@
--- Marks, and words of them: what the lowest bytes of a word are, and what marks a sheet's cells have.
+-- Marks, and words of them: what the lowest bytes of a word are.
 use Prim.Native.Nat.{ℕ, zero, suc, _+_, _-_, _*_, _/_, _%_, _^_, _≤_, _<_}
 use mathlib.Core.Path.{_≡_, refl, sym, ap, _∙_}
 use mathlib.Core.List.{List}
-use native.Mathlib.Nat.{zero-add, mul-suc, zero-mod, not-suc-le-zero}
+use native.Mathlib.Nat.{mul-suc, zero-mod, not-suc-le-zero}
 use native.Mathlib.Decide.{decLt}
 use native.Mathlib.Omega.{arith}
 use lib.Count.{trailingZeros, under}
 use lib.ListN.{getD}
 use lib.Pow.{mod-pow-add, mod-mod-pow}
-use Rattle.cases.specs.Sheets.{rowStart, Sheet, RowPut}
-use Rattle.cases.specs.Marks.{markOf, eightOf}
-use Rattle.cases.specs.RowPlaces.{row-before}
+use Rattle.cases.specs.Marks.{eightOf}
 
 -- ---- the lowest bytes of a word
 
@@ -101,15 +99,3 @@ first-unmarked marks start from r first later k l h = by (decLt from k)
     by (no g) =
         let e : start + from ≡ start + k = omega arith in
         ap (λ (q : ℕ). getD marks q 0) (sym e) ∙ first
-
--- ---- the marks of a sheet
-
-pub marked-sheet : (all : ℕ) (case : ℕ → ℕ → ℕ) (n : ℕ) (cases before after : List ℕ) → Sheet case n n cases
-    → RowPut (λ i. markOf all (getD cases i 0)) 0 (n * (n + 1)) before after → Sheet (λ j k. markOf all (case j k)) n n after
-marked-sheet all case n cases before after sheet put =
-    record {
-      case-at = λ j k h l.
-          ap (λ (i : ℕ). getD after i 0) (sym (zero-add (rowStart n j + k)))
-          ∙ put .filled (rowStart n j + k) (omega (arith, row-before n j n k h (omega arith)))
-          ∙ ap (markOf all) (sheet .case-at j k h l);
-    }

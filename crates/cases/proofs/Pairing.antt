@@ -21,7 +21,7 @@ use Rattle.cases.specs.Sheets.{rowStart, Sheet, RowPut}
 use Rattle.cases.specs.Pairs.{pointBit, pairedWith, Upper, Pairs, ofPairs, Small}
 use Rattle.cases.specs.Numbers.{bit-small}
 use Rattle.cases.specs.RowPlaces.{row-before}
-use Rattle.cases.proofs.Lines.{fourCorners, eight-are}
+use Rattle.cases.specs.Lines.{fourCorners, eight-are}
 
 -- ---- a layer of points
 

@@ -112,7 +112,7 @@ fn by_sixteens(
 }
 
 // The cells between four lines, their numbers from start on. Answers the samples read, as row and layer do.
-fn row_between(
+pub fn row_between(
     n: usize,
     threshold: f32,
     a: &[f32],

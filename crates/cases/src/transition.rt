@@ -35,11 +35,11 @@ fn side_mark(case: u16) -> u8
 }
 
 // The first places of the three lines that a row of cells lies on, and their step.
-struct Lines {
-    a: usize,
-    b: usize,
-    c: usize,
-    step: Stride,
+pub struct Lines {
+    pub a: usize,
+    pub b: usize,
+    pub c: usize,
+    pub step: Stride,
 }
 
 // What the point v2 steps along a line adds.
@@ -101,7 +101,7 @@ fn nine(threshold: f32, fine: &[f32], lines: Lines, v: usize) -> u16
 }
 
 // The cells on three lines, their numbers and marks from start on. Answers the samples read, as row does.
-fn row_on(
+pub fn row_on(
     n: usize,
     threshold: f32,
     fine: &[f32],

@@ -1,6 +1,6 @@
 -- What a code comes to, put together from what the functions over it ensure.
 use Prim.Native.Nat.{ℕ, _+_, _<_}
-use mathlib.Core.Path.{_≡_, refl, sym, _∙_}
+use mathlib.Core.Path.{_≡_, refl, sym, ap, _∙_}
 use mathlib.Core.Bool.{Bool, true, false, cond}
 use mathlib.Core.List.{List, [], _∷_}
 use native.Mathlib.Nat.{add-zero}
@@ -18,9 +18,11 @@ use Rattle.model.specs.Extraction.{vertexFloats}
 use Rattle.cells.specs.declared.CellIndex.{CellIndex}
 use Rattle.cells.specs.declared.CellIndex.the-variants.{Regular, Transition}
 use Rattle.cells.specs.Buffers.{layVertices}
+use Rattle.laws.specs.Counting.{one}
 use Rattle.laws.specs.Laying.{lay-none}
 use Rattle.cells.specs.Kinds.{useAt, makesAt, backFrom, placeAt, InBlock, OnSide, Placed, slots, Usable}
 use Rattle.cells.specs.Puts.{CodePut}
+use Rattle.cells.specs.Fills.{made-one}
 use Rattle.cells.proofs.Staying.{neither}
 
 -- ---- any use of a code
@@ -93,16 +95,12 @@ module _ (code : ℕ) where
       go (Regular at) h = h
       go (Transition at) h = h
 
-made-by-test : (t : CodeUse) (makes : Bool) → t .makes ≡ makes → length (madeBy t) ≡ cond makes 1 0
-made-by-test t true e = rw e
-made-by-test t false e = rw e
-
 pub use-count : (s : Star) (at : CellIndex) (code : ℕ) → length (madeBy (useAt s at code)) ≡ cond (makesAt at code) 1 0
-use-count s at code = made-by-test (useAt s at code) (makesAt at code) (use-makes s at code)
+use-count s at code = made-one (useAt s at code) ∙ ap one (use-makes s at code)
 
 pub one-made : (s : Star) (at : CellIndex) (code : ℕ) (makes : Bool) → makes ≡ makesAt at code → makes ≡ true
     → length (madeBy (useAt s at code)) ≡ 1
-one-made s at code makes makes-is m = made-by-test (useAt s at code) true (use-makes s at code ∙ sym makes-is ∙ m)
+one-made s at code makes makes-is m = made-one (useAt s at code) ∙ ap one (use-makes s at code ∙ sym makes-is ∙ m)
 
 module _ (s : Star) (at : CellIndex) (code next r : ℕ) (vertices : List Float) (store : List ℕ)
     (makes : Bool) (makes-is : makes ≡ makesAt at code) (r-is : r ≡ reuseIndex code) where

@@ -12,7 +12,8 @@ use lib.ListN.{length, getD, set, replicate, length-append, length-set}
 use lib.Seq.{set-at}
 use Rattle.model.specs.declared.Triangle.{Triangle}
 use Rattle.laws.specs.Steps.{listed, total}
-use Rattle.model.specs.Mesh.{CodeUse, Cell, Fill, madeBy, fillStep, fillTo, triangleOf, vertexReads}
+use Rattle.laws.specs.Counting.{one}
+use Rattle.model.specs.Mesh.{Made, CodeUse, Cell, Fill, Mesh, madeBy, fillStep, fillTo, cellStep, triangleOf, vertexReads}
 use Rattle.model.specs.Extraction.{vertexFloats, triangleIndices}
 use Rattle.cells.specs.Buffers.{layTriangles, pad}
 use Rattle.laws.specs.Iterated.{iterate-upto, iterate-keeps}
@@ -129,6 +130,24 @@ unfolding fillTo
 made-total c made each-made base store zero = refl
 made-total c made each-made base store (suc k) =
     fill-made c base store k ∙ rw (made-total c made each-made base store k, each-made k)
+
+pub made-one : (t : CodeUse) → length (madeBy t) ≡ one (t .makes)
+made-one t = go (t .makes)
+  where
+    go : (b : Bool) → length (cond {A = List Made} b (t .made ∷ []) []) ≡ one b
+    go true = refl
+    go false = refl
+
+-- one for each of its codes that makes one
+abbrev pub madeOf : Cell → ℕ
+madeOf c = total (λ i. one (c .uses i .makes)) (c .vertices)
+
+pub cell-made : (c : Cell) (m : Mesh) → length (cellStep c m .made) ≡ length (m .made) + madeOf c
+unfolding cellStep
+cell-made c m =
+    rw length-append
+    (ap (λ (k : ℕ). length (m .made) + k)
+    (made-total c (λ i. one (c .uses i .makes)) (λ i. made-one (c .uses i)) (length (m .made)) (m .store) (c .vertices)))
 
 -- ---- a cell's triangles
 

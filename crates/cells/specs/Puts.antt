@@ -55,10 +55,14 @@ pub record Adds (c : Cell) (dv dt : ℕ) : Type 0 where
   pub vertices : (base : ℕ) (store : List ℕ) → length (fillTo c base store (c .vertices) .made) ≡ dv
   pub triangles : c .triangles ≡ dt
 
+-- a cell makes at most so many of each
+abbrev pub mostOfCell : ℕ
+mostOfCell = 12
+
 -- so many cells make few vertices and triangles
 pub record Few (cells : ℕ) (counts : Counts) : Type 0 where
-  pub vertices : counts .vertices ≤ 12 * cells
-  pub triangles : counts .triangles ≤ 12 * cells
+  pub vertices : counts .vertices ≤ mostOfCell * cells
+  pub triangles : counts .triangles ≤ mostOfCell * cells
 
 -- a cell that adds nothing
 pub record Nothing (c : Cell) : Type 0 where

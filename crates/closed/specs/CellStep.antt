@@ -12,10 +12,11 @@ use native.Mathlib.Omega.{arith}
 use lib.ListN.{length, getD, set, length-append, length-set, List·getD-append}
 use lib.Seq.{getD-append-seam, getD-append-add, getD-set-same, getD-set-other}
 use Rattle.laws.specs.Steps.{listed, total}
-use Rattle.laws.specs.Lists.{length-listed, getD-listed}
+use Rattle.laws.specs.Lists.{getD-listed}
 use Rattle.laws.specs.Sums.{total-same, total-more}
 use Rattle.model.specs.declared.Triangle.{Triangle}
 use Rattle.model.specs.Mesh.{Made, CodeUse, Cell, Fill, Mesh, madeBy, fillStep, fillTo, filled, cornerIndex, triangleOf, cellStep}
+use Rattle.model.specs.Adding.{cell-triangles}
 use Rattle.closed.specs.Clauses.{noVertex, edgeAt, Names, triangleAt, around, sides, runs, NamesVertices}
 
 -- ---- what a vertex list names
@@ -241,10 +242,6 @@ module _ (Q : Made → Type 0) (from : ℕ) where
 
 -- ---- the triangles of a step
 
-pub triangles-many : (c : Cell) (m : Mesh) → length (cellStep c m .triangles) ≡ length (m .triangles) + c .triangles
-unfolding cellStep
-triangles-many c m = rw (length-append, length-listed)
-
 module _ (c : Cell) (m : Mesh) where
   abbrev own : List Triangle
   own = listed (triangleOf c (filled c m .index)) (c .triangles)
@@ -268,7 +265,7 @@ module _ (c : Cell) (m : Mesh) where
       go (no l) =
           let j = t - length (m .triangles) in
           let e : length (m .triangles) + j ≡ t = omega arith in
-          let small : j < c .triangles = omega (arith, triangles-many c m) in
+          let small : j < c .triangles = omega (arith, cell-triangles c m) in
           subst (λ (t : ℕ). P t (triangleAt (cellStep c m) t)) e (rw (triangle-sent j small) (new j small))
 
 -- the sides from g to h of the triangle j, where the corner k has the label `at k`
@@ -303,7 +300,7 @@ module _ (c : Cell) (m : Mesh) (at : ℕ → ℕ) (reach : InReach m)
   pub step-counted : (g h : ℕ) → runs (cellStep c m) g h ≡ runs m g h + total (sidesBy at g h) (c .triangles)
   unfolding runs
   step-counted g h =
-      ap (total (sides (cellStep c m) g h)) (triangles-many c m)
+      ap (total (sides (cellStep c m) g h)) (cell-triangles c m)
       ∙ total-more (sides (cellStep c m) g h) (length (m .triangles)) (c .triangles)
       ∙ ap₂ _+_ (total-same _ _ (length (m .triangles)) (sides-kept g h)) (total-same _ _ (c .triangles) (own-sides g h))
 

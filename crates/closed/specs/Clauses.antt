@@ -37,6 +37,10 @@ high e = xyz (e .low .x + one (eqb (e .axis) 0)) (e .low .y + one (eqb (e .axis)
 abbrev pub number : Star → Edge → ℕ
 number s e = 3 * inBlock (subdivisions s) (e .low .x) (e .low .y) (e .low .z) + e .axis
 
+-- above the number of every grid edge of the block
+abbrev pub edgesMost : Star → ℕ
+edgesMost s = let m = subdivisions s + 1 in 3 * (m * m * m)
+
 -- an edge of the cube with sides of k steps whose lowest corner is p
 pub record Within (p : Xyz) (k : ℕ) (e : Edge) : Type 0 where
   pub axis-is : e .axis < 3

@@ -18,8 +18,8 @@ use Rattle.model.specs.Sides.{named}
 use Rattle.model.specs.Star.{Star, subdivisions}
 use Rattle.model.specs.Points.{transitionCase}
 use Rattle.model.specs.Mesh.{CodeUse, Cell, Fill, Mesh, fillStep, fillTo, filled, triangleOf, cellStep, emptyMesh, storeLength, regularUse, regularCell, regularColumn, regularLayer, regularMesh, transitionUse, transitionCell, transitionRow, transitionSide, meshOf}
+use Rattle.model.specs.Adding.{cell-triangles}
 use Rattle.closed.specs.Clauses.{noTriangle, NamesVertices}
-use Rattle.closed.specs.CellStep.{triangles-many}
 use Rattle.closed.specs.Whole.{whole}
 use Rattle.closed.specs.Front.{Begins, cell-added, row-added, side-added, regular-first}
 use Rattle.closed.specs.SideCells.{case-small, Makes, cut-made}
@@ -255,7 +255,7 @@ module _ (s : Star) where
   some-vertex =
       sides-keep (λ (m : Mesh). 0 < length (m .triangles) → 0 < length (meshOf s .made)) s
       (λ side u v c m before h.
-      ⊎-elim before (triangle-made side u v c) (one-some _ _ (rw (triangles-many (transitionCell s side u v) m) at h)))
+      ⊎-elim before (triangle-made side u v c) (one-some _ _ (rw (cell-triangles (transitionCell s side u v) m) at h)))
       (λ h. omega (arith, whole s .corners 0 h .a .named .there, begins-grown (regular-first s)))
 
 -- ---- the theorem

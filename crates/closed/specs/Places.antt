@@ -56,13 +56,25 @@ number-pairs s e =
 pub same-edge : {x y z a x′ y′ z′ a′ : ℕ} → x ≡ x′ → y ≡ y′ → z ≡ z′ → a ≡ a′ → edge x y z a ≡ edge x′ y′ z′ a′
 same-edge p q r t = rw (p, q, r, t)
 
-pub number-one : (s : Star) (e f : Edge) → OfBlock s e → OfBlock s f → number s e ≡ number s f → e ≡ f
-number-one s e f he hf q =
+-- one of the three axes, from a grid point of the block on; y and z decide
+pub record Begins (s : Star) (e : Edge) : Type 0 where
+  pub axis-is : e .axis < 3
+  pub y-in : e .low .y ≤ subdivisions s
+  pub z-in : e .low .z ≤ subdivisions s
+
+pub begun-one : (s : Star) (e f : Edge) → Begins s e → Begins s f → number s e ≡ number s f → e ≡ f
+begun-one s e f be bf q =
     let m = subdivisions s + 1 in
-    let p = pair-one 3 _ (e .axis) _ (f .axis) (he .axis-is) (hf .axis-is) (sym (number-pairs s e) ∙ q ∙ number-pairs s f) in
-    let l = pair-one m _ (e .low .z) _ (f .low .z) (omega (arith, he .high-z)) (omega (arith, hf .high-z)) (p .0) in
-    let k = pair-one m _ (e .low .y) _ (f .low .y) (omega (arith, he .high-y)) (omega (arith, hf .high-y)) (l .0) in
+    let p = pair-one 3 _ (e .axis) _ (f .axis) (be .axis-is) (bf .axis-is) (sym (number-pairs s e) ∙ q ∙ number-pairs s f) in
+    let l = pair-one m _ (e .low .z) _ (f .low .z) (omega (arith, be .z-in)) (omega (arith, bf .z-in)) (p .0) in
+    let k = pair-one m _ (e .low .y) _ (f .low .y) (omega (arith, be .y-in)) (omega (arith, bf .y-in)) (l .0) in
     same-edge (k .0) (k .1) (l .1) (p .1)
+
+pub begins : {s : Star} {e : Edge} → OfBlock s e → Begins s e
+begins h = record { axis-is = h .axis-is; y-in = omega (arith, h .high-y); z-in = omega (arith, h .high-z) }
+
+pub number-one : (s : Star) (e f : Edge) → OfBlock s e → OfBlock s f → number s e ≡ number s f → e ≡ f
+number-one s e f he hf = begun-one s e f (begins he) (begins hf)
 
 -- ---- the order of the cells
 

@@ -13,10 +13,11 @@ use Rattle.model.specs.declared.Triangle.{Triangle}
 use Rattle.model.specs.Star.{Star, subdivisions}
 use Rattle.model.specs.Points.{regularCase}
 use Rattle.model.specs.Mesh.{Made, Fill, Mesh, filled, cornerIndex, triangleOf, cellStep, emptyMesh, storeLength, regularCell, regularColumn, regularLayer, regularTo, regularMesh}
+use Rattle.model.specs.Adding.{cell-triangles}
 use Rattle.closed.specs.Clauses.{number, Crossed, Names, triangleAt, IsCell, Sends, OwnVertex, Corners, Lying}
 use Rattle.closed.specs.Places.{rank, cells-up-to}
 use Rattle.closed.specs.Cells.{codeEdge, codes, codeAt, slotEdge, code-own, case-small, code-right, crossed-slot}
-use Rattle.closed.specs.CellStep.{Filled, cell-filled, From, step-made, triangles-many, step-triangles, names-more, InReach}
+use Rattle.closed.specs.CellStep.{Filled, cell-filled, From, step-made, step-triangles, names-more, InReach}
 use Rattle.closed.specs.Stored.{Holds, Stored, pays, LiesOn, owed, size, label, stored-at, cell-fits, cell-lies}
 
 -- the mesh of the cells before the rank `here`
@@ -101,7 +102,7 @@ module _ (s : Star) (x y z : ℕ) where
 
     triangles-after : length (after .triangles) ≡ length (before .triangles) + regularTriangles (regularCase s x y z)
     unfolding regularTo regularCell
-    triangles-after = triangles-many (regularCell s x y z) before
+    triangles-after = cell-triangles (regularCell s x y z) before
 
     new-triangle : (j : ℕ) → j < regularTriangles (regularCase s x y z)
         → Owns s after (length (before .triangles) + j) (triangleOf (regularCell s x y z) (fill .index) j)

@@ -15,8 +15,9 @@ use Rattle.tables.specs.RulesTransition.{transitionEdges}
 use Rattle.tables.specs.FinerSides.{fineEdge, across, lowEdge, highEdge, coarseEdge}
 use Rattle.model.specs.Limits.{sideCount}
 use Rattle.model.specs.Star.{Star, subdivisions}
+use Rattle.closed.specs.Clauses.{edgesMost}
 use Rattle.closed.specs.Places.{pair-one}
-use Rattle.finer.specs.Labels.{edgesMost, fineNumber, labelOf}
+use Rattle.finer.specs.Labels.{fineNumber, labelOf}
 use Rattle.finer.specs.Clauses.{acrossOf}
 use Rattle.finer.specs.SideLabels.{edge-right, edge-told, edges-told, IsFine, IsCoarse, fine-or-coarse, fine-label, coarse-label, fine-on}
 use Rattle.finer.specs.Faces.{edgeOn, edge-is, of-block, number-below}

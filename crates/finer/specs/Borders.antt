@@ -23,13 +23,13 @@ use Rattle.model.specs.Sides.{named}
 use Rattle.model.specs.Star.{Star, subdivisions}
 use Rattle.model.specs.Points.{transitionCase}
 use Rattle.model.specs.Mesh.{regularMesh}
-use Rattle.closed.specs.Clauses.{around, sides, runs, edgeAt, IsCell, OwnVertex}
+use Rattle.closed.specs.Clauses.{edgesMost, around, sides, runs, edgeAt, IsCell, OwnVertex}
 use Rattle.closed.specs.Cells.{own-of-block}
 use Rattle.closed.specs.Whole.{whole}
 use Rattle.closed.specs.SideCells.{case-small}
 use Rattle.closed.specs.Weighing.{side-from, side-to, byte-small, no-run}
 use Rattle.closed.specs.Indices.{IsSideCell}
-use Rattle.finer.specs.Labels.{edgesMost, labelAt, labelOf, labelledMesh}
+use Rattle.finer.specs.Labels.{labelAt, labelOf, labelledMesh}
 use Rattle.finer.specs.Clauses.{acrossOf, borderLabel, BorderClosed}
 use Rattle.finer.specs.SideLabels.{IsFine, fine-or-coarse, is-fine, is-coarse, fine-label, edge-right, edges-told}
 use Rattle.finer.specs.SideWhole.{corner-in}

@@ -18,9 +18,9 @@ use Rattle.model.specs.Judging.{facesAgree}
 use Rattle.model.specs.Star.{Star, subdivisions}
 use Rattle.model.specs.Points.{regularPoint, fineGridPoint}
 use Rattle.model.specs.Mesh.{Made, Mesh, regularMesh, transitionTo}
-use Rattle.closed.specs.Clauses.{Edge, high, number, OfBlock, InFace, part, noVertex, vertexAt, edgeAt, Names, triangleAt, runs, OnItsEdge, vertexOn}
+use Rattle.closed.specs.Clauses.{Edge, high, number, edgesMost, OfBlock, InFace, part, noVertex, vertexAt, edgeAt, Names, triangleAt, runs, OnItsEdge, vertexOn}
 use Rattle.closed.specs.Indices.{IsSideCell}
-use Rattle.finer.specs.Labels.{edgesMost, faceEdge, fineNumber}
+use Rattle.finer.specs.Labels.{faceEdge, fineNumber}
 
 pub record IsSide (s : Star) (side : ℕ) : Type 0 where
   pub side-in : side < sideCount

@@ -21,11 +21,11 @@ use Rattle.model.specs.Rotations.{xyz, pointFrom, rotationOf, rotations}
 use Rattle.model.specs.Formulas.{vertexBetween}
 use Rattle.model.specs.Star.{Star, subdivisions}
 use Rattle.model.specs.Points.{cornerPoint, regularPoint}
-use Rattle.closed.specs.Clauses.{Edge, high, number, OfBlock, part, vertexOn}
+use Rattle.closed.specs.Clauses.{Edge, high, number, edgesMost, OfBlock, part, vertexOn}
 use Rattle.closed.specs.Places.{same-edge, number-pairs, pair-in}
 use Rattle.closed.specs.Cells.{codeEdge, same-point, byte-own, byte-high}
 use Rattle.closed.specs.Outer.{IsFace, face-of-block, near-in-face}
-use Rattle.finer.specs.Labels.{lower, apart, edgeBetween, coarsePoint, faceEdge, edgesMost}
+use Rattle.finer.specs.Labels.{lower, apart, edgeBetween, coarsePoint, faceEdge}
 use Rattle.finer.specs.Clauses.{InSide, vertexBack, runsDown}
 use Rattle.finer.specs.SideLabels.{is-coarse}
 

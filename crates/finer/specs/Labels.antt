@@ -19,7 +19,7 @@ use Rattle.model.specs.Rotations.{xyz, facePoint}
 use Rattle.model.specs.Star.{Star, subdivisions}
 use Rattle.model.specs.Points.{transitionCase}
 use Rattle.model.specs.Mesh.{Made, CodeUse, Cell, Mesh, cellStep, transitionCell, regularMesh}
-use Rattle.closed.specs.Clauses.{Edge, number}
+use Rattle.closed.specs.Clauses.{Edge, number, edgesMost}
 
 -- ---- the edges of a side: from a point of its face one step along u or v, axis 0 or 1
 
@@ -46,10 +46,6 @@ unfoldable pub faceEdge : Star → ℕ → ℕ → ℕ → ℕ → Edge
 faceEdge s side u v axis =
     let n = subdivisions s in
     edgeBetween (coarsePoint n side u v) (coarsePoint n side (u + one (eqb axis 0)) (v + one (eqb axis 1)))
-
--- above the number of every grid edge of the block
-abbrev pub edgesMost : Star → ℕ
-edgesMost s = let m = subdivisions s + 1 in 3 * (m * m * m)
 
 -- the number of a fine edge, from the fine point (u2, v2)
 unfoldable pub fineNumber : Star → ℕ → ℕ → ℕ → ℕ → ℕ

@@ -17,14 +17,14 @@ use Rattle.model.specs.declared.Xyz.{Xyz}
 use Rattle.model.specs.Limits.{sideCount}
 use Rattle.model.specs.Sides.{named}
 use Rattle.model.specs.Star.{Star, subdivisions}
-use Rattle.closed.specs.Clauses.{Edge, number, OfBlock, OfCell, InFace, part, runs}
+use Rattle.closed.specs.Clauses.{Edge, number, edgesMost, OfBlock, OfCell, InFace, part, runs}
 use Rattle.closed.specs.Places.{number-one}
 use Rattle.closed.specs.Cells.{codeEdge, byte-own}
 use Rattle.closed.specs.Weighing.{weighed-never}
 use Rattle.closed.specs.Flux.{shown-near, weight, faceBits, faceRuns}
 use Rattle.closed.specs.Outer.{face-of-block, near-in-face}
 use Rattle.closed.specs.NoHole.{balanced-with-border}
-use Rattle.finer.specs.Labels.{edgesMost, labelOf, labelledMesh}
+use Rattle.finer.specs.Labels.{labelOf, labelledMesh}
 use Rattle.finer.specs.Clauses.{IsSide, Agreed, InSide, CoarseClosed, NoGap}
 use Rattle.finer.specs.SideLabels.{IsFine, fine-or-coarse, fine-label, edge-right}
 use Rattle.finer.specs.SideWhole.{labelled-sound, regular-lying}

@@ -19,9 +19,10 @@ use Rattle.model.specs.Sides.{named}
 use Rattle.model.specs.Star.{Star, subdivisions}
 use Rattle.model.specs.Points.{transitionCase}
 use Rattle.model.specs.Mesh.{Made, Mesh, storeLength, filled, cornerIndex, triangleOf, cellStep, transitionCell, transitionRow, transitionSide, transitionTo, regularMesh, meshOf}
+use Rattle.model.specs.Adding.{cell-triangles}
 use Rattle.closed.specs.Clauses.{noVertex, Names}
 use Rattle.closed.specs.Places.{pair-one}
-use Rattle.closed.specs.CellStep.{Filled, cell-filled, From, step-made, triangles-many, step-triangles, names-more, InReach, step-reach}
+use Rattle.closed.specs.CellStep.{Filled, cell-filled, From, step-made, step-triangles, names-more, InReach, step-reach}
 use Rattle.closed.specs.Whole.{whole, in-reach}
 use Rattle.closed.specs.SideCells.{case-small, codes, codeAt, code-used, CrossedAt, crossed-slot, new-index}
 use Rattle.closed.specs.Indices.{IsSideCell}
@@ -113,7 +114,7 @@ module _ (s : Star) (side u v : ℕ) (cell : IsSideCell s side u v) (m : Mesh) (
         sent = record {
           cell = cell;
           not-before = omega (arith, as-many (w .sound .in-step) .1);
-          by-then = omega (arith, as-many stepped .1, triangles-many (sideCell s side u v) m);
+          by-then = omega (arith, as-many stepped .1, cell-triangles (sideCell s side u v) m);
         };
         a = own-corner (3 * j) (omega arith);
         b = own-corner (3 * j + 1) (omega arith);

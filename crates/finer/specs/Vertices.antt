@@ -13,9 +13,9 @@ use Rattle.model.specs.Limits.{sideCount}
 use Rattle.model.specs.Sides.{named}
 use Rattle.model.specs.Star.{Star}
 use Rattle.model.specs.Mesh.{Made, Mesh, regularMesh, transitionTo}
-use Rattle.closed.specs.Clauses.{Edge, number, OfBlock, Crossed, noVertex, vertexAt, edgeAt, vertexOn}
+use Rattle.closed.specs.Clauses.{Edge, number, edgesMost, OfBlock, Crossed, noVertex, vertexAt, edgeAt, vertexOn}
 use Rattle.closed.specs.Places.{number-one}
-use Rattle.finer.specs.Labels.{edgesMost, labelledMesh}
+use Rattle.finer.specs.Labels.{labelledMesh}
 use Rattle.finer.specs.Clauses.{MadeBySide, OnFineEdge, OnCoarseEdge, OnSide, vertexBack, runsDown, SameBits}
 use Rattle.finer.specs.Faces.{number-below}
 use Rattle.finer.specs.Apart.{fine-above, fine-one}

@@ -2,7 +2,7 @@
 -- Assumes nothing.
 use mathlib.Core.Path.{_≡_, refl, sym, subst}
 use mathlib.Core.Logic.{_⊎_, inl, inr}
-use mathlib.Core.Bool.{Bool, true, false}
+use mathlib.Core.Bool.{Bool, true, false, cond}
 use mathlib.Core.List.{List, [], _∷_, _++_}
 use Prim.Native.Nat.{ℕ, zero, suc, _+_, _≤_, _<_}
 use native.Mathlib.Nat.{not-suc-le-zero, le-refl, le-step}
@@ -25,8 +25,7 @@ module _ {A : Type 0} where
 -- ---- how many numbers below a bound pass a test
 
 abbrev pub one : Bool → ℕ
-one true = 1
-one false = 0
+one b = cond b 1 0
 
 pub one-true : (b : Bool) → 1 ≤ one b → T b
 one-true true h = tt

@@ -4,6 +4,7 @@ pub mod Steps
 pub mod Iterated
 pub mod Lists
 pub mod Laying
+pub mod Filled
 pub mod Gathered
 pub mod Sums
 pub mod Squares

@@ -58,7 +58,7 @@ module _ (f g : ℕ → ℕ → ℕ) (a b : ℕ → ℕ → ℕ → ℕ) (n : �
 
 -- ---- turned round, and turned over
 
-total-first : (f : ℕ → ℕ) (n : ℕ) → total f (suc n) ≡ f 0 + total (λ k. f (suc k)) n
+pub total-first : (f : ℕ → ℕ) (n : ℕ) → total f (suc n) ≡ f 0 + total (λ k. f (suc k)) n
 total-first f zero = omega arith
 total-first f (suc n) = omega (arith, total-first f n)
 

@@ -1,12 +1,13 @@
 -- Sums over a range, over a list and over a cube of cells, and how a sum over cells comes down to its border. Knows nothing of meshes.
-use mathlib.Core.Path.{_≡_, refl, sym, ap, ap₂}
+use mathlib.Core.Path.{_≡_, refl, sym, ap, ap₂, _∙_}
 use mathlib.Core.Bool.{Bool, true, false}
 use mathlib.Core.List.{List, [], _∷_, _++_, map}
-use Prim.Native.Nat.{ℕ, zero, suc, _+_, _<_}
-use native.Mathlib.Nat.{add-zero, zero-add, add-suc, le-refl, le-step}
+use Prim.Native.Nat.{ℕ, zero, suc, _+_, _-_, _*_, _≤_, _<_}
+use native.Mathlib.Nat.{add-zero, zero-add, add-suc, mul-zero, mul-suc, le-refl, le-step}
+use native.Mathlib.Numerals.{add-one}
 use native.Mathlib.Omega.{arith}
 use lib.Dec.{T}
-use Rattle.laws.specs.Counting.{pick, gather, only, weighed}
+use Rattle.laws.specs.Counting.{pick, gather, one, howMany, only, weighed}
 use Rattle.laws.specs.Steps.{total}
 
 -- ---- over a range
@@ -23,6 +24,36 @@ total-none f (suc n) h = ap₂ _+_ (total-none f n (λ k l. h k (le-step l))) (h
 pub total-more : (f : ℕ → ℕ) (k j : ℕ) → total f (k + j) ≡ total f k + total (λ i. f (k + i)) j
 total-more f k zero = rw (add-zero k) (sym (add-zero _))
 total-more f k (suc j) = rw add-suc (omega (arith, total-more f k j))
+
+-- what is passed over adds nothing
+pub total-skip : (f : ℕ → ℕ) (from next : ℕ) → from ≤ next → ((k : ℕ) → from ≤ k → k < next → f k ≡ 0) → total f next ≡ total f from
+total-skip f from next l none =
+    let e : next ≡ from + (next - from) = omega arith in
+    let rest = total-none (λ i. f (from + i)) (next - from) (λ k h. none (from + k) (omega arith) (omega arith)) in
+    ap (total f) e ∙ omega (arith, total-more f from (next - from), rest)
+
+-- all alike
+total-equal : (a n : ℕ) → total (λ k. a) n ≡ a * n
+total-equal a zero = sym (mul-zero a)
+total-equal a (suc n) = rw mul-suc (omega (arith, total-equal a n))
+
+-- a last one that adds nothing
+pub total-last : (f : ℕ → ℕ) (n : ℕ) → f n ≡ 0 → total f (n + 1) ≡ total f n
+total-last f n e = rw add-one (omega (arith, e))
+
+pub total-most : (f : ℕ → ℕ) (n most : ℕ) → ((k : ℕ) → k < n → f k ≤ most) → total f n ≤ most * n
+total-most f zero most h = omega (arith, mul-zero most)
+total-most f (suc n) most h = omega (arith, mul-suc most n, total-most f n most (λ k l. h k (le-step l)), h n (le-refl _))
+
+-- a range in rows of one width
+pub total-rows : (f : ℕ → ℕ) (wide k : ℕ) → total f (wide * k) ≡ total (λ i. total (λ j. f (wide * i + j)) wide) k
+total-rows f wide zero = rw mul-zero
+total-rows f wide (suc k) =
+    rw mul-suc (total-more f (wide * k) wide ∙ ap (λ (t : ℕ). t + total (λ j. f (wide * k + j)) wide) (total-rows f wide k))
+
+pub how-many : (P : ℕ → Bool) (n : ℕ) → howMany P n ≡ total (λ k. one (P k)) n
+how-many P zero = refl
+how-many P (suc n) = ap (λ (k : ℕ). k + one (P n)) (how-many P n)
 
 -- ---- over a list
 
@@ -88,6 +119,12 @@ cube f n = total (λ x. square (f x) n) n
 
 pub square-none : (f : ℕ → ℕ → ℕ) (n : ℕ) → ((u v : ℕ) → u < n → v < n → f u v ≡ 0) → square f n ≡ 0
 square-none f n h = total-none _ n (λ u hu. total-none _ n (λ v hv. h u v hu hv))
+
+pub square-equal : (a n : ℕ) → square (λ u v. a) n ≡ a * (n * n)
+square-equal a n = (λ i. total (λ u. total-equal a n i) n) ∙ total-equal (a * n) n ∙ omega arith
+
+pub cube-equal : (a n : ℕ) → cube (λ x y z. a) n ≡ a * (n * n * n)
+cube-equal a n = (λ i. total (λ x. square-equal a n i) n) ∙ total-equal (a * (n * n)) n ∙ omega arith
 
 -- f and g differ in each cell of a row by what a and b say of its two ends: over the row, by what they say of the row's ends
 pub telescope : (f g a b : ℕ → ℕ) (n : ℕ) → ((k : ℕ) → k < n → f k + a (suc k) + b k ≡ g k + b (suc k) + a k)

@@ -7,6 +7,8 @@ pub mod Refusals
 pub mod Star
 pub mod Points
 pub mod Mesh
+pub mod OverCells
+pub mod Adding
 pub mod Reads
 pub mod Judging
 pub mod Extraction

@@ -1,16 +1,18 @@
 -- Document 02, [7]: what the reads of a mesh come to. Each cell's case number adds the samples that it reads, and each vertex that was made fourteen;
 -- of a sheet of cells, and of the whole mesh, that is a product.
-use Prim.Native.Nat.{ℕ, zero, suc, _+_, _*_}
-use native.Mathlib.Nat.{add-zero, zero-add, mul-zero, mul-suc}
+use Prim.Native.Nat.{ℕ, _+_, _*_}
 use native.Mathlib.Omega.{arith}
-use mathlib.Core.Path.{_≡_, refl, sym, subst}
-use mathlib.Core.Bool.{Bool, true, false, cond}
+use mathlib.Core.Path.{_≡_, refl, ap, _∙_}
+use mathlib.Core.Bool.{cond}
 use lib.ListN.{length, length-append}
-use Rattle.laws.specs.Steps.{iterate, total}
+use Rattle.laws.specs.Steps.{total}
+use Rattle.laws.specs.Sums.{total-same, square-equal, cube-equal}
 use Rattle.model.specs.Limits.{sideCount}
 use Rattle.model.specs.Sides.{named}
 use Rattle.model.specs.Star.{Star, subdivisions}
-use Rattle.model.specs.Mesh.{Cell, Mesh, vertexReads, regularReads, transitionReads, emptyMesh, cellStep, regularCell, regularColumn, regularLayer, regularMesh, transitionCell, transitionRow, transitionSide, meshOf}
+use Rattle.model.specs.Mesh.{Cell, Mesh, vertexReads, regularReads, transitionReads, emptyMesh, cellStep, regularCell, regularLayer, transitionCell, transitionSide, meshOf}
+use Rattle.model.specs.OverCells.{overSide}
+use Rattle.model.specs.Adding.{Adds, layer-adds, side-adds, mesh-adds}
 
 -- so many reads for case numbers, and those of the vertices that were made
 abbrev pub Reads : ℕ → Mesh → Type 0
@@ -24,57 +26,44 @@ cell-reads : (c : Cell) (cases : ℕ) (m : Mesh) → Reads cases m → Reads (ca
 unfolding cellStep
 cell-reads c cases m h = rw length-append (omega (arith, h))
 
--- steps of which each adds its own reads for case numbers
-module _ (f : ℕ → Mesh → Mesh) (adds : ℕ → ℕ) (step : (i cases : ℕ) (m : Mesh) → Reads cases m → Reads (cases + adds i) (f i m)) where
-  steps-read : (k cases : ℕ) (m : Mesh) → Reads cases m → Reads (cases + total adds k) (iterate f k m)
-  steps-read zero cases m h = rw add-zero h
-  steps-read (suc k) cases m h =
-      omega (arith, step k (cases + total adds k) (iterate f k m) (steps-read k cases m h))
-
--- the same where all add the same
-total-alike : (a k : ℕ) → total (λ i. a) k ≡ a * k
-total-alike a zero = sym (mul-zero a)
-total-alike a (suc k) = rw mul-suc (omega (arith, total-alike a k))
-
-module _ (f : ℕ → Mesh → Mesh) (a : ℕ) (step : (i cases : ℕ) (m : Mesh) → Reads cases m → Reads (cases + a) (f i m)) where
-  alike-read : (k cases : ℕ) (m : Mesh) → Reads cases m → Reads (cases + a * k) (iterate f k m)
-  alike-read k cases m h = omega (arith, steps-read f (λ i. a) step k cases m h, total-alike a k)
-
 module _ (s : Star) where
   abbrev n : ℕ
   n = subdivisions s
 
-  column-reads : (x y cases : ℕ) (m : Mesh) → Reads cases m → Reads (cases + regularReads * n) (regularColumn s x y m)
-  unfolding regularColumn regularCell
-  column-reads x y = alike-read _ regularReads (λ z. cell-reads (regularCell s x y z)) n
+  abbrev eachRegular : ℕ → ℕ → ℕ → ℕ
+  eachRegular x y z = regularReads
+
+  abbrev eachTransition : ℕ → ℕ → ℕ → ℕ
+  eachTransition side u v = transitionReads
+
+  regular-cell : (x y z : ℕ) → Adds Reads (cellStep (regularCell s x y z)) regularReads
+  unfolding regularCell
+  regular-cell x y z = cell-reads (regularCell s x y z)
+
+  transition-cell : (side u v : ℕ) → Adds Reads (cellStep (transitionCell s side u v)) transitionReads
+  unfolding transitionCell
+  transition-cell side u v = cell-reads (transitionCell s side u v)
 
   -- a layer of regular cells
   pub layer-reads : (x cases : ℕ) (m : Mesh) → Reads cases m → Reads (cases + regularReads * n * n) (regularLayer s x m)
-  unfolding regularLayer
-  layer-reads x = alike-read (regularColumn s x) (regularReads * n) (column-reads x) n
-
-  regular-reads : Reads (regularReads * n * n * n) (regularMesh s)
-  unfolding regularMesh
-  regular-reads =
-      subst (λ (cases : ℕ). Reads cases (iterate (regularLayer s) n (emptyMesh n))) (zero-add _)
-      (alike-read (regularLayer s) (regularReads * n * n) layer-reads n 0 (emptyMesh n) (reads-none n))
-
-  row-reads : (side u cases : ℕ) (m : Mesh) → Reads cases m → Reads (cases + transitionReads * n) (transitionRow s side u m)
-  unfolding transitionRow transitionCell
-  row-reads side u = alike-read _ transitionReads (λ v. cell-reads (transitionCell s side u v)) n
+  layer-reads x cases m h =
+      omega (arith, layer-adds Reads s eachRegular eachTransition regular-cell transition-cell x cases m h, square-equal regularReads n)
 
   -- the transition cells of a side, if it is named
   abbrev pub sideReads : ℕ → ℕ
   sideReads side = cond (named (s .mask) side) (transitionReads * n * n) 0
 
+  over-side : (side : ℕ) → overSide s eachTransition side ≡ sideReads side
+  over-side side = ap (λ (k : ℕ). cond (named (s .mask) side) k 0) (square-equal transitionReads n ∙ omega arith)
+
   pub side-reads : (side cases : ℕ) (m : Mesh) → Reads cases m → Reads (cases + sideReads side) (transitionSide s side m)
-  unfolding transitionSide
-  side-reads side cases m h = go (named (s .mask) side)
-    where
-      go : (b : Bool) → Reads (cases + cond b (transitionReads * n * n) 0) (cond b (iterate (transitionRow s side) n m) m)
-      go true = alike-read (transitionRow s side) (transitionReads * n) (row-reads side) n cases m h
-      go false = rw add-zero h
+  side-reads side cases m h = rw (← over-side side) (side-adds Reads s eachRegular eachTransition regular-cell transition-cell side cases m h)
 
   pub mesh-reads : Reads (regularReads * n * n * n + total sideReads sideCount) (meshOf s)
-  unfolding meshOf
-  mesh-reads = steps-read (transitionSide s) sideReads side-reads sideCount (regularReads * n * n * n) (regularMesh s) regular-reads
+  mesh-reads =
+      omega (
+        arith,
+        mesh-adds Reads s eachRegular eachTransition regular-cell transition-cell (reads-none n),
+        cube-equal regularReads n,
+        total-same (overSide s eachTransition) sideReads sideCount (λ side h. over-side side),
+      )

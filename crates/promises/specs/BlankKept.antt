@@ -47,13 +47,15 @@ module _ (bytes : List ℕ) where
   judged : inOrder (recordJudges bytes) ≡ Passed → judgeRecord bytes ≡ Passed
   judged e = sym (record-in-order bytes) ∙ e
 
-  block-passes : inOrder (recordJudges bytes) ≡ Passed → inOrder (blockJudges (starOf bytes)) ≡ Passed
-  unfolding judgeStar
-  block-passes e =
+  pub block-passed : judgeRecord bytes ≡ Passed → judgeStar (starOf bytes) ≡ Passed
+  block-passed e =
       let own = sampleLength (headerOf bytes .block .subdivisions) in
       let long : length (take own (samplesOf bytes)) ≡ own = length-take-le own (samplesOf bytes) (rw (length-samples bytes) (omega arith)) in
-      simp or-else-passed
-      (star-passes bytes (accepted bytes (judged e)) (take own (samplesOf bytes)) (drop own (samplesOf bytes)) (take-append-drop own (samplesOf bytes)) long)
+      star-passes bytes (accepted bytes e) (take own (samplesOf bytes)) (drop own (samplesOf bytes)) (take-append-drop own (samplesOf bytes)) long
+
+  block-passes : inOrder (recordJudges bytes) ≡ Passed → inOrder (blockJudges (starOf bytes)) ≡ Passed
+  unfolding judgeStar
+  block-passes e = simp or-else-passed (block-passed (judged e))
 
   exactly : judgeRecord bytes ≡ Passed → judgeFaces (starOf bytes) ≡ Passed → (blankAnswer bytes ≡ 1) ↔ (counts (starOf bytes) .triangles ≡ 0)
   unfolding blankAnswer

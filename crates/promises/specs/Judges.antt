@@ -37,7 +37,7 @@ a & b = (a, b)
 
 -- ---- orders
 
-numbered-append : (a b : List Judge) → Numbered a → Numbered b → Numbered (a ++ b)
+pub numbered-append : (a b : List Judge) → Numbered a → Numbered b → Numbered (a ++ b)
 numbered-append [] b p q = q
 numbered-append (j ∷ a) b p q = (p .0, numbered-append a b (p .1) q)
 
@@ -143,7 +143,7 @@ samples-number : (samples : List Float) → Refuses 7 (judgeSamples samples)
 unfolding judgeSamples
 samples-number samples = by-first 7 (sampleUsable samples) (λ k. by-unless (usable (getD samples k nan)) (BadSample k)) (length samples)
 
-faces-number : (s : Star) → Refuses 8 (judgeFaces s)
+pub faces-number : (s : Star) → Refuses 8 (judgeFaces s)
 unfolding judgeFaces
 faces-number s =
     by-first 8 _

@@ -18,6 +18,7 @@ use Rattle.promises.specs.FinerKept.{no-gap-is-left}
 use Rattle.promises.specs.ReadsKept.{reads-kept}
 use Rattle.promises.specs.VolumeKept.{volume-kept}
 use Rattle.promises.specs.LargerKept.{larger-kept}
+use Rattle.promises.specs.SheetKept.{sheet-kept}
 use Rattle.promises.specs.Views.{point, packed-record, subdivisions-apart, blank-apart, viewer-sample}
 
 pub kept : Promises
@@ -49,5 +50,6 @@ kept =
       reads = reads-kept;
       volume = volume-kept;
       larger = larger-kept;
+      sheet = sheet-kept;
       starred = figures-agree;
     }

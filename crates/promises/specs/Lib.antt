@@ -10,6 +10,7 @@ pub mod Reads
 pub mod Volume
 pub mod Former
 pub mod Larger
+pub mod Sheet
 pub mod Orders
 pub mod Points
 pub mod Left
@@ -34,3 +35,4 @@ pub mod ReadsKept
 pub mod ReadsReached
 pub mod VolumeKept
 pub mod LargerKept
+pub mod SheetKept

@@ -42,6 +42,7 @@ use Rattle.promises.specs.Finer.{NoGapIsLeft}
 use Rattle.promises.specs.Reads.{ReadsPromises}
 use Rattle.promises.specs.Volume.{VolumePromises}
 use Rattle.promises.specs.Larger.{LargerPromises}
+use Rattle.promises.specs.Sheet.{SheetPromises}
 
 -- ---- 1. every call is answered
 
@@ -154,5 +155,6 @@ pub record Promises : Type 0 where
   pub reads : ReadsPromises
   pub volume : VolumePromises
   pub larger : LargerPromises
+  pub sheet : SheetPromises
   -- what the definitions work out is what document 01 states
   pub starred : map (λ (f : Figure). f .worked) figures ≡ map (λ (f : Figure). f .stated) figures

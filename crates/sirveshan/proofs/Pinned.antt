@@ -14,6 +14,8 @@ use Rattle.sirveshan.proofs.sirveshan_subdivisions.Reads as subdivision
 use Rattle.sirveshan.proofs.sirveshan_blank.Reads as blank
 use Rattle.sirveshan.proofs.sirveshan_sample.Reads as sample
 use Rattle.sirveshan.proofs.sirveshan_sample_kind.Reads as sample-kind
+use Rattle.sirveshan.proofs.sirveshan_sheet_line.Reads as sheet-line
+use Rattle.sirveshan.proofs.sirveshan_sheet_total.Reads as sheet-total
 
 pub sirveshan-extract-pinned : (κs : Lfts 5) (a : _) (r r′ : _) (e e′ : _) → extract.Learnt κs a r e → extract.Learnt κs a r′ e′
     → (r ≡ r′)
@@ -53,3 +55,9 @@ sirveshan-sample-pinned κs a r r′ e e′ h k = pinned h k
 
 pub sirveshan-sample-kind-pinned : (κs : Lfts 1) (a : _) (r r′ : _) (e e′ : _) → sample-kind.Learnt κs a r e → sample-kind.Learnt κs a r′ e′ → r ≡ r′
 sirveshan-sample-kind-pinned κs a r r′ e e′ h k = pinned h k
+
+pub sirveshan-sheet-line-pinned : (κs : Lfts 1) (a : _) (r r′ : _) (e e′ : _) → sheet-line.Learnt κs a r e → sheet-line.Learnt κs a r′ e′ → r ≡ r′
+sirveshan-sheet-line-pinned κs a r r′ e e′ h k = pinned h k
+
+pub sirveshan-sheet-total-pinned : (κs : Lfts 1) (a : _) (r r′ : _) (e e′ : _) → sheet-total.Learnt κs a r e → sheet-total.Learnt κs a r′ e′ → r ≡ r′
+sirveshan-sheet-total-pinned κs a r r′ e e′ h k = pinned h k

@@ -21,6 +21,12 @@ use Rattle.stl.specs.declared.StlRead.{StlRead}
 use Rattle.stl.specs.declared.StlRead.the-variants as StlRead
 use Rattle.volume.specs.declared.BlockCut.{BlockCut}
 use Rattle.volume.specs.declared.BlockCut.the-variants as BlockCut
+use Rattle.sheet.specs.declared.Line.{Line}
+use Rattle.sheet.specs.declared.Line.the-variants as Line
+use Rattle.sheet.specs.declared.SheetLine.{SheetLine}
+use Rattle.sheet.specs.declared.SheetLine.the-variants as SheetLine
+use Rattle.sheet.specs.declared.SheetTotal.{SheetTotal}
+use Rattle.sheet.specs.declared.SheetTotal.the-variants as SheetTotal
 use Rattle.model.specs.Limits.{sideCount}
 use Rattle.model.specs.Formulas.{vector}
 use Rattle.model.specs.Refusals.{numbers, numbersOf}
@@ -28,12 +34,15 @@ use Rattle.model.specs.Extraction.{Outcome}
 use Rattle.model.specs.Record.{ReadOutcome, WriteOutcome}
 use Rattle.stl.specs.Definition as Stl
 use Rattle.volume.specs.Definition.{CutOutcome}
+use Rattle.sheet.specs.Definition as Sheet
 use Rattle.sirveshan.specs.declared.Extracted.{Extracted}
 use Rattle.sirveshan.specs.declared.HeaderRead.{HeaderRead}
 use Rattle.sirveshan.specs.declared.Written.{Written}
 use Rattle.sirveshan.specs.declared.TrianglesRead.{TrianglesRead}
 use Rattle.sirveshan.specs.declared.SamplesCut.{SamplesCut}
 use Rattle.sirveshan.specs.declared.Sampled.{Sampled}
+use Rattle.sirveshan.specs.declared.LineTold.{LineTold}
+use Rattle.sirveshan.specs.declared.TotalTold.{TotalTold}
 
 abbrev pub notRefused : Numbers
 notRefused = numbers 0 0 0 0
@@ -83,6 +92,20 @@ kindNumber InBlock = sideCount
 abbrev pub asSampled : PointRead → Sampled
 asSampled (PointRead.Value value kind) = record { refused = notRefused; value = value; kind = kindNumber kind }
 asSampled (PointRead.Refused r) = record { refused = numbersOf r; value = zero; kind = 0 }
+
+-- a refused line has no figures; where there is no line, next is 0
+abbrev pub lineTold : Line → ℕ → LineTold
+lineTold (Line.Counted figures) next = record { refused = notRefused; figures = figures; next = next }
+lineTold (Line.Refused r) next = record { refused = numbersOf r; figures = Sheet.none; next = next }
+
+abbrev pub asLineTold : SheetLine → LineTold
+asLineTold (SheetLine.Line at) = lineTold (at .line) (at .next)
+asLineTold SheetLine.End = record { refused = notRefused; figures = Sheet.none; next = 0 }
+asLineTold (SheetLine.Refused r) = record { refused = numbersOf r; figures = Sheet.none; next = 0 }
+
+abbrev pub asTotalTold : SheetTotal → TotalTold
+asTotalTold (SheetTotal.Total figures) = record { refused = notRefused; figures = figures }
+asTotalTold (SheetTotal.Refused r) = record { refused = numbersOf r; figures = Sheet.none }
 
 -- ---- the answer, and every buffer that is lent to be written
 

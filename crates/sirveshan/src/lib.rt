@@ -7,8 +7,10 @@ ghost use Rattle.model.specs.Record.{readRecord, writeRecord};
 ghost use Rattle.model.specs.Viewer.{subdivisionsAnswer, blankAnswer, sampleAnswer, recordPoint};
 ghost use Rattle.stl.specs.Definition.{writeStl, readStl};
 ghost use Rattle.volume.specs.Definition.{cutBlock};
+ghost use Rattle.sheet.specs.Definition.{sheetLine, sheetTotal};
 ghost use Rattle.sirveshan.specs.Calls.{asExtracted, asHeaderRead, asWritten, asStlWritten, asTrianglesRead, asSamplesCut, kindNumber, asSampled};
 ghost use Rattle.sirveshan.specs.Calls.{extractCall, readCall, writeCall, writeStlCall, readStlCall, cutCall};
+ghost use Rattle.sirveshan.specs.Calls.{lineTold, asLineTold, asTotalTold};
 use grid::transition_sides::SIDES;
 use judge::numbers_of;
 use model::Block;
@@ -25,6 +27,11 @@ use model::Vector;
 use model::Xyz;
 use record::reader::read_record;
 use record::writer::write_record;
+use sheet::Figures;
+use sheet::Line;
+use sheet::NO_FIGURES;
+use sheet::SheetLine;
+use sheet::SheetTotal;
 use stl::StlRead;
 use stl::StlWritten;
 use stl::reader::read_stl;
@@ -73,6 +80,20 @@ pub struct Sampled {
 
 // The number of the kind in-block; a face has its own.
 const IN_BLOCK: usize = SIDES;
+
+// The next record begins there; 0 where there is no line.
+#[repr(C)]
+pub struct LineTold {
+    pub refused: Numbers,
+    pub figures: Figures,
+    pub next: usize,
+}
+
+#[repr(C)]
+pub struct TotalTold {
+    pub refused: Numbers,
+    pub figures: Figures,
+}
 
 const NOT_REFUSED: Numbers = Numbers {
     number: 0,
@@ -218,6 +239,59 @@ fn as_sampled(answer: PointRead) -> Sampled
     }
 }
 
+fn line_told(line: Line, next: usize) -> LineTold
+    ensures { λ r. ⌜ r ≡ lineTold line next ⌝ }
+{
+    match line {
+        Line::Counted(figures) => LineTold {
+            refused: NOT_REFUSED,
+            figures,
+            next,
+        },
+        Line::Refused(refusal) => LineTold {
+            refused: numbers_of(refusal),
+            figures: NO_FIGURES,
+            next,
+        },
+    }
+}
+
+fn as_line_told(answer: SheetLine) -> LineTold
+    ensures { λ r. ⌜ r ≡ asLineTold answer ⌝ }
+{
+    match answer {
+        SheetLine::Line(at) => {
+            let line = at.line;
+            line_told(line, at.next)
+        }
+        SheetLine::End => LineTold {
+            refused: NOT_REFUSED,
+            figures: NO_FIGURES,
+            next: 0,
+        },
+        SheetLine::Refused(refusal) => LineTold {
+            refused: numbers_of(refusal),
+            figures: NO_FIGURES,
+            next: 0,
+        },
+    }
+}
+
+fn as_total_told(answer: SheetTotal) -> TotalTold
+    ensures { λ r. ⌜ r ≡ asTotalTold answer ⌝ }
+{
+    match answer {
+        SheetTotal::Total(figures) => TotalTold {
+            refused: NOT_REFUSED,
+            figures,
+        },
+        SheetTotal::Refused(refusal) => TotalTold {
+            refused: numbers_of(refusal),
+            figures: NO_FIGURES,
+        },
+    }
+}
+
 // The mesh of a block and its finer neighbours.
 #[no_mangle]
 pub extern "C" fn sirveshan_extract(
@@ -317,4 +391,20 @@ pub extern "C" fn sirveshan_sample_kind(src: &[u8], x: i32, y: i32, z: i32) -> S
     ensures { λ r. ⌜ r ≡ asSampled (recordPoint (now (src .entry)) x y z) ⌝ }
 {
     as_sampled(viewer::read_point(src, x, y, z))
+}
+
+// The line of the record that begins at a place of a run of records.
+#[no_mangle]
+pub extern "C" fn sirveshan_sheet_line(src: &[u8], at: usize) -> LineTold
+    ensures { λ r. ⌜ r ≡ asLineTold (sheetLine (now (src .entry)) at) ⌝ }
+{
+    as_line_told(sheet::sheet_line(src, at))
+}
+
+// The figures of all records of a run that are not refused, added up.
+#[no_mangle]
+pub extern "C" fn sirveshan_sheet_total(src: &[u8]) -> TotalTold
+    ensures { λ r. ⌜ r ≡ asTotalTold (sheetTotal (now (src .entry))) ⌝ }
+{
+    as_total_told(sheet::sheet_total(src))
 }

@@ -10,36 +10,25 @@ ghost use Rattle.model.specs.Sides.{named};
 ghost use Rattle.model.specs.Blank.{liesAs, sideAs, sidesAs, isBlank};
 ghost use Rattle.model.specs.Record.{countOf, headerOf, samplesOf, starOf};
 ghost use Rattle.record.specs.Accepted.{Accepted};
-ghost use Rattle.viewer.specs.Lines.{OnLine, lineAs};
-use grid::face_walk::Stride;
-use grid::face_walk::along;
-use grid::face_walk::face_walk;
+ghost use Rattle.lines.specs.Lines.{placeOn, OnLine};
+ghost use Rattle.viewer.specs.Lines.{lineAs};
 use grid::transition_sides::SIDES;
-use grid::transition_sides::count_below;
 use grid::transition_sides::next_side;
 use grid::voxel_blocks::inside;
-use grid::voxel_blocks::sample_length;
+use lines::Line;
+use lines::NEXT;
+use lines::fine_line;
+use lines::sample_on;
 use model::Header;
 use record::fields::header_of;
 use record::fields::sample_of;
 
-// So many samples of a record, a step apart: the first stands at `first` among those that begin at `start`.
-struct Line {
-    start: usize,
-    first: usize,
-    step: Stride,
-    points: usize,
-}
-
-// One place after another.
-const NEXT: Stride = Stride { up: 1, down: 0 };
-
-// Sample k is inside or is not, as wanted.
-fn lies_as(src: &[u8], threshold: f32, wanted: bool, k: usize) -> bool
-    requires { ⌜ Accepted (now src) × (k < countOf (now src)) ⌝ }
-    ensures { λ r. ⌜ r ≡ liesAs wanted threshold (getD (samplesOf (now (src .entry))) k nan) ⌝ }
+// The k-th sample of a line is inside or is not, as wanted.
+fn lies_as(src: &[u8], threshold: f32, wanted: bool, line: Line, k: usize) -> bool
+    requires { ⌜ Accepted (now src) × OnLine (countOf (now src)) line k ⌝ }
+    ensures { λ r. ⌜ r ≡ liesAs wanted threshold (getD (samplesOf (now (src .entry))) (placeOn line k) nan) ⌝ }
 {
-    inside(threshold, sample_of(src, k)) == wanted
+    inside(threshold, sample_on(src, line, k)) == wanted
 }
 
 fn line_lies(src: &[u8], threshold: f32, wanted: bool, line: Line) -> bool
@@ -47,34 +36,22 @@ fn line_lies(src: &[u8], threshold: f32, wanted: bool, line: Line) -> bool
     ensures { λ r. ⌜ r ≡ lineAs wanted threshold (samplesOf (now (src .entry))) line ⌝ }
 {
     for k in 0..line.points {
-        let place = line.start + along(line.first, line.step, k);
-        if !lies_as(src, threshold, wanted, place) {
+        if !lies_as(src, threshold, wanted, line, k) {
             return false;
         }
     }
     true
 }
 
-// The samples in the fine face of a named side: its neighbour's come after the centre's and those of the sides named below it.
+// The samples in the fine face of a named side.
 fn side_lies(src: &[u8], header: Header, wanted: bool, side: usize) -> bool
     requires { ⌜ Accepted (now src) × (header ≡ headerOf (now src)) ⌝ }
     requires { ⌜ (side < sideCount) × (named (header .mask) side ≡ true) ⌝ }
     ensures { λ r. ⌜ r ≡ sideAs wanted (starOf (now (src .entry))) side ⌝ }
 {
-    let n = header.block.subdivisions;
-    let fine = 2 * n;
-    let points = fine + 1;
-    let start = sample_length(n) + count_below(header.mask, side) * sample_length(fine);
-    let walk = face_walk(fine, side, fine);
-    let step = walk.v;
+    let points = 2 * header.block.subdivisions + 1;
     for u2 in 0..points {
-        let first = along(walk.first, walk.u, u2);
-        let line = Line {
-            start,
-            first,
-            step,
-            points,
-        };
+        let line = fine_line(header, side, u2);
         if !line_lies(src, header.threshold, wanted, line) {
             return false;
         }

@@ -16,7 +16,8 @@ use Rattle.cases.specs.Sheets.{sheetPlaces}
 use Rattle.cells.specs.declared.SheetIndex.the-variants.{Side}
 use Rattle.cells.specs.Puts.{Few}
 use Rattle.algorithm.specs.Passes.{Held, Grows}
-use Rattle.algorithm.proofs.Walk.{sides-skip, held-sheeted}
+use Rattle.algorithm.specs.Numbers.{held-sheeted}
+use Rattle.algorithm.proofs.Walk.{sides-skip}
 use Rattle.algorithm.proofs.Growth.{few-none, few-more, few-of, plus-fits, grows-none, grows-more, grows-as}
 use Rattle.algorithm.proofs.counting.count_named_sides.Statement.{statement}
 use Rattle.algorithm.proofs.counting.count_named_sides.Tie as tie

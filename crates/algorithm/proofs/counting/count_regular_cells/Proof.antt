@@ -15,7 +15,7 @@ use Rattle.cases.specs.PairLaws.{no-pairs, pairs-upper}
 use Rattle.cells.specs.declared.SheetIndex.the-variants.{Layer}
 use Rattle.cells.specs.Puts.{Few}
 use Rattle.algorithm.specs.Passes.{Held, Grows}
-use Rattle.algorithm.proofs.Walk.{held-sheeted}
+use Rattle.algorithm.specs.Numbers.{held-sheeted}
 use Rattle.algorithm.proofs.Growth.{few-none, few-more, few-of, plus-fits, grows-none, grows-more}
 use Rattle.algorithm.proofs.counting.count_regular_cells.Statement.{statement}
 use Rattle.algorithm.proofs.counting.count_regular_cells.Tie as tie

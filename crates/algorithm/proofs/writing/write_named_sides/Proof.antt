@@ -13,7 +13,8 @@ use Rattle.model.specs.Mesh.{transitionTo}
 use Rattle.cases.specs.Sheets.{sheetPlaces}
 use Rattle.cells.specs.declared.SheetIndex.the-variants.{Side}
 use Rattle.algorithm.specs.Passes.{Held, Holds, ReadTo, SameLengths}
-use Rattle.algorithm.proofs.Walk.{transition-start, transition-skip, transition-end, held-sheeted}
+use Rattle.algorithm.specs.Numbers.{held-sheeted}
+use Rattle.algorithm.proofs.Walk.{transition-start, transition-skip, transition-end}
 use Rattle.algorithm.proofs.Holding.{same-then, fits-still}
 use Rattle.algorithm.proofs.Reading.{read-first, read-side, read-sides}
 use Rattle.algorithm.proofs.writing.write_named_sides.Statement.{statement}

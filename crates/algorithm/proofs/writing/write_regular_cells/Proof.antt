@@ -10,7 +10,8 @@ use Rattle.model.specs.Mesh.{regularTo}
 use Rattle.cases.specs.Sheets.{sheetPlaces}
 use Rattle.cells.specs.declared.SheetIndex.the-variants.{Layer}
 use Rattle.algorithm.specs.Passes.{Held, Holds, ReadTo, SameLengths}
-use Rattle.algorithm.proofs.Walk.{regular-start, regular-end, held-sheeted}
+use Rattle.algorithm.specs.Numbers.{held-sheeted}
+use Rattle.algorithm.proofs.Walk.{regular-start, regular-end}
 use Rattle.algorithm.proofs.Holding.{holds-none, same-then, fits-still}
 use Rattle.algorithm.proofs.Reading.{read-none, read-layer, read-layers}
 use Rattle.algorithm.proofs.writing.write_regular_cells.Statement.{statement}

@@ -1,7 +1,7 @@
 -- `regular::layer_cases` meets its contract: the marks are those of the numbers.
 use borrow.Author.Needs.{needs}
 use Rattle.cases.specs.Marks.{allRegular}
-use Rattle.cases.proofs.Marking.{marked-sheet}
+use Rattle.cases.specs.Rows.{marked-sheet}
 use Rattle.cases.proofs.regular.layer_cases.Statement.{statement}
 use Rattle.cases.proofs.regular.layer_cases.Tie as tie
 

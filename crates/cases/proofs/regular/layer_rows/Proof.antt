@@ -11,7 +11,7 @@ use Rattle.model.specs.Star.{star}
 use Rattle.model.specs.Points.{regularCase}
 use Rattle.model.specs.Mesh.{regularReads}
 use Rattle.cases.specs.Sheets.{sheetPlaces, Sheet}
-use Rattle.cases.proofs.Rows.{no-row, one-more-row}
+use Rattle.cases.specs.Rows.{no-row, one-more-row}
 use Rattle.cases.proofs.regular.layer_rows.Statement.{statement}
 use Rattle.cases.proofs.regular.layer_rows.Tie as tie
 

@@ -3,7 +3,7 @@ use Prim.Native.Nat.{_+_, _≤_}
 use native.Mathlib.Omega.{arith}
 use lib.ListN.{length}
 use Rattle.grid.specs.Places.{in-block}
-use Rattle.cases.proofs.Lines.{part-is-line}
+use Rattle.cases.specs.Lines.{part-is-line}
 use borrow.Author.Needs.{needs}
 use Rattle.cases.proofs.regular.line.Statement.{statement}
 use Rattle.cases.proofs.regular.line.Tie as tie

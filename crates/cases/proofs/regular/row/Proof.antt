@@ -2,8 +2,8 @@
 use Rattle.model.specs.Star.{star}
 use native.Mathlib.Omega.{arith}
 use Rattle.cases.specs.RowPlaces.{row-fits}
-use Rattle.cases.proofs.Rows.{row-as}
-use Rattle.cases.proofs.Lines.{case-is}
+use Rattle.cases.specs.Rows.{row-as}
+use Rattle.cases.specs.Lines.{case-is}
 use borrow.Author.Needs.{needs}
 use Rattle.cases.proofs.regular.row.Statement.{statement}
 use Rattle.cases.proofs.regular.row.Tie as tie

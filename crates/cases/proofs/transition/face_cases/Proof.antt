@@ -12,7 +12,7 @@ use Rattle.model.specs.Points.{transitionCase}
 use Rattle.model.specs.Mesh.{transitionReads}
 use Rattle.cases.specs.Sheets.{sheetPlaces, Sheet}
 use Rattle.cases.specs.Marks.{allTransition, markOf}
-use Rattle.cases.proofs.Rows.{no-row, one-more-row}
+use Rattle.cases.specs.Rows.{no-row, one-more-row}
 use Rattle.cases.proofs.transition.face_cases.Statement.{statement}
 use Rattle.cases.proofs.transition.face_cases.Tie as tie
 

@@ -10,8 +10,8 @@ use Rattle.model.specs.Points.{transitionCase}
 use Rattle.cases.specs.Faces.{nineInside}
 use Rattle.cases.specs.Marks.{allTransition, markOf}
 use Rattle.cases.specs.RowPlaces.{row-fits}
-use Rattle.cases.proofs.Rows.{row-as}
-use Rattle.cases.proofs.Fine.{first-leads, Rows, rows-of, lined, nine-is}
+use Rattle.cases.specs.Rows.{row-as}
+use Rattle.cases.specs.Fine.{first-leads, Rows, rows-of, lined, nine-is}
 use borrow.Author.Needs.{needs}
 use Rattle.cases.proofs.transition.row.Statement.{statement}
 use Rattle.cases.proofs.transition.row.Tie as tie

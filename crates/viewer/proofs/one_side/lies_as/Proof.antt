@@ -1,16 +1,16 @@
--- `one_side::lies_as` meets its contract: the sample that is read is the record's.
+-- `one_side::lies_as` meets its contract: the sample that is read is the line's.
 use borrow.Author.Needs.{needs}
 use Rattle.viewer.proofs.one_side.lies_as.Statement.{statement}
 use Rattle.viewer.proofs.one_side.lies_as.Tie as tie
 
-sample-of-requires : tie.Need-sample-of-requires
-sample-of-requires c κs = search needs
+sample-on-requires : tie.Need-sample-on-requires
+sample-on-requires c κs = search needs
 
 inside-requires : tie.Need-inside-requires
 inside-requires c κs = search needs
 
 returns : tie.Need-returns
-returns c = rw (c .inside .ensures, c .before .sample-of .ensures)
+returns c = rw (c .inside .ensures, c .before .sample-on .ensures)
 
 pub lies-as-spec : {M : Type 1} → statement M
-lies-as-spec = tie.close (tie.spec sample-of-requires inside-requires returns)
+lies-as-spec = tie.close (tie.spec sample-on-requires inside-requires returns)

@@ -1,6 +1,6 @@
 -- `one_side::line_lies` meets its contract. The loop's invariant: every sample passed lies as wanted.
-use Prim.Native.Nat.{ℕ, _+_, _-_, _≤_, _<_}
-use mathlib.Core.Path.{_≡_, refl, sym, ap, _∙_}
+use Prim.Native.Nat.{ℕ, _-_, _≤_}
+use mathlib.Core.Path.{_≡_, refl, sym, _∙_}
 use mathlib.Core.Bool.{Bool, true}
 use mathlib.Core.List.{List}
 use native.Mathlib.Omega.{arith}
@@ -9,10 +9,10 @@ use lib.Ieee.{Float, nan}
 use lib.ListN.{getD}
 use Rattle.laws.specs.Below.{allBelow}
 use Rattle.laws.specs.Ranges.{hold-more, fail-all}
-use Rattle.model.specs.Record.{countOf, samplesOf}
+use Rattle.model.specs.Record.{samplesOf}
 use Rattle.model.specs.Blank.{liesAs}
-use Rattle.viewer.specs.declared.one_side.Line.{Line}
-use Rattle.viewer.specs.Lines.{placeOn, OnLine}
+use Rattle.lines.specs.declared.Line.{Line}
+use Rattle.lines.specs.Lines.{placeOn}
 use Rattle.viewer.proofs.one_side.line_lies.Statement.{statement}
 use Rattle.viewer.proofs.one_side.line_lies.Tie as tie
 
@@ -29,45 +29,26 @@ abbrev μ-loop : tie.MeasureT-loop
 abbrev tests : tie.Start Inv-loop μ-loop → ℕ → Bool
 tests e = test (e .args .src .now) (e .args .threshold) (e .args .wanted) (e .args .line)
 
-module _ (p : tie.After-along Inv-loop μ-loop) where
+-- a turn, from its test
+module _ (c : tie.In-loop Inv-loop μ-loop) where
   abbrev entry : tie.Start Inv-loop μ-loop
-  entry = p .before .before .before .before
+  entry = c .before .before .before
 
   abbrev k : ℕ
-  k = p .before .before .loop .k
-
-  in-line : k < entry .args .line .points
-  in-line = p .before .loop-test .taken
-
-  on : OnLine (countOf (entry .args .src .now)) (entry .args .line) k
-  on = entry .pre .1 k in-line
-
-  place-is : entry .args .line .start + p .along .result ≡ placeOn (entry .args .line) k
-  place-is = ap (λ (at : ℕ). entry .args .line .start + at) (p .along .ensures)
+  k = c .before .loop .k
 
 loop-holds : tie.Need-loop-holds Inv-loop μ-loop
 loop-holds c = (omega arith, refl)
 
-along-requires : tie.Need-along-requires Inv-loop μ-loop
-along-requires c κs = c .before .before .before .pre .1 (c .before .loop .k) (c .loop-test .taken) .leads
-
-add-place : tie.Need-add-place Inv-loop μ-loop
-add-place c = omega (arith, place-is (c .before), on (c .before) .there, entry (c .before) .pre .0 .counted)
-
 lies-as-requires : tie.Need-lies-as-requires Inv-loop μ-loop
-lies-as-requires c κs = (entry (c .before) .pre .0, omega (arith, place-is (c .before), on (c .before) .there))
-
--- what is found of a sample is what the test says
-told : (c : tie.After-lies-as Inv-loop μ-loop) → let p = c .before .before in c .lies-as .result ≡ tests (entry p) (k p)
-told c =
-    let p = c .before .before in
-    let a = entry p .args in
-    c .lies-as .ensures ∙ ap (λ (at : ℕ). liesAs (a .wanted) (a .threshold) (getD (samplesOf (a .src .now)) at nan)) (place-is p)
+lies-as-requires c κs = (entry c .pre .0, entry c .pre .1 (k c) (c .loop-test .taken))
 
 returns : tie.Need-returns Inv-loop μ-loop
 returns c =
-    let p = c .before .before .before in
-    sym (fail-all (tests (entry p)) (entry p .args .line .points) (k p) (in-line p) (sym (told (c .before)) ∙ not-true _ (c .if1 .taken)))
+    let here = c .before .before in
+    sym
+    (fail-all (tests (entry here)) (entry here .args .line .points) (k here) (here .loop-test .taken)
+    (sym (c .before .lies-as .ensures) ∙ not-true _ (c .if1 .taken)))
 
 add-k : tie.Need-add-k Inv-loop μ-loop
 add-k c = omega arith
@@ -77,9 +58,9 @@ loop-less c = omega arith
 
 loop-again : tie.Need-loop-again Inv-loop μ-loop
 loop-again c =
-    let p = c .before .before .before in
-    let turn = p .before .before .loop in
-    (omega arith, hold-more (tests (entry p)) (turn .k) (turn .inv .1) (sym (told (c .before)) ∙ not-false _ (c .if1 .left)))
+    let here = c .before .before in
+    let turn = here .before .loop in
+    (omega arith, hold-more (tests (entry here)) (turn .k) (turn .inv .1) (sym (c .before .lies-as .ensures) ∙ not-false _ (c .if1 .left)))
 
 returns-2 : tie.Need-returns-2 Inv-loop μ-loop
 returns-2 c =
@@ -93,8 +74,6 @@ line-lies-spec =
     Inv-loop
     μ-loop
     loop-holds
-    along-requires
-    add-place
     lies-as-requires
     returns
     add-k

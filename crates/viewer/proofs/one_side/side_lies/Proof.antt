@@ -4,26 +4,26 @@ use mathlib.Core.Path.{_≡_, refl, sym, ap, _∙_, subst}
 use mathlib.Core.Bool.{Bool, true}
 use mathlib.Core.List.{List}
 use native.Mathlib.Omega.{arith}
-use borrow.Author.Needs.{needs}
 use borrow.Author.Tests.{not-true, not-false}
 use Rattle.laws.specs.Below.{allBelow}
 use Rattle.laws.specs.Ranges.{hold-more, fail-all}
 use Rattle.model.specs.declared.Header.{Header}
 use Rattle.model.specs.Record.{countOf, samplesOf}
-use Rattle.viewer.specs.declared.one_side.Line.{Line}
-use Rattle.viewer.specs.Lines.{OnLine, lineAs, startOf, lineOf, line-found, SideLined, side-lined}
+use Rattle.lines.specs.declared.Line.{Line}
+use Rattle.lines.specs.Lines.{OnLine, fineLine}
+use Rattle.viewer.specs.Lines.{lineAs, SideLined, side-lined}
 use Rattle.viewer.proofs.one_side.side_lies.Statement.{statement}
 use Rattle.viewer.proofs.one_side.side_lies.Tie as tie
 
 -- whether a line of the side lies as wanted
 abbrev test : List ℕ → Header → Bool → ℕ → ℕ → Bool
-test src header wanted side u2 = lineAs wanted (header .threshold) (samplesOf src) (lineOf header side u2)
+test src header wanted side u2 = lineAs wanted (header .threshold) (samplesOf src) (fineLine header side u2)
 
 abbrev Inv-loop : tie.InvT-loop
-Inv-loop src header wanted side n fine points start walk step u2₀ u2 = (u2 ≤ points) × (allBelow (test src header wanted side) u2 ≡ true)
+Inv-loop src header wanted side points u2₀ u2 = (u2 ≤ points) × (allBelow (test src header wanted side) u2 ≡ true)
 
 abbrev μ-loop : tie.MeasureT-loop
-μ-loop src header wanted side n fine points start walk step u2₀ u2 = points - u2
+μ-loop src header wanted side points u2₀ u2 = points - u2
 
 abbrev Start : Type 0
 Start = tie.Start Inv-loop μ-loop
@@ -31,114 +31,73 @@ Start = tie.Start Inv-loop μ-loop
 lined : (e : Start) → SideLined (e .args .header) (e .args .side) (e .args .src .now)
 lined e = side-lined _ (e .pre .0 .0) _ (e .pre .0 .1) _ (e .pre .1 .0) (e .pre .1 .1)
 
-mul-fine : tie.Need-mul-fine Inv-loop μ-loop
-mul-fine c = omega (arith, lined (c .before) .few)
+mul-points : tie.Need-mul-points Inv-loop μ-loop
+mul-points c = omega (arith, lined (c .before .before) .is-side .few)
 
 add-points : tie.Need-add-points Inv-loop μ-loop
-add-points c = omega (arith, lined (c .before) .few)
-
-sample-length-requires : tie.Need-sample-length-requires Inv-loop μ-loop
-sample-length-requires c κs = omega (arith, lined (c .before) .few)
-
-count-below-requires : tie.Need-count-below-requires Inv-loop μ-loop
-count-below-requires c κs = search needs
-
-sample-length-requires-2 : tie.Need-sample-length-requires-2 Inv-loop μ-loop
-sample-length-requires-2 c κs = omega (arith, lined (c .before .before .before) .few)
-
-module _ (c : tie.After-sample-length2 Inv-loop μ-loop) where
-  abbrev entry : Start
-  entry = c .before .before .before .before
-
-  start-is : c .before .before .sample-length .result + c .before .count-below .result * c .sample-length2 .result
-      ≡ startOf (entry .args .header) (entry .args .side)
-  start-is = λ i. c .before .before .sample-length .ensures i + c .before .count-below .ensures i * c .sample-length2 .ensures i
-
-mul-start : tie.Need-mul-start Inv-loop μ-loop
-mul-start c = omega (arith, start-is c, lined (entry c) .part-in, entry c .pre .0 .0 .counted)
-
-add-start : tie.Need-add-start Inv-loop μ-loop
-add-start c = omega (arith, start-is c, lined (entry c) .part-in, entry c .pre .0 .0 .counted)
-
-face-walk-requires : tie.Need-face-walk-requires Inv-loop μ-loop
-face-walk-requires c κs =
-    let known = lined (entry c) in
-    (omega (arith, known .some), record { few = omega (arith, known .few); side-is = entry c .pre .1 .0; u-in = omega arith; v-in = omega arith; w-in = omega arith })
+add-points c = omega (arith, lined (c .before .before) .is-side .few)
 
 loop-holds : tie.Need-loop-holds Inv-loop μ-loop
 loop-holds c = (omega arith, refl)
 
-along-requires : tie.Need-along-requires Inv-loop μ-loop
-along-requires c κs =
-    let walked = c .before .before .before in
-    rw (walked .face-walk .ensures) (lined (entry (walked .before)) .leads (c .before .loop .u2) (omega (arith, c .loop-test .taken)))
-
--- a line of the side, whose first place is known
-module _ (p : tie.After-along Inv-loop μ-loop) where
-  abbrev walked : tie.After-face-walk Inv-loop μ-loop
-  walked = p .before .before .before .before
-
-  abbrev at : Start
-  at = entry (walked .before)
+-- a turn, from its test
+module _ (c : tie.In-loop Inv-loop μ-loop) where
+  abbrev entry : Start
+  entry = c .before .before .before .before
 
   abbrev u2 : ℕ
-  u2 = p .before .before .loop .u2
+  u2 = c .before .loop .u2
 
-  in-face : u2 < 2 * at .args .header .block .subdivisions + 1
-  in-face = p .before .loop-test .taken
+  in-face : u2 ≤ 2 * entry .args .header .block .subdivisions
+  in-face = omega (arith, c .loop-test .taken)
 
-  abbrev line : Line
-  line =
-      record {
-        start = walked .before .before .before .sample-length .result + walked .before .before .count-below .result * walked .before .sample-length2 .result;
-        first = p .along .result;
-        step = walked .face-walk .result .v;
-        points = 2 * at .args .header .block .subdivisions + 1;
-      }
-
-  line-is : line ≡ lineOf (at .args .header) (at .args .side) u2
-  line-is = line-found (at .args .header) (at .args .side) u2 (start-is (walked .before)) (walked .face-walk .ensures) (p .along .ensures)
+fine-line-requires : tie.Need-fine-line-requires Inv-loop μ-loop
+fine-line-requires c κs = (lined (entry c) .is-side, in-face c)
 
 line-lies-requires : tie.Need-line-lies-requires Inv-loop μ-loop
 line-lies-requires c κs =
-    let e = at c in (
+    let here = c .before in
+    let e = entry here in (
       e .pre .0 .0,
-      subst (λ (l : Line). (k : ℕ) → k < l .points → OnLine (countOf (e .args .src .now)) l k) (sym (line-is c))
-          (lined e .on-line (u2 c) (omega (arith, in-face c))),
+      subst (λ (l : Line). (k : ℕ) → k < l .points → OnLine (countOf (e .args .src .now)) l k) (sym (c .fine-line .ensures))
+          (lined e .on-line (u2 here) (in-face here)),
     )
 
 abbrev tests : Start → ℕ → Bool
 tests e = test (e .args .src .now) (e .args .header) (e .args .wanted) (e .args .side)
 
 -- what is found of a line is what the test says
-told : (c : tie.After-line-lies Inv-loop μ-loop) → c .line-lies .result ≡ tests (at (c .before)) (u2 (c .before))
+told : (c : tie.After-line-lies Inv-loop μ-loop) → let here = c .before .before in c .line-lies .result ≡ tests (entry here) (u2 here)
 told c =
-    let a = at (c .before) .args in
-    c .line-lies .ensures ∙ ap (lineAs (a .wanted) (a .header .threshold) (samplesOf (a .src .now))) (line-is (c .before))
+    let a = entry (c .before .before) .args in
+    c .line-lies .ensures ∙ ap (lineAs (a .wanted) (a .header .threshold) (samplesOf (a .src .now))) (c .before .fine-line .ensures)
 
 returns : tie.Need-returns Inv-loop μ-loop
 returns c =
-    let p = c .before .before in
+    let here = c .before .before .before in
+    let e = entry here in
     sym
-    (lined (at p) .side-is (at p .args .wanted)
-    ∙ fail-all (tests (at p)) (2 * at p .args .header .block .subdivisions + 1) (u2 p) (in-face p) (sym (told (c .before)) ∙ not-true _ (c .if1 .taken)))
+    (lined e .side-is (e .args .wanted)
+    ∙ fail-all (tests e) (2 * e .args .header .block .subdivisions + 1) (u2 here) (here .loop-test .taken) (sym (told (c .before)) ∙ not-true _ (c .if1 .taken)))
 
 add-u2 : tie.Need-add-u2 Inv-loop μ-loop
-add-u2 c = omega arith
+add-u2 c =
+    let here = c .before .before .before in
+    omega (arith, in-face here, lined (entry here) .is-side .few)
 
 loop-less : tie.Need-loop-less Inv-loop μ-loop
 loop-less c = omega arith
 
 loop-again : tie.Need-loop-again Inv-loop μ-loop
 loop-again c =
-    let p = c .before .before in
-    let turn = p .before .before .loop in
-    (omega arith, hold-more (tests (at p)) (turn .u2) (turn .inv .1) (sym (told (c .before)) ∙ not-false _ (c .if1 .left)))
+    let here = c .before .before .before in
+    let turn = here .before .loop in
+    (omega arith, hold-more (tests (entry here)) (turn .u2) (turn .inv .1) (sym (told (c .before)) ∙ not-false _ (c .if1 .left)))
 
 returns-2 : tie.Need-returns-2 Inv-loop μ-loop
 returns-2 c =
     let turn = c .before .loop in
-    let e = entry (c .before .before .before .before) in
+    let e = c .before .before .before .before in
     let end : turn .u2 ≡ 2 * e .args .header .block .subdivisions + 1 = omega arith in
     sym (lined e .side-is (e .args .wanted) ∙ rw end at (turn .inv .1))
 
@@ -148,16 +107,10 @@ side-lies-spec =
     (tie.spec
     Inv-loop
     μ-loop
-    mul-fine
+    mul-points
     add-points
-    sample-length-requires
-    count-below-requires
-    sample-length-requires-2
-    mul-start
-    add-start
-    face-walk-requires
     loop-holds
-    along-requires
+    fine-line-requires
     line-lies-requires
     returns
     add-u2

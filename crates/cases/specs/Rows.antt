@@ -1,10 +1,10 @@
--- A row is filled place by place, or sixteen at a time, and a sheet row by row.
-use Prim.Native.Nat.{ℕ, _+_, _-_, _<_}
-use mathlib.Core.Path.{_≡_, refl, ap, _∙_}
+-- A row is filled place by place, or sixteen at a time, and a sheet row by row; and the marks of a sheet.
+use Prim.Native.Nat.{ℕ, _+_, _-_, _*_, _<_}
+use mathlib.Core.Path.{_≡_, refl, sym, ap, _∙_}
 use mathlib.Core.Logic.{_≢_, _⊎_, inl, inr}
 use mathlib.Core.List.{List}
 use native.Mathlib.Decide.{decLt}
-use native.Mathlib.Nat.{eq-or-lt-of-le, le-of-suc-le-suc}
+use native.Mathlib.Nat.{zero-add, eq-or-lt-of-le, le-of-suc-le-suc}
 use native.Mathlib.Numerals.{add-one}
 use native.Mathlib.Omega.{arith}
 use lib.ListN.{getD, set, length}
@@ -12,6 +12,7 @@ use lib.Seq.{getD-set-same, getD-set-other}
 use Rattle.laws.specs.Steps.{listed}
 use Rattle.laws.specs.Lists.{getD-listed}
 use Rattle.cases.specs.Sheets.{rowStart, sideBySide, Sheet, RowPut}
+use Rattle.cases.specs.Marks.{markOf}
 use Rattle.cases.specs.RowPlaces.{row-before}
 
 module _ (case : ℕ → ℕ) (start : ℕ) where
@@ -83,3 +84,14 @@ module _ (case : ℕ → ℕ → ℕ) (n : ℕ) where
       at : (j k : ℕ) → (j ≡ y) ⊎ (j < y) → k < n → getD after (rowStart n j + k) 0 ≡ case j k
       at j k (inl e) l = rw e (put .filled k l)
       at j k (inr h) l = put .kept (rowStart n j + k) (row-before n j y k h (omega arith)) ∙ so-far .case-at j k h l
+
+-- the marks of a sheet
+pub marked-sheet : (all : ℕ) (case : ℕ → ℕ → ℕ) (n : ℕ) (cases before after : List ℕ) → Sheet case n n cases
+    → RowPut (λ i. markOf all (getD cases i 0)) 0 (n * (n + 1)) before after → Sheet (λ j k. markOf all (case j k)) n n after
+marked-sheet all case n cases before after sheet put =
+    record {
+      case-at = λ j k h l.
+          ap (λ (i : ℕ). getD after i 0) (sym (zero-add (rowStart n j + k)))
+          ∙ put .filled (rowStart n j + k) (omega (arith, row-before n j n k h (omega arith)))
+          ∙ ap (markOf all) (sheet .case-at j k h l);
+    }
