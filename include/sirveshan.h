@@ -70,7 +70,7 @@
  *    8  a face disagrees with its neighbour                 side; u; v
  *    9  index store too short                               places wanted
  *   10  vertices or triangles do not fit                    vertices wanted; triangles wanted
- *   11  record under 27 bytes, or its length field wrong
+ *   11  record under 27 bytes or cut, its length field wrong, or a run above 1,073,741,824 bytes
  *   12  record version not 1                                the byte
  *   13  record's samples not the count wanted               samples wanted
  *   14  a lent buffer too short                             places wanted
@@ -139,8 +139,8 @@ extern "C" {
 #define SIRVESHAN_HIGH_Z 32
 
 /*
- * Bytes of stack that are enough for any call, at n = 64 as at n = 1: about 47 KiB were measured (bindings/c/stack.c), and this
- * is rounded up.
+ * Bytes of stack that are enough for any call, at n = 64 as at n = 1: 59,967 bytes were measured (bindings/c/stack.c; the sheet
+ * takes the most), and this is rounded up.
  */
 #define SIRVESHAN_STACK 65536
 
@@ -348,6 +348,46 @@ typedef struct sirveshan_sampled {
 } sirveshan_sampled;
 
 sirveshan_sampled sirveshan_sample_kind(const uint8_t *src, size_t length, int32_t x, int32_t y, int32_t z);
+
+/*
+ * The sheet of a run: records laid end to end by their length fields, SIRVESHAN_MOST_RUN bytes at most. A line a record, and their
+ * total. All figures are counted from the samples in the record's bytes: no mesh is made, no buffer lent and nothing written.
+ */
+#define SIRVESHAN_MOST_RUN ((size_t)1073741824)
+
+typedef struct sirveshan_figures {
+    uint64_t inside;                    /* inside samples among the (n+1)^3 of the block itself */
+    uint64_t x_edges, y_edges, z_edges; /* crossing grid edges along x, y and z: of its two samples one is inside and the other not */
+    uint64_t vertices, triangles;       /* what sirveshan_extract makes of the record's block */
+} sirveshan_figures;
+
+/*
+ * The line of the record that begins at a place of the run. next is where the next record begins, always above at; 0 where there is no
+ * line: then at is the run's end or beyond it (refused.number 0), or the run is longer than SIRVESHAN_MOST_RUN (11). So
+ *
+ *     for (size_t at = 0; (line = sirveshan_sheet_line(run, length, at)).next; at = line.next)
+ *
+ * goes through all lines. Judged are 11, 12, 1, 2, 3, 13, 7, 8, in that order. A record that is cut, with fewer than four bytes left or
+ * fewer than its length field tells, is refused by 11 and ends the run: it has all bytes that are left. On a refusal the figures are 0.
+ */
+typedef struct sirveshan_line {
+    sirveshan_refusal refused;
+    sirveshan_figures figures;
+    size_t next;
+} sirveshan_line;
+
+sirveshan_line sirveshan_sheet_line(const uint8_t *run, size_t length, size_t at);
+
+/*
+ * The figures of all records of a run that are not refused, added up. No figure can leave its 64 bits. A run longer than
+ * SIRVESHAN_MOST_RUN is refused by 11; an empty one has figures of 0.
+ */
+typedef struct sirveshan_total {
+    sirveshan_refusal refused;
+    sirveshan_figures figures;
+} sirveshan_total;
+
+sirveshan_total sirveshan_sheet_total(const uint8_t *run, size_t length);
 
 #ifdef __cplusplus
 }

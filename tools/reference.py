@@ -16,9 +16,14 @@ As a command, one record on standard input:
     python3 tools/reference.py store             the index store, a place a line
     python3 tools/reference.py viewer [X Y Z]    subdivisions, blank, sample
     python3 tools/reference.py stl               the mesh as an STL file
+
+and a run of records on standard input:
+
+    python3 tools/reference.py sheet             its sheet, as `sirveshan sheet --csv` prints it
 """
 
 import functools
+import itertools
 import math
 import struct
 import sys
@@ -38,6 +43,8 @@ STL_MOST_TRIANGLES = 4294967295
 STL_START = 84
 STL_TRIANGLE = 50
 NAN = 0x7FC00000
+
+SHEET_BYTES = 1073741824
 
 LISTING_BYTES = 65536
 LISTING_STORE = 15552
@@ -780,6 +787,68 @@ def first_points(sizes, n):
     return [(a, b, c) for c in z for b in y for a in x]
 
 
+# The sheet: document 02, [2]
+
+class Figures(NamedTuple):
+    inside: int
+    x_edges: int
+    y_edges: int
+    z_edges: int
+    vertices: int
+    triangles: int
+
+
+def figures_of(block):
+    """The figures of a block that passes 1 to 8; its vertices and triangles are those of its mesh."""
+    field, coordinates = Field(block), range(block.n + 1)
+    is_inside = {point: inside(field.centre(point), field.threshold)
+                 for point in itertools.product(coordinates, repeat=3)}
+
+    def crossing(axis):
+        ends = ((low, tuple(low[k] + (k == axis) for k in range(3))) for low in is_inside)
+        return sum(is_inside[low] != is_inside[high] for low, high in ends if high in is_inside)
+
+    mesh = mesh_of(block)
+    return Figures(sum(is_inside.values()), *(crossing(axis) for axis in range(3)),
+                   len(mesh.vertices), len(mesh.triangles))
+
+
+def record_line(record):
+    """The figures of a record or its refusal: the reader's, then 8."""
+    block = parse(record)
+    if isinstance(block, Refusal):
+        return block
+    return refuse_face_mismatch(block) or figures_of(block)
+
+
+def sheet_line(run, at):
+    """The line of the record that begins at a place and where the next one begins; None where the run ends; a refusal of the whole run."""
+    if len(run) > SHEET_BYTES:
+        return Refusal(11)
+    if at >= len(run):
+        return None
+    end = at + 4 + int.from_bytes(run[at:at + 4], "big")
+    if len(run) - at < 4 or end > len(run):
+        return Refusal(11), len(run)
+    return record_line(run[at:end]), end
+
+
+def sheet(run):
+    """The lines of a run, each figures or a refusal."""
+    lines, at = [], 0
+    while at < len(run):
+        line, at = sheet_line(run, at)
+        lines.append(line)
+    return lines
+
+
+def sheet_total(run):
+    if len(run) > SHEET_BYTES:
+        return Refusal(11)
+    counted = [line for line in sheet(run) if isinstance(line, Figures)]
+    return Figures(*(sum(column) for column in zip(*counted))) if counted else Figures(0, 0, 0, 0, 0, 0)
+
+
 # The viewer's calls
 
 def viewer_subdivisions(record):
@@ -900,6 +969,18 @@ def viewer_text(record, point):
     return "\n".join(lines) + "\n"
 
 
+def sheet_text(run):
+    """A head line, a line a record and the total."""
+    if len(run) > SHEET_BYTES:
+        return listing_text(Refusal(11), [], [])
+    rows = [["record", "refusal", "first", "second", "third", *Figures._fields]]
+    for number, line in enumerate(sheet(run)):
+        refused = isinstance(line, Refusal)
+        rows.append([number, *(line if refused else (0, 0, 0, 0)), *([""] * 6 if refused else line)])
+    rows.append(["total", "", "", "", "", *sheet_total(run)])
+    return "".join(",".join(map(str, row)) + "\n" for row in rows)
+
+
 def put_stl(record):
     mesh = accepted_mesh(record)
     if isinstance(mesh, Refusal):
@@ -908,7 +989,7 @@ def put_stl(record):
 
 
 def main(arguments):
-    texts = {"listing": listing, "mesh": mesh_text, "store": store_text}
+    texts = {"listing": listing, "mesh": mesh_text, "store": store_text, "sheet": sheet_text}
     command, *point = arguments or [""]
     if arguments == ["stl"]:
         put_stl(sys.stdin.buffer.read())

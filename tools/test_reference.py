@@ -1,5 +1,5 @@
 #!/usr/bin/env python3
-"""Document 01's figures, case A and refusals, document 02's STL, blank, reads and cut blocks, asked of tools/reference.py; the example records.
+"""Document 01's figures, case A and refusals, document 02's STL, blank, reads, cut blocks and the sheet, asked of tools/reference.py; the example records.
 
     python3 tools/test_reference.py
 """
@@ -353,6 +353,46 @@ class Cut(unittest.TestCase):
         self.assertEqual(reference.first_points((4, 3, 5), 2), [(0, 0, 0), (2, 0, 0), (0, 0, 2), (2, 0, 2)])
         self.assertEqual(reference.first_points((1, 2, 3), 2), [(0, 0, 0)])
         self.assertEqual(len(reference.first_points((512, 512, 512), 16)), 32 ** 3)
+
+
+class Sheet(unittest.TestCase):
+    CORNER = reference.Figures(1, 1, 1, 1, 3, 1)
+
+    def test_figures(self):
+        self.assertEqual(reference.figures_of(case_a()), self.CORNER)
+        self.assertEqual(reference.figures_of(flat_block(2)), reference.Figures(0, 0, 0, 0, 0, 0))
+        self.assertEqual(reference.figures_of(flat_block(2, sample=ONE)), reference.Figures(27, 0, 0, 0, 0, 0))
+
+    def test_edges_by_axis(self):
+        for axis in range(3):
+            block = records.sampled_block(lambda *point: point[axis] - 1.5, 3, 0)
+            edges = [16 if k == axis else 0 for k in range(3)]
+            self.assertEqual(reference.figures_of(block)[1:4], tuple(edges))
+
+    def test_crossing_edges_are_those_that_carry(self):
+        for block in (case_a(), records.sampled_block(lambda x, y, z: x * y - z - 0.25, 4, 0)):
+            made = {tuple(vertex[:3]) for vertex in reference.mesh_of(block).vertices}
+            self.assertEqual(sum(reference.figures_of(block)[1:4]), len(made))
+
+    def test_lines(self):
+        good = reference.record_of(case_a())
+        run = good + with_byte(good, 4, 2) + bytes(4) + good + good[:-1]
+        refused = [Refusal(12, 2), Refusal(11), Refusal(11)]
+        self.assertEqual(reference.sheet(run), [self.CORNER, *refused[:2], self.CORNER, refused[2]])
+        self.assertEqual(reference.sheet_total(run), reference.Figures(2, 2, 2, 2, 6, 2))
+        self.assertEqual(reference.sheet_line(run, len(good)), (Refusal(12, 2), 2 * len(good)))
+        self.assertIsNone(reference.sheet_line(run, len(run)))
+
+    def test_cut(self):
+        good = reference.record_of(case_a())
+        for left in (1, 3, 4, 26, len(good) - 1):
+            self.assertEqual(reference.sheet(good + good[:left]), [self.CORNER, Refusal(11)])
+        self.assertEqual(reference.sheet(b""), [])
+        self.assertEqual(reference.sheet_total(b""), reference.Figures(0, 0, 0, 0, 0, 0))
+
+    def test_eight_after_the_reader(self):
+        apart = flat_block(mask=1)._replace(neighbours=[ONE] * reference.neighbours_length(1, 1))
+        self.assertEqual(reference.sheet(reference.record_of(apart)), [Refusal(8, 0, 0, 0)])
 
 
 class Viewer(unittest.TestCase):

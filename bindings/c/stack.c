@@ -59,6 +59,9 @@ static void *calls(void *unused)
                         sizeof positions / 4);
     if (cut.refused.number != 0)
         abort();
+    if (sirveshan_sheet_line(bytes, written.length, 0).figures.vertices != meshed.vertices ||
+        sirveshan_sheet_total(bytes, written.length).figures.triangles != meshed.triangles)
+        abort();
     for (k = 0; low[k] == PAINT; k++)
         ;
     used = (size_t)((uint8_t *)&here - (low + k));

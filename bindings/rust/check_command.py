@@ -166,7 +166,7 @@ def check_refused_header_is_told():
 
 def check_input_that_is_not_there():
     with tempfile.TemporaryDirectory() as folder:
-        for words in (["mesh"], ["info"], ["sample"]):
+        for words in (["mesh"], ["info"], ["sample"], ["sheet"]):
             rest = [0, 0, 0] if words == ["sample"] else []
             bad_usage(run(*words, Path(folder) / "none", *rest))
             bad_usage(run(*words, folder, *rest))
@@ -177,16 +177,17 @@ def check_bad_usage():
     for words in ([], ["draw", record], ["--mesh"], ["mesh"], ["mesh", record, record], ["mesh", record, "--plain"],
                   ["mesh", record, "--jobs"], ["mesh", record, "--jobs", "0"], ["mesh", record, "--jobs", "many"],
                   ["mesh", record, "--jobs=257"], ["info"], ["info", record, "--jobs", 2], ["sample", record],
+                  ["sheet"], ["sheet", record, record], ["sheet", record, "--plain"], ["sheet", record, "--jobs", "0"],
                   ["sample", record, 0, 0], ["sample", record, 0, 0, "up"], ["sample", record, 0, 0, 2 ** 31],
                   ["sample", record, 0, 0, 0, 0]):
         bad_usage(run(*words))
 
 
 def check_help_and_version():
-    for words in (["--help"], ["-h"], ["help"], ["mesh", "--help"], ["stl", "--help"], ["info", "--help"], ["sample", "--help"]):
+    for words in (["--help"], ["-h"], ["help"], ["mesh", "--help"], ["stl", "--help"], ["info", "--help"], ["sample", "--help"], ["sheet", "--help"]):
         done = run(*words)
         same("status", (done.returncode, done.stderr), (0, b""))
-        assert b"sirveshan" in done.stdout and b"RECORD" in done.stdout, done.stdout
+        assert b"sirveshan" in done.stdout and re.search(rb"RECORD|RUN", done.stdout), done.stdout
     done = run("--version")
     same("status", (done.returncode, done.stderr), (0, b""))
     assert re.fullmatch(rb"sirveshan \d+\.\d+\.\d+\n", done.stdout), done.stdout
@@ -195,7 +196,7 @@ def check_help_and_version():
 def check_full_disk():
     record = EXAMPLES / "face.record"
     for words in (["mesh", record], ["mesh", record, "--summary"], ["stl", record, "-o", "-"], ["info", record], ["info", record, "--plain"],
-                  ["sample", record, 0, 0, 0], ["--help"], ["--version"]):
+                  ["sample", record, 0, 0, 0], ["sheet", record], ["sheet", record, "--csv"], ["--help"], ["--version"]):
         with open("/dev/full", "wb") as full:
             done = subprocess.run([*COMMAND, *map(str, words)], stdout=full, stderr=subprocess.PIPE, timeout=DEADLINE)
         same("%s: status" % words, done.returncode, 3)
@@ -456,6 +457,76 @@ def check_gradient_reads():
         kinds = [line.split(", ")[-1].split()[0] for line in said.stdout.decode().splitlines()[1:]]
         same("kinds", kinds, [line.split()[1] for line in lines])
     refused(run("sample", "-", -1, 0, 0, "--gradient", given=record), reference.Refusal(15, 1))
+
+
+# The sheet
+
+def sheet_table(given):
+    """The sheet of a run that has no refused record, in columns."""
+    columns = reference.Figures._fields
+    lines = ["  record" + "".join("%14s" % name.replace("_", " ") for name in columns)]
+    for number, line in enumerate(reference.sheet(given)):
+        lines.append("%8d" % number + "".join("%14d" % figure for figure in line))
+    lines.append("%8s" % "total" + "".join("%14d" % figure for figure in reference.sheet_total(given)))
+    return "".join(line + "\n" for line in lines)
+
+
+def check_sheet_of_good_records():
+    given = b"".join(some_records() + [path.read_bytes() for path in sorted(EXAMPLES.glob("*.record"))])
+    for jobs in (1, 3):
+        accepted(run("sheet", "-", "--jobs", jobs, given=given), sheet_table(given))
+        accepted(run("sheet", "-", "--csv", "--jobs", jobs, given=given), reference.sheet_text(given))
+    with tempfile.NamedTemporaryFile() as file:
+        file.write(given)
+        file.flush()
+        accepted(run("sheet", file.name), sheet_table(given))
+
+
+def check_sheet_of_nothing():
+    accepted(run("sheet", "-", given=b""), sheet_table(b""))
+    accepted(run("sheet", "-", "--csv", given=b""), reference.sheet_text(b""))
+
+
+def check_sheet_of_a_run_with_refused_records():
+    parts = list(run_of(random.Random(12), 300)) + [bytes(4), mismatch(), mismatch()[:40]]
+    given = b"".join(parts)
+    lines = reference.sheet(given)
+    same("lines", len(lines), len(parts))
+    refusals = [(k, "refused %d %d %d %d" % line) for k, line in enumerate(lines) if isinstance(line, reference.Refusal)]
+    assert {line[0] for line in lines if isinstance(line, reference.Refusal)} >= {1, 2, 3, 7, 8, 11, 12, 13}
+    for jobs in (2, 1, 7):
+        done = run("sheet", "-", "--csv", "--jobs", jobs, given=given)
+        same("status", done.returncode, 1)
+        same("sheet", done.stdout.decode(), reference.sheet_text(given))
+        told = done.stderr.decode().splitlines()
+        same("refusals", [(int(re.search(r"\(record (\d+)\)$", line)[1]), line.split(":")[0]) for line in told], refusals)
+    done = run("sheet", "-", given=given)
+    same("status", (done.returncode, done.stderr), (1, b""))
+    table = done.stdout.decode().splitlines()
+    same("lines of the table", len(table), len(lines) + 2)
+    for k, refusal in refusals:
+        assert re.fullmatch(r" *%d  %s: .*[a-z]{3}.*" % (k, refusal), table[k + 1]), table[k + 1]
+    same("total", [int(word) for word in table[-1].split()[1:]], list(reference.sheet_total(given)))
+
+
+def check_sheet_that_is_too_long():
+    """A run one byte too long, which is a file with no data in it."""
+    with tempfile.NamedTemporaryFile() as file:
+        file.truncate(reference.SHEET_BYTES + 1)
+        refused(run("sheet", file.name), reference.Refusal(11))
+        refused(run("sheet", file.name, "--csv"), reference.Refusal(11))
+
+
+def check_sheet_holds_no_run():
+    """The longest run, one record of zeros, in a file that has no data after its first bytes."""
+    with tempfile.NamedTemporaryFile() as file:
+        file.write(struct.pack(">IBB", reference.SHEET_BYTES - 4, 1, 1))
+        file.truncate(reference.SHEET_BYTES)
+        done = run("sheet", file.name, preexec_fn=little_memory)
+        same("status", (done.returncode, done.stderr), (1, b""))
+        table = done.stdout.decode().splitlines()
+        same("its line", table[1].split(":")[0].split(), ["0", "refused", "3", "3", "0", "0"])
+        same("its lines", len(table), 3)
 
 
 # STL files
@@ -807,7 +878,9 @@ def check_progress_on_a_terminal():
         written, said_of_file = on_a_terminal("stl", "-", "-o", "-", given=record * count)
         same("listing", listed, text * count)
         same("file", written, file[:80] + struct.pack("<I", count) + file[84:] * count)
-        for said in (said_of_listing, said_of_file):
+        sheet, said_of_sheet = on_a_terminal("sheet", "-", given=record * count)
+        same("sheet", sheet.decode(), sheet_table(record * count))
+        for said in (said_of_listing, said_of_file, said_of_sheet):
             same("progress for %d" % count, b" records" in said, shown)
             if shown:
                 assert said.endswith(b"\r\x1b[K"), said[-40:]

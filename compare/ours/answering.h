@@ -61,3 +61,33 @@ static inline void put_last(const void *buffer, size_t bytes)
     if (fflush(stdout))
         fail("cannot write");
 }
+
+/* What reading a record and meshing it tells: the number of the refusal, 0 for none, and the mesh's counts. */
+struct told {
+    uint64_t refused, vertices, triangles;
+};
+
+/* Asked with no room: 10 tells the counts, and a mesh of nothing needs none. */
+static inline struct told mesh_told(const uint8_t *record, size_t length)
+{
+    struct told told = {0, 0, 0};
+    float *samples = room(length);
+    sirveshan_read_answer read = sirveshan_read(record, length, samples, length / 4);
+    sirveshan_header h = read.header;
+    told.refused = read.refused.number;
+    if (!told.refused) {
+        size_t own = SIRVESHAN_CENTRE_LENGTH(h.subdivisions), places = SIRVESHAN_STORE_LENGTH(h.subdivisions);
+        uint32_t *store = room(4 * places);
+        sirveshan_extracted made = sirveshan_extract(h, samples, own, samples + own, SIRVESHAN_NEIGHBOURS_LENGTH(h.subdivisions, h.mask),
+                                                     store, places, NULL, 0, NULL, 0);
+        if (made.refused.number == 10) {
+            told.vertices = made.refused.first;
+            told.triangles = made.refused.second;
+        } else {
+            told.refused = made.refused.number;
+        }
+        free(store);
+    }
+    free(samples);
+    return told;
+}

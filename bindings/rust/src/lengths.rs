@@ -18,6 +18,9 @@ pub const STL_TRIANGLE: usize = 50;
 /// The largest size of a raw volume along an axis.
 pub const MOST_ACROSS: usize = 1024;
 
+/// The most bytes of a run that has a sheet.
+pub const MOST_RUN: usize = 1_073_741_824;
+
 /// How many samples a block of `subdivisions` has: the points of its grid, and one more layer at
 /// each of its six faces.
 ///

@@ -1,6 +1,6 @@
 //! The C face of the proved library, as include/sirveshan.h declares it. Only this crate's own files call it.
 
-use crate::{Block, Header, Refusal};
+use crate::{Block, Figures, Header, Refusal};
 
 #[repr(C)]
 #[derive(Clone, Copy)]
@@ -62,6 +62,27 @@ pub struct Sampled {
     pub kind: usize,
 }
 
+#[repr(C)]
+pub struct CFigures {
+    inside: u64,
+    edges: [u64; 3],
+    vertices: u64,
+    triangles: u64,
+}
+
+#[repr(C)]
+pub struct LineTold {
+    pub refused: CRefusal,
+    pub figures: CFigures,
+    pub next: usize,
+}
+
+#[repr(C)]
+pub struct TotalTold {
+    pub refused: CRefusal,
+    pub figures: CFigures,
+}
+
 extern "C" {
     pub fn sirveshan_subdivisions(src: *const u8, length: usize) -> u64;
     pub fn sirveshan_blank(src: *const u8, length: usize) -> u64;
@@ -118,11 +139,20 @@ extern "C" {
         samples: *mut f32,
         samples_length: usize,
     ) -> SamplesCut;
+    pub fn sirveshan_sheet_line(run: *const u8, length: usize, at: usize) -> LineTold;
+    pub fn sirveshan_sheet_total(run: *const u8, length: usize) -> TotalTold;
 }
 
 impl From<[usize; 3]> for CPoint {
     fn from(axes: [usize; 3]) -> CPoint {
         CPoint { axes }
+    }
+}
+
+impl From<CFigures> for Figures {
+    fn from(figures: CFigures) -> Figures {
+        let CFigures { inside, edges, vertices, triangles } = figures;
+        Figures { inside, edges, vertices, triangles }
     }
 }
 

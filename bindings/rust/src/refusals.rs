@@ -22,7 +22,7 @@ pub(crate) fn words(number: u32, [first, second, third]: [usize; 3]) -> Option<S
         8 => format!("side {} disagrees with its neighbour at u {second}, v {third}", name(&SIDE, first)),
         9 => format!("the index store needs {first} places"),
         10 => format!("room is wanted for {first} vertices and {second} triangles"),
-        11 => "the record is under 27 bytes, or its length field is wrong".to_string(),
+        11 => "the record is under 27 bytes or cut, its length field is wrong, or the run is above 1,073,741,824 bytes".to_string(),
         12 => format!("record version {first}: not 1"),
         13 => format!("the record needs {first} samples"),
         14 => format!("the lent buffer needs {first} places"),

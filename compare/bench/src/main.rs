@@ -4,6 +4,7 @@ mod before;
 mod blank;
 mod faces;
 mod ours;
+mod sheet;
 mod stl;
 mod volume;
 
@@ -23,6 +24,7 @@ bench parts [N]                           where our time goes, at n = 16 or the 
 bench stl                                 STL files: writing and reading against a copy of the same bytes
 bench blank                               the viewer's question whether a block is blank
 bench volume [SIZE]                       a raw volume of SIZE samples a side (512) cut whole, against reading its file once
+bench sheet                               the sheet of a run against extraction of the same blocks
 bench ours|before|rust TIMES N MASK FACE  meshes one block that often and prints nothing
                                           (FACE: smooth, wavy, noisy); compare/instructions counts it";
 const SIZES: [usize; 3] = [4, 8, 16];
@@ -191,6 +193,7 @@ fn run(words: &[&str]) -> Outcome {
         ["blank"] => blank::table(),
         ["volume"] => volume::table(512),
         ["volume", size] => volume::table(number(size)?),
+        ["sheet"] => sheet::table(),
         ["parts"] => parts(16),
         ["parts", n] => parts(number(n)?),
         ["ours" | "before" | "rust", times, n, mask, face @ ("smooth" | "wavy" | "noisy")] => {

@@ -14,6 +14,7 @@ mod mesh;
 mod output;
 mod progress;
 mod sample;
+mod sheet;
 mod stl;
 mod stl_check;
 mod summary;
@@ -33,15 +34,21 @@ struct Command {
     run: fn(Arguments) -> Result<(), Failure>,
 }
 
-const COMMANDS: &[&Command] =
-    &[&mesh::COMMAND, &stl::COMMAND, &cut::COMMAND, &info::COMMAND, &sample::COMMAND];
+const COMMANDS: &[&Command] = &[
+    &mesh::COMMAND,
+    &stl::COMMAND,
+    &cut::COMMAND,
+    &sheet::COMMAND,
+    &info::COMMAND,
+    &sample::COMMAND,
+];
 
 const ABOUT: &str = "\
 RECORD is the file of a block record, or - for standard input.
 
 Exit status: 0 done; 1 a record or a cut was refused: a line `refused N A B C: ` and the words on
-standard error, with the refusal's number and its three numbers; 2 bad usage, or an input that can't
-be read; 3 output that can't be written.
+standard error (in the table itself for a sheet), with the refusal's number and its three numbers; 2
+bad usage, or an input that can't be read; 3 output that can't be written.
 
 sirveshan COMMAND --help tells of one command, sirveshan --version which version this is.
 ";
