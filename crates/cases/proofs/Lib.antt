@@ -1,2 +1,4 @@
+mod Rows
+mod Lines
 mod Marking
 mod Pairing

@@ -1,4 +1,4 @@
--- A layer of points among the samples, pairs of two layers, and that the case numbers that are made of pairs are the model's.
+-- Pairs of two layers of points, and that the case numbers that are made of pairs are the model's.
 use Prim.Native.Nat.{ℕ, _+_, _-_, _*_, _/_, _%_, _≤_, _<_}
 use mathlib.Core.Path.{_≡_, sym, ap, _∙_}
 use mathlib.Core.List.{List}
@@ -6,61 +6,36 @@ use native.Mathlib.Decide.{decLt}
 use native.Mathlib.Nat.{zero-add, mul-le-mul-left, mod-lt, div-add-mod}
 use native.Mathlib.Omega.{arith}
 use lib.Ieee.{Float, nan}
-use lib.ListN.{getD, length, take, drop, length-take, length-drop}
-use lib.Seq.{getD-take, getD-drop}
-use Rattle.model.specs.declared.PlaceKind.the-variants.{InBlock}
+use lib.ListN.{getD, length}
 use Rattle.model.specs.declared.Reading.{Reading}
-use Rattle.model.specs.declared.Reading.the-variants.{Value}
-use Rattle.model.specs.Samples.{inBlock, readingAt, valueOf, valueAt}
-use Rattle.model.specs.Rotations.{xyz}
+use Rattle.model.specs.Samples.{valueOf, valueAt}
 use Rattle.model.specs.Formulas.{insideBit}
 use Rattle.model.specs.Star.{Star, subdivisions}
 use Rattle.model.specs.Points.{regularCase}
-use Rattle.grid.specs.Kinds.{inBlockReading, in-block-reading}
-use Rattle.cases.specs.Sheets.{rowStart, Sheet, RowPut}
+use Rattle.cases.specs.Sheets.{rowStart, Sheet, RowPut, Plane}
 use Rattle.cases.specs.Pairs.{pointBit, pairedWith, Upper, Pairs, ofPairs, Small}
 use Rattle.cases.specs.Numbers.{bit-small}
 use Rattle.cases.specs.RowPlaces.{row-before}
-use Rattle.cases.specs.Lines.{fourCorners, eight-are}
+use Rattle.cases.proofs.Lines.{fourCorners, eight-are}
 
 -- ---- a layer of points
 
-module _ (s : Star) (x start end : ℕ) (hx : x ≤ subdivisions s) (starts : start ≡ inBlock (subdivisions s) x 0 0)
-    (ends : end ≡ start + (subdivisions s + 1) * (subdivisions s + 1)) (fits : end ≤ length (s .centre)) where
+module _ (s : Star) (x : ℕ) (layer : List Float) (p : Plane s x layer) where
   abbrev n : ℕ
   n = subdivisions s
 
-  abbrev layer : List Float
-  layer = take (end - start) (drop start (s .centre))
-
-  long : end - start ≡ (n + 1) * (n + 1)
-  long = omega arith
-
-  pub layer-long : length layer ≡ (n + 1) * (n + 1)
-  layer-long = rw long (simp (length-take, length-drop) (omega arith))
-
-  -- what is read from it are the points (x, y, z), each in the block
-  layer-reads : (y z : ℕ) → y ≤ n → z ≤ n → inBlockReading layer (rowStart n y + z) ≡ readingAt n (s .centre) (x + 1) (y + 1) (z + 1)
-  layer-reads y z hy hz =
-      let i = rowStart n y + z in
-      let e : start + i ≡ inBlock n x y z = omega arith in
-      let l : i < end - start = omega (arith, long, row-before n y (n + 1) z (omega arith) hz) in
-      ap (λ (v : Float). Value v InBlock)
-      (getD-take (end - start) (drop start (s .centre)) i nan l ∙ getD-drop start (s .centre) i nan ∙ ap (λ (k : ℕ). getD (s .centre) k nan) e)
-      ∙ sym (in-block-reading n (s .centre) (xyz x y z) (record { x-in = hx; y-in = hy; z-in = hz }))
-
   point-is : (y z : ℕ) → y ≤ n → z ≤ n → insideBit (s .threshold) (getD layer (rowStart n y + z) nan) ≡ pointBit s x y z
   unfolding valueAt
-  point-is y z hy hz = ap (λ (r : Reading). insideBit (s .threshold) (valueOf r)) (layer-reads y z hy hz)
+  point-is y z hy hz = ap (λ (r : Reading). insideBit (s .threshold) (valueOf r)) (p .reading-at y z hy hz)
 
   -- its points become the second of each pair
-  pub pairs-made : (low : ℕ → ℕ → ℕ) (before after : List ℕ) → Upper n low before
+  pub pairs-made : length layer ≡ (n + 1) * (n + 1) → (low : ℕ → ℕ → ℕ) (before after : List ℕ) → Upper n low before
       → RowPut (pairedWith (s .threshold) layer before) 0 (length layer) before after → Pairs n low (pointBit s x) after
-  pairs-made low before after upper put =
+  pairs-made long low before after upper put =
       record {
         pair-at = λ y z hy hz.
             let i = rowStart n y + z in
-            let l : i < length layer = omega (arith, layer-long, row-before n y (n + 1) z (omega arith) hz) in
+            let l : i < length layer = omega (arith, long, row-before n y (n + 1) z (omega arith) hz) in
             ap (λ (k : ℕ). getD after k 0) (sym (zero-add i)) ∙ put .filled i l
             ∙ (λ j. upper .upper-at y z hy hz j + 2 * point-is y z hy hz j);
       }

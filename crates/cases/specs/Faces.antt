@@ -1,10 +1,12 @@
--- The three lines of fine samples that a row of transition cells lies on, each at a fixed step along v. Definitions only.
-use Prim.Native.Nat.{ℕ, _+_, _*_, _<_}
+-- The three lines of fine samples that a row of transition cells lies on, each at a fixed step along v, and the rows of a walk. Definitions only.
+use Prim.Native.Nat.{ℕ, _+_, _*_, _≤_, _<_}
+use mathlib.Core.Path.{_≡_}
 use mathlib.Core.List.{List}
 use lib.Ieee.{Float, nan}
 use lib.ListN.{getD}
 use Rattle.model.specs.Formulas.{insideBit}
 use Rattle.grid.specs.declared.face_walk.Stride.{Stride}
+use Rattle.grid.specs.declared.face_walk.FaceWalk.{FaceWalk}
 use Rattle.grid.specs.Walks.{alongBy, Leads}
 use Rattle.cases.specs.declared.transition.Lines.{Lines}
 
@@ -33,3 +35,24 @@ abbrev pub nineInside : Float → List Float → Lines → ℕ → ℕ
 nineInside t fine l v =
     threeInside t fine l (2 * v) 0x01 0x02 0x04 + threeInside t fine l (2 * v + 1) 0x80 0x100 0x08
     + threeInside t fine l (2 * v + 2) 0x40 0x20 0x10
+
+-- ---- rows of cells, by a walk over the face
+
+-- the lines that row u lies on
+abbrev pub linesAt : FaceWalk → ℕ → Lines
+linesAt walk u =
+    record {
+      a = alongBy (walk .first) (walk .u) (2 * u);
+      b = alongBy (walk .first) (walk .u) (2 * u + 1);
+      c = alongBy (walk .first) (walk .u) (2 * u + 2);
+      step = walk .v;
+    }
+
+-- the places on those of the first rows are among so many
+pub record Walked (held n : ℕ) (walk : FaceWalk) (rows : ℕ) : Type 0 where
+  pub leads : (u2 : ℕ) → u2 ≤ 2 * rows → Leads (walk .first) (walk .u) u2
+  pub lined : (u v2 : ℕ) → u < rows → v2 ≤ 2 * n → Lined held (linesAt walk u) v2
+
+-- the numbers of the cells in the first rows are those of a sheet's rows from one on
+pub record OnWalk (case : ℕ → ℕ → ℕ) (t : Float) (fine : List Float) (n : ℕ) (walk : FaceWalk) (rows at : ℕ) : Type 0 where
+  pub number : (u v : ℕ) → u < rows → v < n → nineInside t fine (linesAt walk u) v ≡ case (at + u) v

@@ -1,8 +1,8 @@
--- The three lines of fine samples at a row of transition cells, and that the cells' numbers are the model's.
+-- The lines of fine samples at the rows of a side's transition cells, and that the cells' numbers are the model's.
 use Prim.Native.Nat.{ℕ, _+_, _*_, _≤_, _<_}
-use mathlib.Core.Path.{_≡_, refl, _∙_}
+use mathlib.Core.Path.{_≡_, sym, ap, _∙_}
 use mathlib.Core.List.{List}
-use native.Mathlib.Nat.{add-zero}
+use native.Mathlib.Nat.{add-zero, zero-add}
 use native.Mathlib.Omega.{arith}
 use lib.Ieee.{Float, nan}
 use lib.ListN.{getD}
@@ -13,9 +13,9 @@ use Rattle.model.specs.Star.{Star, subdivisions, neighbourAt}
 use Rattle.model.specs.Points.{fineSample, transitionCase}
 use Rattle.grid.specs.RotationLaws.{OnSide}
 use Rattle.grid.specs.declared.face_walk.FaceWalk.{FaceWalk}
-use Rattle.grid.specs.Walks.{sidePlace, walkOf, alongBy, Leads, row-leads, row-is, spot-leads, spot-is, spot-in, spot-read}
+use Rattle.grid.specs.Walks.{sidePlace, walkOf, alongBy, row-leads, row-is, spot-leads, spot-is, spot-in, spot-read}
 use Rattle.cases.specs.declared.transition.Lines.{Lines}
-use Rattle.cases.specs.Faces.{Spot, Lined, threeInside, nineInside}
+use Rattle.cases.specs.Faces.{Spot, threeInside, nineInside, linesAt, Walked, OnWalk}
 
 -- ---- the case number: the nine points of a cell by their fine rows
 
@@ -52,7 +52,7 @@ module _ (s : Star) (side u : ℕ) (fine : List Float) (l : Lines) (rows : FineR
 
 -- ---- where the lines stand among the neighbour's samples
 
-module _ (s : Star) (side u : ℕ) (few : subdivisions s ≤ mostSubdivisions) (side-is : side < sideCount) (hu : u < subdivisions s) where
+module _ (s : Star) (side : ℕ) (few : subdivisions s ≤ mostSubdivisions) (side-is : side < sideCount) where
   abbrev m : ℕ
   m = 2 * subdivisions s
 
@@ -63,13 +63,6 @@ module _ (s : Star) (side u : ℕ) (few : subdivisions s ≤ mostSubdivisions) (
   on : (u2 v2 : ℕ) → u2 ≤ m → v2 ≤ m → OnSide side m u2 v2 m
   on u2 v2 h k = record { few = omega arith; side-is = side-is; u-in = h; v-in = k; w-in = omega arith }
 
-  pub first-leads : (w : FaceWalk) → w ≡ walk
-      → Leads (w .first) (w .u) (2 * u) × (Leads (w .first) (w .u) (2 * u + 1) × Leads (w .first) (w .u) (2 * u + 2))
-  first-leads w e = rw e (leads (2 * u) (omega arith), (leads (2 * u + 1) (omega arith), leads (2 * u + 2) (omega arith)))
-    where
-      leads : (u2 : ℕ) → u2 ≤ m → Leads (walk .first) (walk .u) u2
-      leads u2 h = row-leads m side m u2 0 (on u2 0 h (omega arith))
-
   first-is : (u2 : ℕ) → u2 ≤ m → alongBy (walk .first) (walk .u) u2 ≡ sidePlace m side m u2 0
   first-is u2 h = row-is m side m u2 0 (on u2 0 h (omega arith))
 
@@ -78,42 +71,37 @@ module _ (s : Star) (side u : ℕ) (few : subdivisions s ≤ mostSubdivisions) (
       let o = on u2 v2 h k in
       rw (first-is u2 h, e) (record { leads = spot-leads m side m u2 v2 o; there = rw (spot-is m side m u2 v2 o) (spot-in m side m u2 v2 o) })
 
-  -- the lines at the fine rows 2u, 2u + 1 and 2u + 2
-  pub record Rows (l : Lines) : Type 0 where
-    pub a-is : l .a ≡ alongBy (walk .first) (walk .u) (2 * u)
-    pub b-is : l .b ≡ alongBy (walk .first) (walk .u) (2 * u + 1)
-    pub c-is : l .c ≡ alongBy (walk .first) (walk .u) (2 * u + 2)
-    pub step-is : l .step ≡ walk .v
+  -- each of the face's rows
+  pub face-walked : (held : ℕ) → held ≡ sampleLength m → Walked held (subdivisions s) walk (subdivisions s)
+  face-walked held e =
+      record {
+        leads = λ u2 h. row-leads m side m u2 0 (on u2 0 h (omega arith));
+        lined = λ u v2 hu h.
+            record {
+              on-a = spot held (2 * u) v2 e (omega arith) h;
+              on-b = spot held (2 * u + 1) v2 e (omega arith) h;
+              on-c = spot held (2 * u + 2) v2 e (omega arith) h;
+            };
+      }
 
-  pub rows-of : (w : FaceWalk) (l : Lines) → w ≡ walk
-      → l ≡ record { a = alongBy (w .first) (w .u) (2 * u); b = alongBy (w .first) (w .u) (2 * u + 1); c = alongBy (w .first) (w .u) (2 * u + 2); step = w .v }
-      → Rows l
-  rows-of w l e is = rw (is, e) (record { a-is = refl; b-is = refl; c-is = refl; step-is = refl })
-
-  module _ (l : Lines) (rows : Rows l) where
-    pub lined : (held v2 : ℕ) → held ≡ sampleLength m → v2 ≤ m → Lined held l v2
-    lined held v2 e h =
-        record {
-          on-a = rw (rows .a-is, rows .step-is) (spot held (2 * u) v2 e (omega arith) h);
-          on-b = rw (rows .b-is, rows .step-is) (spot held (2 * u + 1) v2 e (omega arith) h);
-          on-c = rw (rows .c-is, rows .step-is) (spot held (2 * u + 2) v2 e (omega arith) h);
-        }
-
-    reads : (fine : List Float) (u2 v2 : ℕ) → fine ≡ neighbourAt s side → u2 ≤ m → v2 ≤ m
+  module _ (fine : List Float) (e : fine ≡ neighbourAt s side) where
+    reads : (u2 v2 : ℕ) → u2 ≤ m → v2 ≤ m
         → getD fine (alongBy (alongBy (walk .first) (walk .u) u2) (walk .v) v2) nan ≡ fineSample s side u2 v2
     unfolding fineSample
-    reads fine u2 v2 e h k =
+    reads u2 v2 h k =
         let o = on u2 v2 h k in
         rw (first-is u2 h, spot-is m side m u2 v2 o, e) (spot-read m side m u2 v2 o (neighbourAt s side))
 
-    fine-rows : (fine : List Float) → fine ≡ neighbourAt s side → FineRows s side u fine l
-    fine-rows fine e =
+    pub face-numbers : OnWalk (transitionCase s side) (s .threshold) fine (subdivisions s) walk (subdivisions s) 0
+    face-numbers =
         record {
-          a-reads = λ v2 h. rw (rows .a-is, rows .step-is) (reads fine (2 * u) v2 e (omega arith) h);
-          b-reads = λ v2 h. rw (rows .b-is, rows .step-is) (reads fine (2 * u + 1) v2 e (omega arith) h);
-          c-reads = λ v2 h. rw (rows .c-is, rows .step-is) (reads fine (2 * u + 2) v2 e (omega arith) h);
+          number = λ u v hu hv.
+              cells-are s side u fine (linesAt walk u)
+              (record {
+                a-reads = λ v2 h. reads (2 * u) v2 (omega arith) h;
+                b-reads = λ v2 h. reads (2 * u + 1) v2 (omega arith) h;
+                c-reads = λ v2 h. reads (2 * u + 2) v2 (omega arith) h;
+              })
+              v hv
+              ∙ ap (λ (j : ℕ). transitionCase s side j v) (sym (zero-add u));
         }
-
-    pub nine-is : (fine : List Float) → fine ≡ neighbourAt s side → (v : ℕ) → v < subdivisions s
-        → nineInside (s .threshold) fine l v ≡ transitionCase s side u v
-    nine-is fine e = cells-are s side u fine l (fine-rows fine e)

@@ -1,9 +1,10 @@
 -- Where the rows of a sheet lie: one after another, and all of them within it.
 use Prim.Native.Nat.{ℕ, _+_, _*_, _≤_, _<_}
+use mathlib.Core.List.{List}
 use native.Mathlib.Nat.{mul-le-mul, mul-le-mul-left}
 use native.Mathlib.Omega.{arith}
 use Rattle.model.specs.Limits.{mostSubdivisions}
-use Rattle.cases.specs.Sheets.{rowStart}
+use Rattle.cases.specs.Sheets.{rowStart, Sheet}
 
 -- a sheet has room for the rows of any block
 pub rows-fit : (n : ℕ) → n ≤ mostSubdivisions → n * (n + 1) ≤ mostSubdivisions * (mostSubdivisions + 1)
@@ -26,3 +27,7 @@ row-before n j y k h l =
 -- a row of a sheet ends before the rows of the largest block do
 pub row-fits : (n j : ℕ) → n ≤ mostSubdivisions → j < n → rowStart n j + n < mostSubdivisions * (mostSubdivisions + 1)
 row-fits n j few h = omega (arith, rows-fit n few, row-before n j n n h (omega arith))
+
+-- a sheet of no row is any list
+pub no-row : (case : ℕ → ℕ → ℕ) (n : ℕ) (cases : List ℕ) → Sheet case n 0 cases
+no-row case n cases = record { case-at = λ j k h l. absurd (let x : ⊥ = omega arith in x) }

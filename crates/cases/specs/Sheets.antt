@@ -1,4 +1,4 @@
--- Sheets of case numbers, row by row, and the lines of samples that a row of regular cells lies between. Definitions only.
+-- Sheets of case numbers, row by row, and the planes of samples, line by line, that a layer of regular cells lies between. Definitions only.
 use Prim.Native.Nat.{ℕ, _+_, _*_, _≤_, _<_}
 use mathlib.Core.Path.{_≡_}
 use mathlib.Core.List.{List}
@@ -7,6 +7,7 @@ use lib.ListN.{getD, length}
 use Rattle.model.specs.Limits.{mostSubdivisions}
 use Rattle.model.specs.Samples.{readingAt}
 use Rattle.model.specs.Formulas.{insideBit}
+use Rattle.model.specs.Star.{Star, subdivisions}
 use Rattle.model.specs.Mesh.{transitionReads}
 use Rattle.grid.specs.Kinds.{inBlockReading}
 
@@ -33,6 +34,16 @@ pub record RowPut (case : ℕ → ℕ) (start n : ℕ) (before after : List ℕ)
   pub beyond : (i : ℕ) → start + n ≤ i → getD after i 0 ≡ getD before i 0
 
 -- ---- regular cells
+
+-- a block of so many subdivisions, with this threshold
+pub record Measured (s : Star) (n : ℕ) (threshold : Float) : Type 0 where
+  pub subdivisions-are : subdivisions s ≡ n
+  pub threshold-is : s .threshold ≡ threshold
+
+-- what is read from the plane, line by line, are the points at x, each in the block
+pub record Plane (s : Star) (x : ℕ) (plane : List Float) : Type 0 where
+  pub reading-at : (y z : ℕ) → y ≤ subdivisions s → z ≤ subdivisions s
+      → inBlockReading plane (rowStart (subdivisions s) y + z) ≡ readingAt (subdivisions s) (s .centre) (x + 1) (y + 1) (z + 1)
 
 -- what is read from the line are the points (x, y, 0), (x, y, 1), .., (x, y, n), each in the block
 pub record Line (n : ℕ) (centre : List Float) (x y : ℕ) (line : List Float) : Type 0 where

@@ -2,10 +2,14 @@
 // which tell the cells that are cut. The writing pass has each cell read its own samples (regular, transition); the counting pass reads a
 // regular sample once (pairs).
 ghost use mathlib.Core.Path.{_≡_};
-ghost use Prim.Native.Nat.{_*_, _≤_, _<_};
+ghost use Prim.Native.Nat.{_+_, _*_, _≤_, _<_};
 ghost use lib.Ieee.{nan};
 ghost use lib.ListN.{length, getD};
+ghost use Rattle.model.specs.Limits.{mostSubdivisions};
+ghost use Rattle.model.specs.Samples.{sampleLength};
 ghost use Rattle.model.specs.Formulas.{insideBit};
+ghost use Rattle.model.specs.Star.{Star, subdivisions};
+ghost use Rattle.cases.specs.Sheets.{Plane};
 
 pub mod marks;
 pub mod pairs;
@@ -15,6 +19,7 @@ pub mod transition;
 
 use grid::readings::value_in_block;
 use grid::voxel_blocks::MOST_SUBDIVISIONS;
+use grid::voxel_blocks::in_block;
 use grid::voxel_blocks::inside;
 
 const MOST_POINTS: usize = MOST_SUBDIVISIONS + 1;
@@ -37,4 +42,15 @@ fn weighed(threshold: f32, samples: &[f32], at: usize, w: u32) -> u32
     } else {
         0
     }
+}
+
+// The samples of a block at x, line by line.
+fn plane(n: usize, centre: &[f32], x: usize) -> &[f32]
+    requires { ⌜ (n ≤ mostSubdivisions) × ((x ≤ n) × (length (now centre) ≡ sampleLength n)) ⌝ }
+    ensures { λ r. ⌜ length (now r) ≡ (n + 1) * (n + 1) ⌝ }
+    ensures { λ r. ⌜ ((s : Star) → subdivisions s ≡ n → s .centre ≡ now (centre .entry) → Plane s x (now r)) ⌝ }
+{
+    let start = in_block(n, x, 0, 0);
+    let end = start + (n + 1) * (n + 1);
+    &centre[start..end]
 }

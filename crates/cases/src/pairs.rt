@@ -14,10 +14,10 @@ ghost use Rattle.cases.specs.Sheets.{sheetPlaces, sideBySide, Sheet, Row
 ghost use Rattle.cases.specs.Pairs.{pairedWith, pointBit, Upper, Pairs, ofPairs, Small};
 ghost use Rattle.cases.specs.Marks.{allRegular, markOf};
 use crate::marks::mark_layer;
+use crate::plane;
 use crate::sixteens::SIDE_BY_SIDE;
 use crate::sixteens::put_sixteen;
 use crate::weighed;
-use grid::voxel_blocks::in_block;
 use model::Header;
 
 fn wide(byte: u8) -> u32
@@ -92,11 +92,8 @@ pub fn pair_layer(header: Header, centre: &[f32], x: usize, pairs: &mut [u8])
     requires { ⌜ (x ≤ header .block .subdivisions) × (length (now pairs) ≡ sheetPlaces) ⌝ }
     ensures { λ _. ⌜ ((low : ℕ → ℕ → ℕ) → Upper (header .block .subdivisions) low (now (pairs .entry)) → Pairs (header .block .subdivisions) low (pointBit (star header (now (centre .entry)) []) x) (now (pairs .exit))) ⌝ }
 {
-    let n = header.block.subdivisions;
-    let m = n + 1;
-    let start = in_block(n, x, 0, 0);
-    let end = start + m * m;
-    pair_with(header.threshold, &centre[start..end], pairs);
+    let samples = plane(header.block.subdivisions, centre, x);
+    pair_with(header.threshold, samples, pairs);
 }
 
 fn of_pairs(m: usize, pairs: &[u8], i: usize) -> u8

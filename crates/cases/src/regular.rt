@@ -1,23 +1,23 @@
-// The sheet of a layer of regular cells: each cell reads its own eight samples, from four lines along z.
+// The sheet of a layer of regular cells, between two planes of samples: each cell reads its own eight, from four lines along z.
 ghost use mathlib.Core.Path.{_≡_};
 ghost use mathlib.Core.List.{List};
-ghost use Prim.Native.Nat.{_+_, _*_, _^_, _≤_, _<_};
+ghost use Prim.Native.Nat.{ℕ, _+_, _*_, _^_, _≤_, _<_};
 ghost use lib.Ieee.{Float};
 ghost use lib.ListN.{length};
 ghost use Rattle.model.specs.Limits.{mostSubdivisions};
 ghost use Rattle.model.specs.Samples.{sampleLength};
-ghost use Rattle.model.specs.Star.{star};
+ghost use Rattle.model.specs.Star.{Star, star, subdivisions};
 ghost use Rattle.model.specs.Points.{regularCase};
 ghost use Rattle.model.specs.Mesh.{regularReads};
 ghost use Rattle.laws.specs.Steps.{listed};
 ghost use Rattle.cases.specs.Marks.{allRegular, markOf};
-ghost use Rattle.cases.specs.Sheets.{rowStart, sheetPlaces, sideBySide, mostSheetReads, Sheet, RowPut, Line, Ahead, fourInside, lineCase};
+ghost use Rattle.cases.specs.Sheets.{rowStart, sheetPlaces, sideBySide, mostSheetReads, Sheet, RowPut, Measured, Plane, Line, Ahead, fourInside, lineCase};
 use crate::REGULAR_READS;
 use crate::marks::mark_layer;
+use crate::plane;
 use crate::sixteens::SIDE_BY_SIDE;
 use crate::sixteens::put_sixteen;
 use crate::weighed;
-use grid::voxel_blocks::in_block;
 use model::Header;
 
 // What a cell's first corner adds where cells are worked out one after another. One sum in the top byte keeps the compiler's lanes at
@@ -111,8 +111,8 @@ fn by_sixteens(
     z
 }
 
-// The cells between four lines, their numbers from start on. Answers the samples read, as row and layer do.
-pub fn row_between(
+// The cells between four lines, their numbers from start on. Answers the samples read, as its callers do.
+fn row_between(
     n: usize,
     threshold: f32,
     a: &[f32],
@@ -138,48 +138,66 @@ pub fn row_between(
     REGULAR_READS * z as u64
 }
 
-// The samples along z at (x, y).
-fn line(n: usize, centre: &[f32], x: usize, y: usize) -> &[f32]
-    requires { ⌜ (n ≤ mostSubdivisions) × ((x ≤ n) × (y ≤ n)) ⌝ }
-    requires { ⌜ length (now centre) ≡ sampleLength n ⌝ }
-    ensures { λ r. ⌜ Line n (now (centre .entry)) x y (now r) ⌝ }
+// The samples at y of a plane.
+fn line(n: usize, plane: &[f32], y: usize) -> &[f32]
+    requires { ⌜ (n ≤ mostSubdivisions) × ((y ≤ n) × ((n + 1) * (n + 1) ≤ length (now plane))) ⌝ }
+    ensures { λ r. ⌜ length (now r) ≡ n + 1 ⌝ }
+    ensures { λ r. ⌜ ((s : Star) (x : ℕ) → subdivisions s ≡ n → Plane s x (now (plane .entry)) → Line n (s .centre) x y (now r)) ⌝ }
 {
-    let start = in_block(n, x, y, 0);
+    let start = (n + 1) * y;
     let end = start + n + 1;
-    &centre[start..end]
+    &plane[start..end]
 }
 
-fn row(header: Header, centre: &[f32], x: usize, y: usize, cases: &mut [u8]) -> u64
-    requires { ⌜ (header .block .subdivisions ≤ mostSubdivisions) × (length (now centre) ≡ sampleLength (header .block .subdivisions)) ⌝ }
-    requires { ⌜ (x < header .block .subdivisions) × ((y < header .block .subdivisions) × (length (now cases) ≡ sheetPlaces)) ⌝ }
-    ensures { λ _. ⌜ ((ns : List Float) → RowPut (regularCase (star header (now (centre .entry)) ns) x y) (rowStart (header .block .subdivisions) y) (header .block .subdivisions) (now (cases .entry)) (now (cases .exit))) ⌝ }
-    ensures reads { λ r. ⌜ r ≡ regularReads * header .block .subdivisions ⌝ }
+fn row(n: usize, threshold: f32, low: &[f32], high: &[f32], y: usize, cases: &mut [u8]) -> u64
+    requires { ⌜ (n ≤ mostSubdivisions) × ((y < n) × (length (now cases) ≡ sheetPlaces)) ⌝ }
+    requires { ⌜ ((n + 1) * (n + 1) ≤ length (now low)) × ((n + 1) * (n + 1) ≤ length (now high)) ⌝ }
+    ensures { λ _. ⌜ ((s : Star) (x : ℕ) → Measured s n threshold → Plane s x (now (low .entry)) → Plane s (x + 1) (now (high .entry)) → RowPut (regularCase s x y) (rowStart n y) n (now (cases .entry)) (now (cases .exit))) ⌝ }
+    ensures reads { λ r. ⌜ r ≡ regularReads * n ⌝ }
 {
-    let n = header.block.subdivisions;
-    let a = line(n, centre, x, y);
-    let b = line(n, centre, x + 1, y);
-    let c = line(n, centre, x, y + 1);
-    let d = line(n, centre, x + 1, y + 1);
-    row_between(n, header.threshold, a, b, c, d, cases, (n + 1) * y)
+    let a = line(n, low, y);
+    let b = line(n, high, y);
+    let c = line(n, low, y + 1);
+    let d = line(n, high, y + 1);
+    row_between(n, threshold, a, b, c, d, cases, (n + 1) * y)
 }
 
-fn layer_rows(header: Header, centre: &[f32], x: usize, cases: &mut [u8]) -> u64
-    requires { ⌜ (header .block .subdivisions ≤ mostSubdivisions) × (length (now centre) ≡ sampleLength (header .block .subdivisions)) ⌝ }
-    requires { ⌜ (x < header .block .subdivisions) × (length (now cases) ≡ sheetPlaces) ⌝ }
-    ensures { λ _. ⌜ ((ns : List Float) → Sheet (regularCase (star header (now (centre .entry)) ns) x) (header .block .subdivisions) (header .block .subdivisions) (now (cases .exit))) ⌝ }
-    ensures reads { λ r. ⌜ (r ≡ regularReads * header .block .subdivisions * header .block .subdivisions) × (r ≤ mostSheetReads) ⌝ }
+fn rows(n: usize, threshold: f32, low: &[f32], high: &[f32], cases: &mut [u8]) -> u64
+    requires { ⌜ (n ≤ mostSubdivisions) × (length (now cases) ≡ sheetPlaces) ⌝ }
+    requires { ⌜ ((n + 1) * (n + 1) ≤ length (now low)) × ((n + 1) * (n + 1) ≤ length (now high)) ⌝ }
+    ensures { λ _. ⌜ ((s : Star) (x : ℕ) → Measured s n threshold → Plane s x (now (low .entry)) → Plane s (x + 1) (now (high .entry)) → Sheet (regularCase s x) n n (now (cases .exit))) ⌝ }
+    ensures reads { λ r. ⌜ (r ≡ regularReads * n * n) × (r ≤ mostSheetReads) ⌝ }
 {
-    let n = header.block.subdivisions;
     let mut reads: u64 = 0;
     let mut y = 0;
     while y < n {
-        reads += row(header, centre, x, y, cases);
+        reads += row(n, threshold, low, high, y, cases);
         y += 1;
     }
     reads
 }
 
-// The case numbers of the cells at x, and their marks. Answers the samples read.
+// The case numbers of the cells between a plane of samples and the next, and their marks. Answers the samples read.
+pub fn cases_between(
+    n: usize,
+    threshold: f32,
+    low: &[f32],
+    high: &[f32],
+    cases: &mut [u8],
+    marks: &mut [u8],
+) -> u64
+    requires { ⌜ (n ≤ mostSubdivisions) × ((length (now cases) ≡ sheetPlaces) × (length (now marks) ≡ sheetPlaces)) ⌝ }
+    requires { ⌜ ((n + 1) * (n + 1) ≤ length (now low)) × ((n + 1) * (n + 1) ≤ length (now high)) ⌝ }
+    ensures cases { λ _. ⌜ ((s : Star) (x : ℕ) → Measured s n threshold → Plane s x (now (low .entry)) → Plane s (x + 1) (now (high .entry)) → Sheet (regularCase s x) n n (now (cases .exit))) ⌝ }
+    ensures marks { λ _. ⌜ ((s : Star) (x : ℕ) → Measured s n threshold → Plane s x (now (low .entry)) → Plane s (x + 1) (now (high .entry)) → Sheet (λ y z. markOf allRegular (regularCase s x y z)) n n (now (marks .exit))) ⌝ }
+    ensures reads { λ r. ⌜ (r ≡ regularReads * n * n) × (r ≤ mostSheetReads) ⌝ }
+{
+    let reads = rows(n, threshold, low, high, cases);
+    mark_layer(n, cases, marks);
+    reads
+}
+
+// The same of the cells at x of a block.
 pub fn layer_cases(
     header: Header,
     centre: &[f32],
@@ -193,7 +211,8 @@ pub fn layer_cases(
     ensures marks { λ _. ⌜ ((ns : List Float) → Sheet (λ y z. markOf allRegular (regularCase (star header (now (centre .entry)) ns) x y z)) (header .block .subdivisions) (header .block .subdivisions) (now (marks .exit))) ⌝ }
     ensures reads { λ r. ⌜ (r ≡ regularReads * header .block .subdivisions * header .block .subdivisions) × (r ≤ mostSheetReads) ⌝ }
 {
-    let reads = layer_rows(header, centre, x, cases);
-    mark_layer(header.block.subdivisions, cases, marks);
-    reads
+    let n = header.block.subdivisions;
+    let low = plane(n, centre, x);
+    let high = plane(n, centre, x + 1);
+    cases_between(n, header.threshold, low, high, cases, marks)
 }

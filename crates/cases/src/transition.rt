@@ -5,16 +5,15 @@ ghost use mathlib.Core.List.{List};
 ghost use Prim.Native.Nat.{ℕ, _+_, _*_, _^_, _≤_, _<_};
 ghost use lib.Ieee.{Float};
 ghost use lib.ListN.{length};
-ghost use Rattle.model.specs.Limits.{mostSubdivisions, sideCount};
-ghost use Rattle.model.specs.Sides.{neighbourLength, neighbourOf};
+ghost use Rattle.model.specs.Limits.{mostSubdivisions};
 ghost use Rattle.model.specs.Star.{star};
 ghost use Rattle.model.specs.Points.{transitionCase};
 ghost use Rattle.model.specs.Mesh.{transitionReads};
 ghost use Rattle.grid.specs.SideLaws.{NeighbourThere};
-ghost use Rattle.grid.specs.Walks.{walkOf, alongBy, Leads};
-ghost use Rattle.cases.specs.Sheets.{rowStart, sheetPlaces, mostSheetReads, Sheet, RowPut};
+ghost use Rattle.grid.specs.Walks.{Leads};
+ghost use Rattle.cases.specs.Sheets.{sheetPlaces, mostSheetReads, Sheet, RowPut};
 ghost use Rattle.cases.specs.Marks.{allTransition, markOf};
-ghost use Rattle.cases.specs.Faces.{Spot, Lined, weighedAt, threeInside, nineInside};
+ghost use Rattle.cases.specs.Faces.{Spot, Lined, weighedAt, threeInside, nineInside, linesAt, Walked, OnWalk};
 use crate::TRANSITION_READS;
 use crate::weighed;
 use grid::face_walk::FaceWalk;
@@ -100,8 +99,8 @@ fn nine(threshold: f32, fine: &[f32], lines: Lines, v: usize) -> u16
     (sum / ONE) as u16
 }
 
-// The cells on three lines, their numbers and marks from start on. Answers the samples read, as row does.
-pub fn row_on(
+// The cells on three lines, their numbers and marks from start on. Answers the samples read, as its callers do.
+fn row_on(
     n: usize,
     threshold: f32,
     fine: &[f32],
@@ -128,7 +127,7 @@ pub fn row_on(
 
 fn lines_at(walk: FaceWalk, u: usize) -> Lines
     requires { ⌜ (u < mostSubdivisions) × (Leads (walk .first) (walk .u) (2 * u) × (Leads (walk .first) (walk .u) (2 * u + 1) × Leads (walk .first) (walk .u) (2 * u + 2))) ⌝ }
-    ensures { λ r. ⌜ r ≡ record { a = alongBy (walk .first) (walk .u) (2 * u); b = alongBy (walk .first) (walk .u) (2 * u + 1); c = alongBy (walk .first) (walk .u) (2 * u + 2); step = walk .v } ⌝ }
+    ensures { λ r. ⌜ r ≡ linesAt walk u ⌝ }
 {
     let u2 = 2 * u;
     let step = walk.v;
@@ -140,25 +139,32 @@ fn lines_at(walk: FaceWalk, u: usize) -> Lines
     }
 }
 
-fn row(
-    header: Header,
+// The cells in the first rows of a walk, their numbers and marks from a row of the sheet on. Answers the samples read.
+pub fn rows_on(
+    n: usize,
+    threshold: f32,
     fine: &[f32],
     walk: FaceWalk,
-    side: usize,
-    u: usize,
+    rows: usize,
     cases: &mut [u16],
     marks: &mut [u8],
+    at: usize,
 ) -> u64
-    requires { ⌜ (header .block .subdivisions ≤ mostSubdivisions) × (length (now fine) ≡ neighbourLength (header .block .subdivisions)) ⌝ }
-    requires { ⌜ (side < sideCount) × (walk ≡ walkOf (2 * header .block .subdivisions) side (2 * header .block .subdivisions)) ⌝ }
-    requires { ⌜ (u < header .block .subdivisions) × ((length (now cases) ≡ sheetPlaces) × (length (now marks) ≡ sheetPlaces)) ⌝ }
-    ensures cases { λ _. ⌜ ((centre ns : List Float) → now (fine .entry) ≡ neighbourOf (header .block .subdivisions) (header .mask) ns side → RowPut (transitionCase (star header centre ns) side u) (rowStart (header .block .subdivisions) u) (header .block .subdivisions) (now (cases .entry)) (now (cases .exit))) ⌝ }
-    ensures marks { λ _. ⌜ ((centre ns : List Float) → now (fine .entry) ≡ neighbourOf (header .block .subdivisions) (header .mask) ns side → RowPut (λ v. markOf allTransition (transitionCase (star header centre ns) side u v)) (rowStart (header .block .subdivisions) u) (header .block .subdivisions) (now (marks .entry)) (now (marks .exit))) ⌝ }
-    ensures reads { λ r. ⌜ r ≡ transitionReads * header .block .subdivisions ⌝ }
+    requires { ⌜ (n ≤ mostSubdivisions) × ((at + rows ≤ n) × ((length (now cases) ≡ sheetPlaces) × (length (now marks) ≡ sheetPlaces))) ⌝ }
+    requires { ⌜ Walked (length (now fine)) n walk rows ⌝ }
+    ensures cases { λ _. ⌜ ((case : ℕ → ℕ → ℕ) → OnWalk case threshold (now (fine .entry)) n walk rows at → Sheet case n at (now (cases .entry)) → Sheet case n (at + rows) (now (cases .exit))) ⌝ }
+    ensures marks { λ _. ⌜ ((case : ℕ → ℕ → ℕ) → OnWalk case threshold (now (fine .entry)) n walk rows at → Sheet (λ u v. markOf allTransition (case u v)) n at (now (marks .entry)) → Sheet (λ u v. markOf allTransition (case u v)) n (at + rows) (now (marks .exit))) ⌝ }
+    ensures reads { λ r. ⌜ (r ≡ transitionReads * n * rows) × (r ≤ mostSheetReads) ⌝ }
 {
-    let n = header.block.subdivisions;
-    let lines = lines_at(walk, u);
-    row_on(n, header.threshold, fine, lines, cases, marks, (n + 1) * u)
+    let mut reads: u64 = 0;
+    let mut u = 0;
+    while u < rows {
+        let lines = lines_at(walk, u);
+        let start = (n + 1) * (at + u);
+        reads += row_on(n, threshold, fine, lines, cases, marks, start);
+        u += 1;
+    }
+    reads
 }
 
 // The case numbers of the cells of a named side, and their marks. Answers the samples read.
@@ -178,11 +184,5 @@ pub fn face_cases(
     let n = header.block.subdivisions;
     let fine = neighbour(n, header.mask, neighbours, side);
     let walk = face_walk(2 * n, side, 2 * n);
-    let mut reads: u64 = 0;
-    let mut u = 0;
-    while u < n {
-        reads += row(header, fine, walk, side, u, cases, marks);
-        u += 1;
-    }
-    reads
+    rows_on(n, header.threshold, fine, walk, n, cases, marks, 0)
 }

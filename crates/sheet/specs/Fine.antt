@@ -3,7 +3,7 @@
 use mathlib.Core.Path.{_≡_, refl, sym, ap, ap₂, _∙_, subst}
 use mathlib.Core.List.{List}
 use Prim.Native.Nat.{ℕ, _+_, _*_, _≤_, _<_}
-use native.Mathlib.Nat.{mul-le-mul-left, le-of-suc-le-suc}
+use native.Mathlib.Nat.{add-zero, mul-comm, mul-le-mul, mul-le-mul-left, le-of-suc-le-suc}
 use native.Mathlib.Numerals.{add-one}
 use native.Mathlib.Omega.{arith}
 use lib.Ieee.{Float, nan}
@@ -23,12 +23,12 @@ use Rattle.model.specs.Points.{fineSample, transitionCase}
 use Rattle.model.specs.Mesh.{emptyMesh, transitionSide}
 use Rattle.model.specs.Record.{headerOf, countOf, samplesOf, starOf}
 use Rattle.model.specs.OverCells.{overSide, trianglesOnSide}
+use Rattle.grid.specs.declared.face_walk.FaceWalk.{FaceWalk}
 use Rattle.grid.specs.Walks.{alongBy}
 use Rattle.grid.specs.SideLaws.{NextSide}
 use Rattle.lines.specs.declared.Line.{Line}
 use Rattle.lines.specs.Lines.{byOne, placeOn, OnLine, NamedSide, fineLine, fine-on, fine-read}
-use Rattle.cases.specs.declared.transition.Lines.{Lines}
-use Rattle.cases.specs.Faces.{Lined, nineInside}
+use Rattle.cases.specs.Faces.{linesAt, Walked, OnWalk}
 use Rattle.cases.specs.Fine.{cells-are}
 use Rattle.algorithm.specs.Passes.{Grows}
 use Rattle.algorithm.specs.Passes as Passes
@@ -44,16 +44,25 @@ pub record FineLines (s : Star) (side u : ℕ) (samples : List Float) : Type 0 w
   pub sample-at : (i v2 : ℕ) → i < 3 → v2 ≤ 2 * subdivisions s
       → getD samples ((2 * subdivisions s + 1) * i + v2) nan ≡ fineSample s side (2 * u + i) v2
 
--- where they begin, one place after another
-abbrev pub linesOf : ℕ → Lines
-linesOf n = record { a = 0; b = 2 * n + 1; c = 2 * (2 * n + 1); step = byOne }
+-- the walk over them: the next line lies behind a line
+abbrev pub overLines : ℕ → FaceWalk
+overLines n = record { first = 0; u = record { up = 2 * n + 1; down = 0 }; v = byOne }
 
-pub fine-lined : (n : ℕ) → n ≤ mostSubdivisions → (v2 : ℕ) → v2 ≤ 2 * n → Lined threeLines (linesOf n) v2
-fine-lined n few v2 h =
+-- a row of cells lies on them
+pub lines-walked : (n : ℕ) → n ≤ mostSubdivisions → Walked threeLines n (overLines n) 1
+lines-walked n few =
     record {
-      on-a = record { leads = omega arith; there = omega arith };
-      on-b = record { leads = omega arith; there = omega arith };
-      on-c = record { leads = omega arith; there = omega arith };
+      leads = λ u2 h.
+          let wide : 2 * n + 1 ≤ 2 * mostSubdivisions + 1 = omega arith in
+          record { enough = omega arith; within = omega (arith, mul-le-mul h wide) };
+      lined = λ u v2 hu h.
+          let first : u ≡ 0 = omega arith in
+          rw first
+          (record {
+            on-a = record { leads = omega arith; there = omega arith };
+            on-b = record { leads = omega arith; there = omega arith };
+            on-c = record { leads = omega arith; there = omega arith };
+          });
     }
 
 module _ (s : Star) (side u : ℕ) (samples : List Float) (f : FineLines s side u samples) where
@@ -61,26 +70,36 @@ module _ (s : Star) (side u : ℕ) (samples : List Float) (f : FineLines s side 
   n = subdivisions s
 
   -- the i-th of them
-  reads : (i first u2 v2 : ℕ) → i < 3 → first ≡ (2 * n + 1) * i → 2 * u + i ≡ u2 → v2 ≤ 2 * n
-      → getD samples (alongBy first byOne v2) nan ≡ fineSample s side u2 v2
-  reads i first u2 v2 hi starts row hv =
-      let at : alongBy first byOne v2 ≡ (2 * n + 1) * i + v2 = omega arith in
+  reads : (i u2 v2 : ℕ) → i < 3 → 2 * u + i ≡ u2 → v2 ≤ 2 * n
+      → getD samples (alongBy (alongBy 0 (overLines n .u) i) byOne v2) nan ≡ fineSample s side u2 v2
+  reads i u2 v2 hi row hv =
+      let at : alongBy (alongBy 0 (overLines n .u) i) byOne v2 ≡ (2 * n + 1) * i + v2 = omega (arith, mul-comm (2 * n + 1) i) in
       ap (λ (k : ℕ). getD samples k nan) at ∙ f .sample-at i v2 hi hv ∙ ap (λ (k : ℕ). fineSample s side k v2) row
 
-  fine-case : (v : ℕ) → v < n → nineInside (s .threshold) samples (linesOf n) v ≡ transitionCase s side u v
-  fine-case =
-      cells-are s side u samples (linesOf n)
-      (record {
-        a-reads = λ v2 h. reads 0 0 (2 * u) v2 (omega arith) (omega arith) (omega arith) h;
-        b-reads = λ v2 h. reads 1 (2 * n + 1) (2 * u + 1) v2 (omega arith) (omega arith) (omega arith) h;
-        c-reads = λ v2 h. reads 2 (2 * (2 * n + 1)) (2 * u + 2) v2 (omega arith) (omega arith) (omega arith) h;
-      })
+  -- so the cells on them have the model's numbers
+  fine-cases : OnWalk (transitionCase s side) (s .threshold) samples n (overLines n) 1 u
+  fine-cases =
+      record {
+        number = λ j v hj hv.
+            let first : j ≡ 0 = omega arith in
+            rw first
+            (cells-are s side u samples (linesAt (overLines n) 0)
+            (record {
+              a-reads = λ v2 h. reads 0 (2 * u) v2 (omega arith) (omega arith) h;
+              b-reads = λ v2 h. reads 1 (2 * u + 1) v2 (omega arith) (omega arith) h;
+              c-reads = λ v2 h. reads 2 (2 * u + 2) v2 (omega arith) (omega arith) h;
+            })
+            v hv
+            ∙ ap (λ (k : ℕ). transitionCase s side k v) (sym (add-zero u)));
+      }
 
 -- with the record's header
-pub face-case : (bytes : List ℕ) (h : Header) (side u : ℕ) → h ≡ headerOf bytes → (samples : List Float) → FineLines (starOf bytes) side u samples
-    → (v : ℕ) → v < h .block .subdivisions → nineInside (h .threshold) samples (linesOf (h .block .subdivisions)) v ≡ transitionCase (starOf bytes) side u v
-face-case bytes h side u e samples f v hv =
-    ap (λ (g : Header). nineInside (g .threshold) samples (linesOf (g .block .subdivisions)) v) e ∙ fine-case (starOf bytes) side u samples f v (rw e at hv)
+pub face-cases : (bytes : List ℕ) (h : Header) (side u : ℕ) → h ≡ headerOf bytes → (samples : List Float) → FineLines (starOf bytes) side u samples
+    → OnWalk (transitionCase (starOf bytes) side) (h .threshold) samples (h .block .subdivisions) (overLines (h .block .subdivisions)) 1 u
+face-cases bytes h side u e samples f =
+    subst
+    (λ (g : Header). OnWalk (transitionCase (starOf bytes) side) (g .threshold) samples (g .block .subdivisions) (overLines (g .block .subdivisions)) 1 u)
+    (sym e) (fine-cases (starOf bytes) side u samples f)
 
 -- they are, if line after line was written
 lines-filled : (s : Star) (side u : ℕ) (before after : List Float) (line : ℕ → List Float)

@@ -1,15 +1,15 @@
 -- A plane of a block's samples, the points at one x line by line: what is counted in it, and in the layer of cells and edges from it to the next, is
--- what the definition counts there. And the lines of two planes are those that the layer's rows of cells lie between.
+-- what the definition counts there.
 use mathlib.Core.Path.{_≡_, refl, sym, ap, ap₂, _∙_, subst}
 use mathlib.Core.Bool.{not, Bool·beq}
 use mathlib.Core.List.{List}
-use Prim.Native.Nat.{ℕ, zero, suc, _+_, _-_, _*_, _≤_, _<_}
-use native.Mathlib.Nat.{mul-add, mul-le-mul, mul-le-mul-left, zero-add}
+use Prim.Native.Nat.{ℕ, zero, suc, _+_, _*_, _≤_, _<_}
+use native.Mathlib.Nat.{mul-add, mul-le-mul-left, zero-add}
 use native.Mathlib.Numerals.{add-one}
 use native.Mathlib.Omega.{arith}
 use lib.Ieee.{Float, nan}
-use lib.ListN.{length, getD, take, drop, length-take, length-drop}
-use lib.Seq.{getD-take, getD-drop}
+use lib.ListN.{getD}
+use lib.Seq.{getD-take}
 use Rattle.laws.specs.Steps.{total}
 use Rattle.laws.specs.Counting.{one}
 use Rattle.laws.specs.Sums.{total-same, total-rows, square, cube}
@@ -18,18 +18,16 @@ use Rattle.model.specs.declared.PlaceKind.the-variants.{InBlock}
 use Rattle.model.specs.declared.Reading.{Reading}
 use Rattle.model.specs.declared.Reading.the-variants.{Value}
 use Rattle.model.specs.Limits.{mostSubdivisions}
-use Rattle.model.specs.Samples.{sampleLength, inBlock, readingAt, valueOf, valueAt, sampleOf}
+use Rattle.model.specs.Samples.{sampleLength, inBlock, valueOf, valueAt, sampleOf}
 use Rattle.model.specs.Rotations.{xyz}
 use Rattle.model.specs.Formulas.{inside, insideBit}
 use Rattle.model.specs.Star.{Star, subdivisions}
-use Rattle.model.specs.Points.{regularCase}
 use Rattle.model.specs.Mesh.{emptyMesh, regularLayer}
 use Rattle.model.specs.OverCells.{trianglesAt}
 use Rattle.model.specs.Record.{headerOf, countOf, samplesOf, starOf}
 use Rattle.grid.specs.Places.{in-block}
-use Rattle.grid.specs.Kinds.{inBlockReading, in-block-reading}
-use Rattle.cases.specs.Sheets.{Line, lineCase}
-use Rattle.cases.specs.Lines.{case-is}
+use Rattle.grid.specs.Kinds.{in-block-reading}
+use Rattle.cases.specs.Sheets.{Measured, Plane}
 use Rattle.algorithm.specs.Passes.{Grows}
 use Rattle.sheet.specs.declared.Figures.{Figures}
 use Rattle.sheet.specs.Definition.{insideAt, insideSamples, crossesX, crossesY, crossesZ, xEdges, yEdges, zEdges, madeAt, plus}
@@ -38,21 +36,6 @@ use Rattle.sheet.specs.Counted.{layer-vertices, layer-triangles}
 -- the places that a plane has room for
 abbrev pub planePlaces : ℕ
 planePlaces = (mostSubdivisions + 1) * (mostSubdivisions + 1)
-
-pub plane-few : (n : ℕ) → n ≤ mostSubdivisions → (n + 1) * (n + 1) ≤ planePlaces
-plane-few n few =
-    let most : n + 1 ≤ mostSubdivisions + 1 = omega arith in
-    mul-le-mul most most
-
--- a block of so many subdivisions, with this threshold
-pub record Measured (s : Star) (n : ℕ) (threshold : Float) : Type 0 where
-  pub subdivisions-are : subdivisions s ≡ n
-  pub threshold-is : s .threshold ≡ threshold
-
--- what is read from the plane are the points at x, each in the block
-pub record Plane (s : Star) (x : ℕ) (plane : List Float) : Type 0 where
-  pub reading-at : (y z : ℕ) → y ≤ subdivisions s → z ≤ subdivisions s
-      → inBlockReading plane ((subdivisions s + 1) * y + z) ≡ readingAt (subdivisions s) (s .centre) (x + 1) (y + 1) (z + 1)
 
 abbrev ofBlock : Float → Reading
 ofBlock v = Value v InBlock
@@ -179,20 +162,6 @@ module _ (s : Star) (x : ℕ) (plane : List Float) (p : Plane s x plane) where
       total-same _ _ (n s)
       (λ z hz. ap₂ (crossingBit (s .threshold)) (read-at _ y z (omega arith) hy (omega arith)) (read-at _ y (z + 1) (omega arith) hy (omega arith)))
 
-  -- its lines
-  pub plane-line : (y start end : ℕ) → y ≤ n s → start ≡ (n s + 1) * y → end ≡ start + n s + 1 → end ≤ length plane
-      → Line (n s) (s .centre) x y (take (end - start) (drop start plane))
-  plane-line y start end hy starts ends fits =
-      let w : end - start ≡ n s + 1 = omega arith in
-      record {
-        long = rw w (simp (length-take, length-drop) (omega arith));
-        reading-at = λ z hz.
-            ap ofBlock
-            (getD-take (end - start) (drop start plane) z nan (omega arith) ∙ getD-drop start plane z nan
-            ∙ ap (λ (k : ℕ). getD plane (k + z) nan) starts)
-            ∙ p .reading-at y z hy hz;
-      }
-
 -- a plane and the next
 pub plane-across : (s : Star) (x : ℕ) (low high : List Float) → Plane s x low → Plane s (x + 1) high
     → crossingSum (s .threshold) low 0 high 0 ((subdivisions s + 1) * (subdivisions s + 1)) ≡ square (crossesX s x) (subdivisions s + 1)
@@ -208,16 +177,6 @@ plane-across s x low high p q =
 pub measured : (s : Star) (n : ℕ) (threshold : Float) (P : ℕ → Float → Type 0) → Measured s n threshold → P (subdivisions s) (s .threshold) → P n threshold
 measured s n threshold P is p =
     subst (λ (t : Float). P n t) (is .threshold-is) (subst (λ (k : ℕ). P k (s .threshold)) (is .subdivisions-are) p)
-
--- so the numbers of a row of cells between four lines are the block's
-pub row-cases : (s : Star) (n : ℕ) (threshold : Float) (x y : ℕ) (a b c d : List Float) → Measured s n threshold → Line n (s .centre) x y a
-    → Line n (s .centre) (x + 1) y b → Line n (s .centre) x (y + 1) c → Line n (s .centre) (x + 1) (y + 1) d
-    → (z : ℕ) → z < n → lineCase threshold a b c d z ≡ regularCase s x y z
-row-cases s n threshold x y a b c d is la lb lc ld z h =
-    let in-s : (x y : ℕ) (l : List Float) → Line n (s .centre) x y l → Line (subdivisions s) (s .centre) x y l =
-    λ x y l line. subst (λ (k : ℕ). Line k (s .centre) x y l) (sym (is .subdivisions-are)) line in
-    ap (λ (t : Float). lineCase t a b c d z) (sym (is .threshold-is))
-    ∙ case-is s x y a b c d (in-s x y a la) (in-s (x + 1) y b lb) (in-s x (y + 1) c lc) (in-s (x + 1) (y + 1) d ld) z (omega (arith, is .subdivisions-are))
 
 -- it is one if it holds the record's samples from the plane's first on
 module _ (bytes : List ℕ) (x : ℕ) (hx : x ≤ headerOf bytes .block .subdivisions) where

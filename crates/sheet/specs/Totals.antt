@@ -7,7 +7,6 @@ use native.Mathlib.Nat.{add-assoc, add-zero, zero-add, mul-add}
 use native.Mathlib.Omega.{arith}
 use lib.ListN.{length, take, drop, length-append}
 use lib.Seq.{drop-drop, drop-length}
-use Rattle.laws.specs.Steps.{total}
 use Rattle.laws.specs.Squares.{total-first}
 use Rattle.sheet.specs.declared.Figures.{Figures}
 use Rattle.sheet.specs.Definition.{lineOf, recordLength, Row, isWhole, rowOf, rowsFrom, rowsOf, none, plus, adds, totalOf}

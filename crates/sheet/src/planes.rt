@@ -1,21 +1,17 @@
 // The regular cells of a record, from its bytes: a plane of samples is decoded once, and two planes at a time have all that a layer of cells and the
 // grid edges between them are told by.
 ghost use mathlib.Core.Path.{_≡_};
-ghost use mathlib.Core.List.{[]};
 ghost use Prim.Native.Nat.{ℕ, _+_, _*_, _≤_, _<_};
 ghost use lib.Ieee.{nan};
 ghost use lib.ListN.{length, getD};
 ghost use Rattle.model.specs.Limits.{mostSubdivisions};
-ghost use Rattle.model.specs.Star.{Star, subdivisions};
-ghost use Rattle.model.specs.Points.{regularCase};
+ghost use Rattle.model.specs.Star.{Star};
 ghost use Rattle.model.specs.Record.{headerOf, starOf};
 ghost use Rattle.record.specs.Accepted.{Accepted};
-ghost use Rattle.cases.specs.Sheets.{rowStart, sheetPlaces, Sheet, RowPut, Line};
-ghost use Rattle.sheet.specs.Planes.{planePlaces, Measured, Plane, planeFigures, stepFigures, planesTo, LayerCounts};
+ghost use Rattle.cases.specs.Sheets.{sheetPlaces, Measured, Plane};
+ghost use Rattle.sheet.specs.Planes.{planePlaces, planeFigures, stepFigures, planesTo, LayerCounts};
 ghost use Rattle.sheet.specs.Sizes.{mostPlanes, Small};
 ghost use Rattle.cells.specs.Puts.{Few};
-ghost use Rattle.cells.specs.declared.SheetIndex.the-variants.{Layer};
-ghost use Rattle.algorithm.specs.Passes.{Held};
 use crate::Edges;
 use crate::Figures;
 use crate::plus;
@@ -24,8 +20,7 @@ use crate::points::insides;
 use algorithm::NO_SIDE;
 use algorithm::counting::count_sheet;
 use cases::SHEET;
-use cases::marks::mark_layer;
-use cases::regular::row_between;
+use cases::regular::cases_between;
 use cells::SheetIndex;
 use grid::voxel_blocks::MOST_SUBDIVISIONS;
 use grid::voxel_blocks::in_block;
@@ -63,58 +58,6 @@ fn move_down(count: usize, high: &[f32], low: &mut [f32])
         low[k] = high[k];
         k += 1;
     }
-}
-
-// The samples at y.
-fn line(n: usize, plane: &[f32], y: usize) -> &[f32]
-    requires { ⌜ (n ≤ mostSubdivisions) × ((y ≤ n) × (length (now plane) ≡ planePlaces)) ⌝ }
-    ensures { λ r. ⌜ length (now r) ≡ n + 1 ⌝ }
-    ensures { λ r. ⌜ ((s : Star) (x : ℕ) → subdivisions s ≡ n → Plane s x (now (plane .entry)) → Line n (s .centre) x y (now r)) ⌝ }
-{
-    let start = (n + 1) * y;
-    let end = start + n + 1;
-    &plane[start..end]
-}
-
-fn row(n: usize, threshold: f32, low: &[f32], high: &[f32], y: usize, cases: &mut [u8])
-    requires { ⌜ (n ≤ mostSubdivisions) × (y < n) ⌝ }
-    requires { ⌜ (length (now low) ≡ planePlaces) × ((length (now high) ≡ planePlaces) × (length (now cases) ≡ sheetPlaces)) ⌝ }
-    ensures { λ _. ⌜ ((s : Star) (x : ℕ) → Measured s n threshold → Plane s x (now (low .entry)) → Plane s (x + 1) (now (high .entry)) → RowPut (regularCase s x y) (rowStart n y) n (now (cases .entry)) (now (cases .exit))) ⌝ }
-{
-    let a = line(n, low, y);
-    let b = line(n, high, y);
-    let c = line(n, low, y + 1);
-    let d = line(n, high, y + 1);
-    row_between(n, threshold, a, b, c, d, cases, (n + 1) * y);
-}
-
-fn layer_rows(n: usize, threshold: f32, low: &[f32], high: &[f32], cases: &mut [u8])
-    requires { ⌜ n ≤ mostSubdivisions ⌝ }
-    requires { ⌜ (length (now low) ≡ planePlaces) × ((length (now high) ≡ planePlaces) × (length (now cases) ≡ sheetPlaces)) ⌝ }
-    ensures { λ _. ⌜ ((s : Star) (x : ℕ) → Measured s n threshold → Plane s x (now (low .entry)) → Plane s (x + 1) (now (high .entry)) → Sheet (regularCase s x) n n (now (cases .exit))) ⌝ }
-{
-    let mut y = 0;
-    while y < n {
-        row(n, threshold, low, high, y, cases);
-        y += 1;
-    }
-}
-
-// The case numbers of the layer between two planes, and their marks.
-fn layer_cases(
-    n: usize,
-    threshold: f32,
-    low: &[f32],
-    high: &[f32],
-    cases: &mut [u8],
-    marks: &mut [u8],
-)
-    requires { ⌜ n ≤ mostSubdivisions ⌝ }
-    requires { ⌜ (length (now low) ≡ planePlaces) × ((length (now high) ≡ planePlaces) × ((length (now cases) ≡ sheetPlaces) × (length (now marks) ≡ sheetPlaces))) ⌝ }
-    ensures { λ _. ⌜ ((s : Star) (x : ℕ) → Measured s n threshold → Plane s x (now (low .entry)) → Plane s (x + 1) (now (high .entry)) → Held s (Layer x) n (now (cases .exit)) [] (now (marks .exit))) ⌝ }
-{
-    layer_rows(n, threshold, low, high, cases);
-    mark_layer(n, cases, marks);
 }
 
 // The crossing edges along z in a plane, line by line.
@@ -194,7 +137,7 @@ pub fn count_layers(src: &[u8], header: Header) -> Figures
     while x < n {
         move_down(count, &high, &mut low);
         fill_plane(src, n, x + 1, &mut high);
-        layer_cases(n, header.threshold, &low, &high, &mut cases, &mut marks);
+        cases_between(n, header.threshold, &low, &high, &mut cases, &mut marks);
         let counts = count_sheet(
             n,
             SheetIndex::Layer(x),

@@ -20,9 +20,10 @@ use algorithm::NONE;
 use algorithm::counting::count_sheet;
 use algorithm::counting::plus;
 use cases::SHEET;
-use cases::transition::Lines;
-use cases::transition::row_on;
+use cases::transition::rows_on;
 use cells::SheetIndex;
+use grid::face_walk::FaceWalk;
+use grid::face_walk::Stride;
 use grid::transition_sides::SIDES;
 use grid::transition_sides::next_side;
 use grid::voxel_blocks::MOST_SUBDIVISIONS;
@@ -72,25 +73,16 @@ fn face_cases(src: &[u8], header: Header, side: usize, cases: &mut [u16], marks:
 {
     let n = header.block.subdivisions;
     let width = 2 * n + 1;
-    let lines = Lines {
-        a: 0,
-        b: width,
-        c: 2 * width,
-        step: NEXT,
+    let walk = FaceWalk {
+        first: 0,
+        u: Stride { up: width, down: 0 },
+        v: NEXT,
     };
     let mut samples = [0.0f32; THREE_LINES];
     let mut u = 0;
     while u < n {
         fill_lines(src, header, side, u, &mut samples);
-        row_on(
-            n,
-            header.threshold,
-            &samples,
-            lines,
-            cases,
-            marks,
-            (n + 1) * u,
-        );
+        rows_on(n, header.threshold, &samples, walk, 1, cases, marks, u);
         u += 1;
     }
 }

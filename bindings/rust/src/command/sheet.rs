@@ -30,7 +30,7 @@ short meanwhile.
 
 fn run(mut arguments: Arguments) -> Result<(), Failure> {
     let form = if arguments.flag("--csv") { CSV } else { TABLE };
-    let jobs = arguments.number("--jobs", 1..=256)?.unwrap_or(1);
+    let jobs = arguments.jobs()?.unwrap_or(1);
     let [path] = arguments.by_place(["RUN"])?;
     let bytes = Bytes::open(&path, MOST_RUN + 1)?;
     let run = bytes.as_slice();

@@ -6,7 +6,7 @@ use mathlib.Core.Path.{_≡_, refl}
 use lib.ListN.{length}
 use Rattle.cases.specs.Sheets.{RowPut}
 use Rattle.cases.specs.Pairs.{pairedWith}
-use Rattle.cases.specs.Rows.{none-put, sixteen-more}
+use Rattle.cases.proofs.Rows.{none-put, sixteen-more}
 use Rattle.cases.proofs.Pairing.{paired-still}
 use Rattle.cases.proofs.pairs.by_sixteens.Statement.{statement}
 use Rattle.cases.proofs.pairs.by_sixteens.Tie as tie

@@ -9,7 +9,7 @@ use Rattle.cases.specs.Sheets.{Sheet}
 use Rattle.cases.specs.Marks.{allRegular}
 use Rattle.cases.specs.PairLaws.{pairs-upper}
 use Rattle.cases.proofs.Pairing.{point-small, pairs-small, pairs-sheet}
-use Rattle.cases.specs.Rows.{marked-sheet}
+use Rattle.cases.proofs.Rows.{marked-sheet}
 use Rattle.cases.proofs.pairs.layer_cases.Statement.{statement}
 use Rattle.cases.proofs.pairs.layer_cases.Tie as tie
 

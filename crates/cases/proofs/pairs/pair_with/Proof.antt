@@ -7,7 +7,7 @@ use mathlib.Core.List.{List}
 use lib.ListN.{length, length-set}
 use Rattle.cases.specs.Sheets.{RowPut}
 use Rattle.cases.specs.Pairs.{pairedWith}
-use Rattle.cases.specs.Rows.{first-more}
+use Rattle.cases.proofs.Rows.{first-more}
 use Rattle.cases.proofs.Pairing.{paired-still}
 use Rattle.cases.proofs.pairs.pair_with.Statement.{statement}
 use Rattle.cases.proofs.pairs.pair_with.Tie as tie

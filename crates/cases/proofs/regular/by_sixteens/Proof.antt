@@ -5,7 +5,7 @@ use Prim.Native.Nat.{_-_, _≤_}
 use mathlib.Core.Path.{_≡_, refl}
 use lib.ListN.{length}
 use Rattle.cases.specs.Sheets.{lineCase, RowPut}
-use Rattle.cases.specs.Rows.{none-put, sixteen-more}
+use Rattle.cases.proofs.Rows.{none-put, sixteen-more}
 use Rattle.cases.proofs.regular.by_sixteens.Statement.{statement}
 use Rattle.cases.proofs.regular.by_sixteens.Tie as tie
 

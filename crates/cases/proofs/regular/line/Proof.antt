@@ -1,31 +1,36 @@
--- `regular::line` meets its contract: the places from (x, y, 0) to (x, y, n) lie one after another.
-use Prim.Native.Nat.{_+_, _≤_}
+-- `regular::line` meets its contract: the places from (y, 0) to (y, n) lie one after another.
+use Prim.Native.Nat.{ℕ, _+_, _-_, _*_, _≤_}
+use mathlib.Core.Path.{sym, ap, subst}
+use native.Mathlib.Nat.{mul-add, mul-le-mul-left}
 use native.Mathlib.Omega.{arith}
-use lib.ListN.{length}
-use Rattle.grid.specs.Places.{in-block}
-use Rattle.cases.specs.Lines.{part-is-line}
 use borrow.Author.Needs.{needs}
+use lib.ListN.{length, take, drop, length-take, length-drop}
+use Rattle.cases.specs.Sheets.{Line}
+use Rattle.cases.proofs.Lines.{part-is-line}
 use Rattle.cases.proofs.regular.line.Statement.{statement}
 use Rattle.cases.proofs.regular.line.Tie as tie
 
--- the last of them is one of the block's
-ends-in : (c : tie.After-in-block) → let a = c .before .before .args in c .in-block .result + a .n + 1 ≤ length (a .centre .now)
-ends-in c =
-    let start = c .before .before in
-    let a = start .args in
-    omega (arith, c .in-block .ensures .0, in-block (a .n) (a .x) (a .y) (a .n) (omega arith) (omega arith) (omega arith), start .pre .1)
+-- the line ends within the plane
+ends-in : (e : tie.Start) → (e .args .n + 1) * e .args .y + e .args .n + 1 ≤ (e .args .n + 1) * (e .args .n + 1)
+ends-in e =
+    let m = e .args .n + 1 in
+    let most : m * e .args .y ≤ m * e .args .n = mul-le-mul-left m (e .pre .1 .0) in
+    omega (arith, most, mul-add m (e .args .n) 1)
 
-in-block-requires : tie.Need-in-block-requires
-in-block-requires c κs = search needs
+add-start : tie.Need-add-start
+add-start c = search needs
+
+mul-start : tie.Need-mul-start
+mul-start c = omega (arith, ends-in c)
 
 add-end : tie.Need-add-end
-add-end c = search needs
+add-end c = omega (arith, ends-in c)
 
 add-end-2 : tie.Need-add-end-2
-add-end-2 c = search needs
+add-end-2 c = omega (arith, ends-in c)
 
 mul-result : tie.Need-mul-result
-mul-result c = search needs
+mul-result c = omega (arith, ends-in c)
 
 sub-result : tie.Need-sub-result
 sub-result c = search needs
@@ -34,21 +39,26 @@ part-result-start : tie.Need-part-result-start
 part-result-start c = search needs
 
 part-result-end : tie.Need-part-result-end
-part-result-end c = ends-in c
+part-result-end c = omega (arith, ends-in c, c .pre .1 .1)
 
 returns : tie.Need-returns
 returns c =
-    let placed = c .before in
-    let a = placed .before .before .args in
-    let first = placed .in-block in
-    part-is-line (a .n) (a .centre .now) (a .x) (a .y) (first .result) (first .result + a .n + 1) (omega arith) (omega arith) (first .ensures .0)
-    (omega (arith, first .ensures .0)) (ends-in placed)
+    let e = c .before in
+    let a = e .args in
+    let start = (a .n + 1) * a .y in
+    let fits : start + a .n + 1 ≤ length (a .plane .now) = omega (arith, ends-in e, e .pre .1 .1) in (
+      simp (length-take, length-drop) (omega arith),
+      λ s x n-is p.
+          subst (λ (n : ℕ). Line n (s .centre) x (a .y) (take (start + a .n + 1 - start) (drop start (a .plane .now)))) n-is
+          (part-is-line s x (a .y) start (start + a .n + 1) (a .plane .now) p (omega (arith, e .pre .1 .0)) (ap (λ (n : ℕ). (n + 1) * a .y) (sym n-is)) (omega arith) fits),
+    )
 
 pub line-spec : {M : Type 1} → statement M
 line-spec =
     tie.close
     (tie.spec
-    in-block-requires
+    add-start
+    mul-start
     add-end
     add-end-2
     mul-result

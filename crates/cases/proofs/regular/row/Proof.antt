@@ -1,37 +1,34 @@
 -- `regular::row` meets its contract: its four lines are those at the corners of the cells.
-use Rattle.model.specs.Star.{star}
+use Prim.Native.Nat.{_+_}
 use native.Mathlib.Omega.{arith}
-use Rattle.cases.specs.RowPlaces.{row-fits}
-use Rattle.cases.specs.Rows.{row-as}
-use Rattle.cases.specs.Lines.{case-is}
 use borrow.Author.Needs.{needs}
+use Rattle.cases.specs.RowPlaces.{row-fits}
+use Rattle.cases.proofs.Rows.{row-as}
+use Rattle.cases.proofs.Lines.{case-measured}
 use Rattle.cases.proofs.regular.row.Statement.{statement}
 use Rattle.cases.proofs.regular.row.Tie as tie
 
--- the entry
+-- the first of the four lines, and the entry
+abbrev first : tie.After-line4 → tie.After-line
+first c = c .before .before .before
+
 abbrev entry : tie.After-line4 → tie.Start
-entry c = c .before .before .before .before .before .before
+entry c = first c .before .before .before .before
 
 line-requires : tie.Need-line-requires
 line-requires c κs = search needs
 
-add-line : tie.Need-add-line
-add-line c = search needs
-
 line-requires-2 : tie.Need-line-requires-2
 line-requires-2 c κs = search needs
 
-add-line-2 : tie.Need-add-line-2
-add-line-2 c = search needs
+add-line : tie.Need-add-line
+add-line c = search needs
 
 line-requires-3 : tie.Need-line-requires-3
 line-requires-3 c κs = search needs
 
-add-line-3 : tie.Need-add-line-3
-add-line-3 c = search needs
-
-add-line-4 : tie.Need-add-line-4
-add-line-4 c = search needs
+add-line-2 : tie.Need-add-line-2
+add-line-2 c = search needs
 
 line-requires-4 : tie.Need-line-requires-4
 line-requires-4 c κs = search needs
@@ -40,16 +37,16 @@ add-row-between : tie.Need-add-row-between
 add-row-between c = search needs
 
 mul-row-between : tie.Need-mul-row-between
-mul-row-between c = let p = entry (c .before) .pre in omega (arith, row-fits _ _ (p .0 .0) (p .1 .1 .0))
+mul-row-between c = let p = entry (c .before) .pre in omega (arith, row-fits _ _ (p .0 .0) (p .0 .1 .0))
 
 row-between-requires : tie.Need-row-between-requires
 row-between-requires c κs =
     let lines = c .before in
     let p = entry lines .pre in
-    let a = lines .before .before .before .line .ensures in
+    let a = first lines .line .ensures in
     let b = lines .before .before .line2 .ensures in
     let d = lines .before .line3 .ensures in
-    ((p .0 .0, omega (arith, row-fits _ _ (p .0 .0) (p .1 .1 .0))), ((a .long, (b .long, (d .long, lines .line4 .ensures .long))), p .1 .1 .1))
+    ((p .0 .0, omega (arith, row-fits _ _ (p .0 .0) (p .0 .1 .0), p .0 .1 .1)), ((a .0, (b .0, (d .0, lines .line4 .ensures .0))), p .0 .1 .1))
 
 same-length : tie.Need-same-length
 same-length c = search needs
@@ -57,12 +54,16 @@ same-length c = search needs
 returns : tie.Need-returns
 returns c =
     let lines = c .before .before .before .before in
-    let a = entry lines .args in (
-      λ ns.
+    let a = entry lines .args in
+    let put = c .before .before .row-between .ensures in (
+      λ s x is low high.
+          let n-is = is .subdivisions-are in
           row-as
-          (case-is (star (a .header) (a .centre .now) ns) (a .x) (a .y) _ _ _ _ (lines .before .before .before .line .ensures) (lines .before .before .line2 .ensures)
-          (lines .before .line3 .ensures) (lines .line4 .ensures)) (c .before .before .row-between .ensures .0),
-      c .before .before .row-between .ensures .1,
+          (case-measured s (a .n) (a .threshold) x (a .y) _ _ _ _ is (first lines .line .ensures .1 s x n-is low)
+          (lines .before .before .line2 .ensures .1 s (x + 1) n-is high) (lines .before .line3 .ensures .1 s x n-is low)
+          (lines .line4 .ensures .1 s (x + 1) n-is high))
+          (put .0),
+      put .1,
     )
 
 pub row-spec : {M : Type 1} → statement M
@@ -70,12 +71,10 @@ row-spec =
     tie.close
     (tie.spec
     line-requires
-    add-line
     line-requires-2
-    add-line-2
+    add-line
     line-requires-3
-    add-line-3
-    add-line-4
+    add-line-2
     line-requires-4
     add-row-between
     mul-row-between

@@ -6,7 +6,7 @@ use mathlib.Core.Path.{_≡_, refl}
 use mathlib.Core.List.{List}
 use lib.ListN.{length, length-set}
 use Rattle.cases.specs.Sheets.{lineCase, RowPut}
-use Rattle.cases.specs.Rows.{one-more}
+use Rattle.cases.proofs.Rows.{one-more}
 use Rattle.cases.proofs.regular.row_between.Statement.{statement}
 use Rattle.cases.proofs.regular.row_between.Tie as tie
 

@@ -12,13 +12,14 @@ use Rattle.model.specs.declared.Header.{Header}
 use Rattle.model.specs.Limits.{mostSubdivisions}
 use Rattle.model.specs.Record.{starOf}
 use Rattle.model.specs.Star.{Star}
-use Rattle.cases.specs.Sheets.{sheetPlaces}
+use Rattle.cases.specs.Sheets.{sheetPlaces, Measured, Plane}
 use Rattle.cells.specs.declared.SheetIndex.the-variants.{Layer}
 use Rattle.algorithm.specs.Passes.{Held}
 use Rattle.algorithm.specs.Numbers.{held-sheeted}
 use Rattle.sheet.specs.declared.Figures.{Figures}
 use Rattle.sheet.specs.Definition.{plus}
-use Rattle.sheet.specs.Planes.{planePlaces, plane-few, Measured, Plane, planesTo, LayerCounts, layer-counts, plane-same}
+use Rattle.cases.specs.RowPlaces.{layer-fits}
+use Rattle.sheet.specs.Planes.{planePlaces, planesTo, LayerCounts, layer-counts, plane-same}
 use Rattle.sheet.specs.Sizes.{mostPlanes, Small, small-plus, small-of, small-fits}
 use Rattle.sheet.proofs.planes.count_layers.Statement.{statement}
 use Rattle.sheet.proofs.planes.count_layers.Tie as tie
@@ -71,7 +72,7 @@ module _ (e : tie.Start Inv-loop μ-loop) where
   n-few = omega (arith, e .pre .0 .few, is .subdivisions-are)
 
   few : (n + 1) * (n + 1) ≤ planePlaces
-  few = plane-few n n-few
+  few = layer-fits n n-few
 
 add-count : tie.Need-add-count Inv-loop μ-loop
 add-count c = omega (arith, n-few (c .before))
@@ -194,27 +195,28 @@ module _ (c : tie.After-fill-plane2 Inv-loop μ-loop) where
 abbrev above : tie.After-marks Inv-loop μ-loop → tie.After-fill-plane2 Inv-loop μ-loop
 above c = c .before .before .before .before .before
 
-slice-aggregate-layer-cases : tie.Need-slice-aggregate-layer-cases Inv-loop μ-loop
-slice-aggregate-layer-cases c = sym (low-long (moved (c .before .before)))
+slice-aggregate-cases-between : tie.Need-slice-aggregate-cases-between Inv-loop μ-loop
+slice-aggregate-cases-between c = sym (low-long (moved (c .before .before)))
 
-slice-aggregate-layer-cases-2 : tie.Need-slice-aggregate-layer-cases-2 Inv-loop μ-loop
-slice-aggregate-layer-cases-2 c = sym (high-long (c .before .before .before))
+slice-aggregate-cases-between-2 : tie.Need-slice-aggregate-cases-between-2 Inv-loop μ-loop
+slice-aggregate-cases-between-2 c = sym (high-long (c .before .before .before))
 
-slice-aggregate-layer-cases-3 : tie.Need-slice-aggregate-layer-cases-3 Inv-loop μ-loop
-slice-aggregate-layer-cases-3 c = sym (turn (moved (c .before .before .before .before)) .before .loop .inv .cases-long)
+slice-aggregate-cases-between-3 : tie.Need-slice-aggregate-cases-between-3 Inv-loop μ-loop
+slice-aggregate-cases-between-3 c = sym (turn (moved (c .before .before .before .before)) .before .loop .inv .cases-long)
 
-slice-aggregate-layer-cases-4 : tie.Need-slice-aggregate-layer-cases-4 Inv-loop μ-loop
-slice-aggregate-layer-cases-4 c = sym (turn (moved (above c)) .before .loop .inv .marks-long)
+slice-aggregate-cases-between-4 : tie.Need-slice-aggregate-cases-between-4 Inv-loop μ-loop
+slice-aggregate-cases-between-4 c = sym (turn (moved (above c)) .before .loop .inv .marks-long)
 
-layer-cases-requires : tie.Need-layer-cases-requires Inv-loop μ-loop
-layer-cases-requires c κs =
+cases-between-requires : tie.Need-cases-between-requires Inv-loop μ-loop
+cases-between-requires c κs =
     let filled = above c in
     let below = moved filled in
     let so-far = turn below .before .loop .inv in
-    (n-few (start below), (low-long below, (high-long filled, (so-far .cases-long, so-far .marks-long))))
+    let room = few (start below) in
+    ((n-few (start below), (so-far .cases-long, so-far .marks-long)), (omega (arith, room, low-long below), omega (arith, room, high-long filled)))
 
 -- the layer's case numbers are there, and their marks
-module _ (c : tie.After-layer-cases Inv-loop μ-loop) where
+module _ (c : tie.After-cases-between Inv-loop μ-loop) where
   abbrev filled : tie.After-fill-plane2 Inv-loop μ-loop
   filled = above (c .before)
 
@@ -225,26 +227,32 @@ module _ (c : tie.After-layer-cases Inv-loop μ-loop) where
   first = start below
 
   abbrev cases : List ℕ
-  cases = c .layer-cases .last .1 .1 .1 .1 .0
+  cases = c .cases-between .last .1 .1 .1 .1 .0
 
   abbrev marks : List ℕ
-  marks = c .layer-cases .last .1 .1 .1 .1 .1 .0
+  marks = c .cases-between .last .1 .1 .1 .1 .1 .0
 
   cases-long : length cases ≡ sheetPlaces
-  cases-long = c .layer-cases .kept .1 .1 .1 .1 .0 ∙ turn below .before .loop .inv .cases-long
+  cases-long = c .cases-between .kept .1 .1 .1 .1 .0 ∙ turn below .before .loop .inv .cases-long
 
   marks-long : length marks ≡ sheetPlaces
-  marks-long = c .layer-cases .kept .1 .1 .1 .1 .1 .0 ∙ turn below .before .loop .inv .marks-long
+  marks-long = c .cases-between .kept .1 .1 .1 .1 .1 .0 ∙ turn below .before .loop .inv .marks-long
 
   held : Held (s first) (Layer (x below)) (n first) cases [] marks
-  held = c .layer-cases .ensures (s first) (x below) (is first) (low-plane below) (filled .fill-plane2 .ensures)
+  held =
+      let made = c .cases-between .ensures in
+      let high-plane = filled .fill-plane2 .ensures in
+      record {
+        numbers = made .0 (s first) (x below) (is first) (low-plane below) high-plane;
+        marked = made .1 .0 (s first) (x below) (is first) (low-plane below) high-plane;
+      }
 
 -- the tables are as long as they are told
-abbrev fetched : tie.After-layer-cases Inv-loop μ-loop → tie.After-regular-vertex-data Inv-loop μ-loop
+abbrev fetched : tie.After-cases-between Inv-loop μ-loop → tie.After-regular-vertex-data Inv-loop μ-loop
 fetched c = tables (turn (below c) .before)
 
 -- where the case numbers are, from where the tables are lent
-abbrev cased : tie.After-codes Inv-loop μ-loop → tie.After-layer-cases Inv-loop μ-loop
+abbrev cased : tie.After-codes Inv-loop μ-loop → tie.After-cases-between Inv-loop μ-loop
 cased c = c .before .before .before .before .before
 
 slice-aggregate-count-sheet : tie.Need-slice-aggregate-count-sheet Inv-loop μ-loop
@@ -275,7 +283,7 @@ count-sheet-requires c κs =
 
 -- its cells are counted
 module _ (c : tie.After-count-sheet Inv-loop μ-loop) where
-  abbrev layer : tie.After-layer-cases Inv-loop μ-loop
+  abbrev layer : tie.After-cases-between Inv-loop μ-loop
   layer = cased (c .before .before .before .before)
 
   counts : LayerCounts (s (first layer)) (x (below layer)) (c .count-sheet .result)
@@ -363,11 +371,11 @@ count-layers-spec =
     add-fill-plane
     slice-aggregate-fill-plane-2
     fill-plane-requires-2
-    slice-aggregate-layer-cases
-    slice-aggregate-layer-cases-2
-    slice-aggregate-layer-cases-3
-    slice-aggregate-layer-cases-4
-    layer-cases-requires
+    slice-aggregate-cases-between
+    slice-aggregate-cases-between-2
+    slice-aggregate-cases-between-3
+    slice-aggregate-cases-between-4
+    cases-between-requires
     slice-aggregate-count-sheet
     slice-aggregate-count-sheet-2
     slice-aggregate-count-sheet-3

@@ -8,7 +8,9 @@ use borrow.Author.Needs.{needs}
 use Rattle.laws.specs.Steps.{total}
 use Rattle.model.specs.Star.{Star, subdivisions}
 use Rattle.sheet.specs.Definition.{crossesZ}
-use Rattle.sheet.specs.Planes.{planePlaces, plane-few, Measured, Plane, crossingSum, measured, plane-along}
+use Rattle.cases.specs.Sheets.{Measured, Plane}
+use Rattle.cases.specs.RowPlaces.{layer-fits}
+use Rattle.sheet.specs.Planes.{planePlaces, crossingSum, measured, plane-along}
 use Rattle.sheet.proofs.planes.crossings_along.Statement.{statement}
 use Rattle.sheet.proofs.planes.crossings_along.Tie as tie
 
@@ -26,7 +28,7 @@ abbrev Start : Type 0
 Start = tie.Start Inv-loop μ-loop
 
 few : (e : Start) → (e .args .n + 1) * (e .args .n + 1) ≤ planePlaces
-few e = plane-few (e .args .n) (e .pre .0)
+few e = layer-fits (e .args .n) (e .pre .0)
 
 add-m : tie.Need-add-m Inv-loop μ-loop
 add-m c = search needs

@@ -9,7 +9,8 @@ use lib.ListN.{length, getD, length-set}
 use Rattle.model.specs.Samples.{inBlock}
 use Rattle.model.specs.Record.{countOf, samplesOf}
 use Rattle.laws.specs.Filled.{Filled, none-filled, one-filled}
-use Rattle.sheet.specs.Planes.{planePlaces, plane-few, plane-read, plane-in}
+use Rattle.cases.specs.RowPlaces.{layer-fits}
+use Rattle.sheet.specs.Planes.{planePlaces, plane-read, plane-in}
 use Rattle.sheet.proofs.planes.fill_plane.Statement.{statement}
 use Rattle.sheet.proofs.planes.fill_plane.Tie as tie
 
@@ -27,7 +28,7 @@ Start = tie.Start Inv-loop μ-loop
 
 -- a plane's places are few
 few : (e : Start) → (e .args .n + 1) * (e .args .n + 1) ≤ planePlaces
-few e = plane-few (e .args .n) (omega (arith, e .pre .0 .0 .few, e .pre .0 .1))
+few e = layer-fits (e .args .n) (omega (arith, e .pre .0 .0 .few, e .pre .0 .1))
 
 in-block-requires : tie.Need-in-block-requires Inv-loop μ-loop
 in-block-requires c κs = omega (arith, c .before .before .pre .0 .0 .few, c .before .before .pre .0 .1)

@@ -11,13 +11,14 @@ use Rattle.laws.specs.Sums.{square}
 use Rattle.model.specs.Formulas.{insideBit}
 use Rattle.model.specs.Star.{subdivisions}
 use Rattle.sheet.specs.Definition.{insideAt}
-use Rattle.sheet.specs.Planes.{planePlaces, plane-few, crossingSum, planeFigures, measured, plane-inside, plane-up}
+use Rattle.cases.specs.RowPlaces.{layer-fits}
+use Rattle.sheet.specs.Planes.{planePlaces, crossingSum, planeFigures, measured, plane-inside, plane-up}
 use Rattle.sheet.proofs.planes.plane_figures.Statement.{statement}
 use Rattle.sheet.proofs.planes.plane_figures.Tie as tie
 
 -- the plane's places, and those of its lines but the last, are few
 few : (e : tie.Start) → (e .args .n + 1) * (e .args .n + 1) ≤ planePlaces
-few e = plane-few (e .args .n) (e .pre .0)
+few e = layer-fits (e .args .n) (e .pre .0)
 
 lines-few : (e : tie.Start) → e .args .n + 1 + (e .args .n + 1) * e .args .n ≤ planePlaces
 lines-few e = omega (arith, few e, mul-add (e .args .n + 1) (e .args .n) 1)

@@ -6,12 +6,13 @@ use borrow.Author.Needs.{needs}
 use Rattle.laws.specs.Sums.{square}
 use Rattle.model.specs.Star.{subdivisions}
 use Rattle.sheet.specs.Definition.{crossesX}
-use Rattle.sheet.specs.Planes.{planePlaces, plane-few, crossingSum, measured, plane-across}
+use Rattle.cases.specs.RowPlaces.{layer-fits}
+use Rattle.sheet.specs.Planes.{planePlaces, crossingSum, measured, plane-across}
 use Rattle.sheet.proofs.planes.step_figures.Statement.{statement}
 use Rattle.sheet.proofs.planes.step_figures.Tie as tie
 
 few : (e : tie.Start) → (e .args .n + 1) * (e .args .n + 1) ≤ planePlaces
-few e = plane-few (e .args .n) (e .pre .0)
+few e = layer-fits (e .args .n) (e .pre .0)
 
 plane-figures-requires : tie.Need-plane-figures-requires
 plane-figures-requires c κs = search needs

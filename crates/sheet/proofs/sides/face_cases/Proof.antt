@@ -1,6 +1,6 @@
 -- `sides::face_cases` meets its contract. The loop's invariant: the rows passed have their numbers and marks.
-use Prim.Native.Nat.{ℕ, _+_, _-_, _≤_}
-use mathlib.Core.Path.{_≡_, sym, ap, _∙_}
+use Prim.Native.Nat.{ℕ, _-_, _≤_}
+use mathlib.Core.Path.{_≡_, sym, _∙_}
 use mathlib.Core.List.{List}
 use native.Mathlib.Omega.{arith}
 use borrow.Author.Needs.{needs}
@@ -8,11 +8,10 @@ use lib.Ieee.{Float, ofBits, binary32}
 use lib.ListN.{length, length-replicate}
 use Rattle.model.specs.Points.{transitionCase}
 use Rattle.model.specs.Record.{starOf}
-use Rattle.cases.specs.Sheets.{rowStart, sheetPlaces, Sheet}
+use Rattle.cases.specs.Sheets.{sheetPlaces, Sheet}
 use Rattle.cases.specs.Marks.{allTransition, markOf}
-use Rattle.cases.specs.RowPlaces.{row-fits}
-use Rattle.cases.specs.Rows.{row-as, no-row, one-more-row}
-use Rattle.sheet.specs.Fine.{threeLines, fine-lined, face-case}
+use Rattle.cases.specs.RowPlaces.{no-row}
+use Rattle.sheet.specs.Fine.{threeLines, lines-walked, face-cases}
 use Rattle.sheet.proofs.sides.face_cases.Statement.{statement}
 use Rattle.sheet.proofs.sides.face_cases.Tie as tie
 
@@ -25,10 +24,10 @@ record SoFar (src : List ℕ) (side n : ℕ) (cases marks : List ℕ) (samples :
   marked : Sheet (λ j k. markOf allTransition (transitionCase (starOf src) side j k)) n u marks
 
 abbrev Inv-loop : tie.InvT-loop
-Inv-loop src header side cases₀ marks₀ n width lines samples₀ u₀ cases marks samples u = SoFar src side n cases marks samples u
+Inv-loop src header side cases₀ marks₀ n width walk samples₀ u₀ cases marks samples u = SoFar src side n cases marks samples u
 
 abbrev μ-loop : tie.MeasureT-loop
-μ-loop src header side cases₀ marks₀ n width lines samples₀ u₀ cases marks samples u = n - u
+μ-loop src header side cases₀ marks₀ n width walk samples₀ u₀ cases marks samples u = n - u
 
 abbrev Start : Type 0
 Start = tie.Start Inv-loop μ-loop
@@ -52,9 +51,6 @@ mul-width c = search needs
 add-width : tie.Need-add-width Inv-loop μ-loop
 add-width c = search needs
 
-mul-t11 : tie.Need-mul-t11 Inv-loop μ-loop
-mul-t11 c = search needs
-
 loop-holds : tie.Need-loop-holds Inv-loop μ-loop
 loop-holds c =
     record {
@@ -74,32 +70,18 @@ fill-lines-requires c κs =
     let here = c .before in
     (entry here .pre .0, (here .loop-test .taken, here .before .loop .inv .samples-long))
 
-slice-aggregate-row-on : tie.Need-slice-aggregate-row-on Inv-loop μ-loop
-slice-aggregate-row-on c = sym (still-long (c .before .before))
+slice-aggregate-rows-on : tie.Need-slice-aggregate-rows-on Inv-loop μ-loop
+slice-aggregate-rows-on c = sym (still-long (c .before .before))
 
--- a row's places lie within the sheet
-row-within : (c : tie.After-fill-lines Inv-loop μ-loop) → let here = c .before .before in
-    let n = entry here .args .header .block .subdivisions in rowStart n (here .before .loop .u) + n ≤ sheetPlaces
-row-within c =
-    let here = c .before .before in
-    omega (arith, row-fits _ _ (entry here .pre .0 .1 .1 .few) (here .loop-test .taken))
-
-add-row-on : tie.Need-add-row-on Inv-loop μ-loop
-add-row-on c = search needs
-
-mul-row-on : tie.Need-mul-row-on Inv-loop μ-loop
-mul-row-on c = omega (arith, row-within (c .before .before .before .before))
-
-row-on-requires : tie.Need-row-on-requires Inv-loop μ-loop
-row-on-requires c κs =
+rows-on-requires : tie.Need-rows-on-requires Inv-loop μ-loop
+rows-on-requires c κs =
     let filled = c .before .before .before .before in
     let here = filled .before .before in
     let so-far = here .before .loop .inv in
     let e = entry here in
-    let few = e .pre .0 .1 .1 .few in
-    let within = row-within filled in (
-      (few, (omega (arith, within, so-far .cases-long), omega (arith, within, so-far .marks-long))),
-      λ v2 h. rw (still-long filled) (fine-lined (e .args .header .block .subdivisions) few v2 h),
+    let few = e .pre .0 .1 .1 .few in (
+      (few, (omega (arith, here .loop-test .taken), (so-far .cases-long, so-far .marks-long))),
+      rw (still-long filled) (lines-walked (e .args .header .block .subdivisions) few),
     )
 
 add-u : tie.Need-add-u Inv-loop μ-loop
@@ -115,15 +97,16 @@ loop-again c =
     let here = filled .before .before in
     let turn = here .before .loop in
     let e = entry here in
-    let put = written .row-on in
-    let case = face-case (e .args .src .now) (e .args .header) (e .args .side) (turn .u) (e .pre .0 .1 .0) _ (filled .fill-lines .ensures) in
+    let put = written .rows-on in
+    let side = transitionCase (starOf (e .args .src .now)) (e .args .side) in
+    let on = face-cases (e .args .src .now) (e .args .header) (e .args .side) (turn .u) (e .pre .0 .1 .0) _ (filled .fill-lines .ensures) in
     record {
       within = omega (arith, here .loop-test .taken);
-      cases-long = put .kept .1 .1 .1 .1 .0 ∙ turn .inv .cases-long;
-      marks-long = put .kept .1 .1 .1 .1 .1 .0 ∙ turn .inv .marks-long;
+      cases-long = put .kept .1 .1 .1 .1 .1 .0 ∙ turn .inv .cases-long;
+      marks-long = put .kept .1 .1 .1 .1 .1 .1 .0 ∙ turn .inv .marks-long;
       samples-long = still-long filled;
-      numbers = one-more-row _ _ (turn .u) (turn .cases) _ (row-as case (put .ensures .0)) (turn .inv .numbers);
-      marked = one-more-row _ _ (turn .u) (turn .marks) _ (row-as (λ v h. ap (markOf allTransition) (case v h)) (put .ensures .1 .0)) (turn .inv .marked);
+      numbers = put .ensures .0 side on (turn .inv .numbers);
+      marked = put .ensures .1 .0 side on (turn .inv .marked);
     }
 
 same-length : tie.Need-same-length Inv-loop μ-loop
@@ -146,14 +129,11 @@ face-cases-spec =
     μ-loop
     mul-width
     add-width
-    mul-t11
     loop-holds
     slice-aggregate-fill-lines
     fill-lines-requires
-    slice-aggregate-row-on
-    add-row-on
-    mul-row-on
-    row-on-requires
+    slice-aggregate-rows-on
+    rows-on-requires
     add-u
     loop-less
     loop-again

@@ -1,32 +1,31 @@
--- `regular::layer_rows` meets its contract. The loop's invariant: the rows passed are written, and what they read is counted.
+-- `regular::rows` meets its contract. The loop's invariant: the rows passed are written, and what they read is counted.
 use native.Mathlib.Omega.{arith}
 use borrow.Author.Needs.{needs}
-use Prim.Native.Nat.{_-_, _*_, _≤_}
+use Prim.Native.Nat.{ℕ, _+_, _-_, _*_, _≤_}
 use mathlib.Core.Path.{_≡_, _∙_}
-use mathlib.Core.List.{List}
-use lib.Ieee.{Float}
 use lib.ListN.{length}
 use Rattle.model.specs.Limits.{mostSubdivisions}
-use Rattle.model.specs.Star.{star}
+use Rattle.model.specs.Star.{Star}
 use Rattle.model.specs.Points.{regularCase}
 use Rattle.model.specs.Mesh.{regularReads}
-use Rattle.cases.specs.Sheets.{sheetPlaces, Sheet}
-use Rattle.cases.specs.Rows.{no-row, one-more-row}
-use Rattle.cases.proofs.regular.layer_rows.Statement.{statement}
-use Rattle.cases.proofs.regular.layer_rows.Tie as tie
+use Rattle.cases.specs.Sheets.{sheetPlaces, Sheet, Measured, Plane}
+use Rattle.cases.specs.RowPlaces.{no-row}
+use Rattle.cases.proofs.Rows.{one-more-row}
+use Rattle.cases.proofs.regular.rows.Statement.{statement}
+use Rattle.cases.proofs.regular.rows.Tie as tie
 
 abbrev Inv-loop : tie.InvT-loop
-Inv-loop header centre x cases₀ n reads₀ y₀ cases reads y =
+Inv-loop n threshold low high cases₀ reads₀ y₀ cases reads y =
     (y ≤ n)
     × ((length cases ≡ sheetPlaces)
-    × (((ns : List Float) → Sheet (regularCase (star header centre ns) x) n y cases)
+    × (((s : Star) (x : ℕ) → Measured s n threshold → Plane s x low → Plane s (x + 1) high → Sheet (regularCase s x) n y cases)
     × ((reads ≡ regularReads * n * y) × (reads ≤ regularReads * mostSubdivisions * y))))
 
 abbrev μ-loop : tie.MeasureT-loop
-μ-loop header centre x cases₀ n reads₀ y₀ cases reads y = n - y
+μ-loop n threshold low high cases₀ reads₀ y₀ cases reads y = n - y
 
 loop-holds : tie.Need-loop-holds Inv-loop μ-loop
-loop-holds c = (omega arith, (omega arith, (λ ns. no-row _ _ _, (omega arith, omega arith))))
+loop-holds c = (omega arith, (omega arith, (λ s x is p q. no-row _ _ _, (omega arith, omega arith))))
 
 row-requires : tie.Need-row-requires Inv-loop μ-loop
 row-requires c κs = search needs
@@ -46,9 +45,9 @@ loop-again c =
     let written = c .before .before .row in (
       omega arith,
       (
-        written .kept .1 .1 .1 .1 .0 ∙ l .inv .1 .0,
+        written .kept .1 .1 .1 .1 .1 .0 ∙ l .inv .1 .0,
         (
-          λ ns. one-more-row _ _ (l .y) (l .cases) _ (written .ensures .0 ns) (l .inv .1 .1 .0 ns),
+          λ s x is p q. one-more-row _ _ (l .y) (l .cases) _ (written .ensures .0 s x is p q) (l .inv .1 .1 .0 s x is p q),
           (omega (arith, written .ensures .1, l .inv .1 .1 .1 .0), omega (arith, written .ensures .1, l .inv .1 .1 .1 .1)),
         ),
       ),
@@ -60,11 +59,11 @@ same-length c = omega arith
 returns : tie.Need-returns Inv-loop μ-loop
 returns c =
     let l = c .before .loop in
-    let e : l .y ≡ c .before .before .before .before .args .header .block .subdivisions = omega arith in
-    (λ ns. rw e at (l .inv .1 .1 .0 ns), (rw e at (l .inv .1 .1 .1 .0), omega (arith, l .inv .1 .1 .1 .1)))
+    let e : l .y ≡ c .before .before .before .before .before .args .n = omega arith in
+    (λ s x is p q. rw e at (l .inv .1 .1 .0 s x is p q), (rw e at (l .inv .1 .1 .1 .0), omega (arith, l .inv .1 .1 .1 .1)))
 
-pub layer-rows-spec : {M : Type 1} → statement M
-layer-rows-spec =
+pub rows-spec : {M : Type 1} → statement M
+rows-spec =
     tie.close
     (tie.spec
     Inv-loop

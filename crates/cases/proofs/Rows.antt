@@ -73,9 +73,6 @@ pub row-as : {case case′ : ℕ → ℕ} {start n : ℕ} {before after : List �
 row-as same put = record { filled = λ k h. put .filled k h ∙ same k h; kept = put .kept; beyond = put .beyond }
 
 module _ (case : ℕ → ℕ → ℕ) (n : ℕ) where
-  pub no-row : (cases : List ℕ) → Sheet case n 0 cases
-  no-row cases = record { case-at = λ j k h l. absurd (let x : ⊥ = omega arith in x) }
-
   pub one-more-row : (y : ℕ) (before after : List ℕ) → RowPut (case y) (rowStart n y) n before after → Sheet case n y before
       → Sheet case n (y + 1) after
   one-more-row y before after put so-far =
