@@ -139,7 +139,7 @@ extern "C" {
 #define SIRVESHAN_HIGH_Z 32
 
 /*
- * Bytes of stack that are enough for any call, at n = 64 as at n = 1: 59,967 bytes were measured (bindings/c/stack.c; the sheet
+ * Bytes of stack that are enough for any call, at n = 64 as at n = 1: 59,984 bytes were measured (bindings/c/stack.c; the sheet
  * takes the most), and this is rounded up.
  */
 #define SIRVESHAN_STACK 65536
