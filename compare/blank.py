@@ -9,12 +9,11 @@ reference's. Where extraction takes the block, it must be 1 exactly when the mes
 block that is blank must have no triangle by the reference.
 """
 
-import random
 import struct
 import sys
 from collections import Counter
 
-from calling import Program, Progress, seeds
+from calling import Program, answers, seeds, tally
 import reference
 from records import agree, level_block
 
@@ -79,16 +78,8 @@ def fault(record, ours):
 
 def main(words):
     all_seeds = seeds(words, __doc__)
-    ours, met, progress = Ours(), Counter(), Progress(len(all_seeds))
-    for seed in all_seeds:
-        record = a_record(random.Random(seed))
-        answer = ours.answer(record)
-        wrong = fault(record, answer)
-        if wrong:
-            sys.exit("seed %d: %s" % (seed, wrong))
-        met[answer[0]] += 1
-        progress.step()
-    print("%d records, no difference; answers met: %s" % (len(all_seeds), ", ".join("%d: %d" % pair for pair in sorted(met.items()))))
+    met = Counter(blank for blank, _, _ in answers(all_seeds, a_record, Ours(), fault))
+    print("%d records, no difference; answers met: %s" % (len(all_seeds), tally(met)))
 
 
 if __name__ == "__main__":

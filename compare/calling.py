@@ -1,5 +1,6 @@
 """Our mesher as a running program (compare/ours/run), for the comparisons that are written in Python."""
 
+import random
 import struct
 import subprocess
 import sys
@@ -79,3 +80,21 @@ class Progress:
             print("%d of %d" % (self.done, self.count), end=end, file=sys.stderr, flush=True)
         elif not self.terminal and self.done * 10 // self.count > (self.done - 1) * 10 // self.count:
             print("%d of %d" % (self.done, self.count), file=sys.stderr, flush=True)
+
+
+def answers(all_seeds, make, ours, fault):
+    """Our answer to what each seed makes; the first that has a fault ends the comparison."""
+    progress = Progress(len(all_seeds))
+    for seed in all_seeds:
+        given = make(random.Random(seed))
+        answer = ours.answer(given)
+        wrong = fault(given, answer)
+        if wrong:
+            sys.exit("seed %d: %s" % (seed, wrong))
+        yield answer
+        progress.step()
+
+
+def tally(met):
+    """How often each number was met, the least number first."""
+    return ", ".join("%d: %d" % pair for pair in sorted(met.items()))

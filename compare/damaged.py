@@ -13,7 +13,7 @@ import random
 import sys
 from collections import Counter
 
-from calling import MARK, Ours, Progress, seeds
+from calling import MARK, Ours, Progress, seeds, tally
 import records
 import reference
 
@@ -112,7 +112,7 @@ def main(words):
         if answer != wanted:
             sys.exit("seed %d: ours %s, document 01 %s" % (seed, answer[:4], wanted[:4]))
         progress.step()
-    print("%d calls, no difference; answers met: %s" % (len(all_seeds), ", ".join("%d: %d" % pair for pair in sorted(met.items()))))
+    print("%d calls, no difference; answers met: %s" % (len(all_seeds), tally(met)))
 
 
 if __name__ == "__main__":

@@ -5,16 +5,16 @@
 
 Each seed makes a run of up to twelve records. Of each the surface is a level block with some samples on the other side, a
 mixture or blank; some are damaged: a byte, a length field, a sample, a face that disagrees, a version, a number of samples. Some
-runs are cut, and some have a few bytes after the last record. Most blocks have 1 to 3 subdivisions, one in some hundred 16 or 17. Each line's refusal, numbers, figures and end must be the
-reference's, and the total the sum. Where a line has figures, its vertices and triangles must be what our extraction tells.
+runs are cut, and some have a few bytes after the last record. Most blocks have 1 to 3 subdivisions, one in some hundred 16 or 17.
+Each line's refusal, numbers, figures and end must be the reference's, and the total the sum. Where a line has figures, its vertices
+and triangles must be what our extraction tells.
 """
 
-import random
 import struct
 import sys
 from collections import Counter
 
-from calling import Program, Progress, seeds
+from calling import Program, answers, seeds, tally
 import reference
 from records import agree
 
@@ -127,18 +127,8 @@ def fault(run, ours):
 
 def main(words):
     all_seeds = seeds(words, __doc__)
-    ours, met, lines, progress = Ours(), Counter(), 0, Progress(len(all_seeds))
-    for seed in all_seeds:
-        run = a_run(random.Random(seed))
-        answer = ours.answer(run)
-        wrong = fault(run, answer)
-        if wrong:
-            sys.exit("seed %d: %s" % (seed, wrong))
-        met.update(line[0] for line in answer[0])
-        lines += len(answer[0])
-        progress.step()
-    told = ", ".join("%d: %d" % pair for pair in sorted(met.items()))
-    print("%d runs of %d lines, no difference; refusals met (0: none): %s" % (len(all_seeds), lines, told))
+    met = Counter(line[0] for lines, _ in answers(all_seeds, a_run, Ours(), fault) for line in lines)
+    print("%d runs of %d lines, no difference; refusals met (0: none): %s" % (len(all_seeds), sum(met.values()), tally(met)))
 
 
 if __name__ == "__main__":

@@ -14,7 +14,7 @@ import struct
 import sys
 from collections import Counter
 
-from calling import MARK, Program, Progress, seeds
+from calling import MARK, Program, Progress, seeds, tally
 import reference
 from damaged import Call
 
@@ -140,10 +140,6 @@ class Comparison:
         self.hold("seed %d, read" % seed, self.read, one_nan(*self.ours.read(file, room)), one_nan(*wanted_read(file, room)))
 
 
-def told(met):
-    return ", ".join("%d: %d" % pair for pair in sorted(met.items()))
-
-
 def main(words):
     all_seeds = seeds(words, __doc__)
     comparison, progress = Comparison(), Progress(len(all_seeds))
@@ -153,7 +149,7 @@ def main(words):
         comparison.file(seed, chance)
         progress.step()
     print("%d meshes and %d files, no difference; answers met in writing: %s; in reading: %s"
-          % (len(all_seeds), len(all_seeds), told(comparison.written), told(comparison.read)))
+          % (len(all_seeds), len(all_seeds), tally(comparison.written), tally(comparison.read)))
 
 
 if __name__ == "__main__":

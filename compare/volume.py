@@ -17,7 +17,7 @@ import struct
 import sys
 from collections import Counter
 
-from calling import MARK, Ours as Mesher, Program, Progress, seeds
+from calling import MARK, Ours as Mesher, Program, Progress, seeds, tally
 import reference
 
 SIZES = [1, 2, 3, 4, 5, 7, 9, 12, 17, 20]
@@ -166,8 +166,8 @@ def main(words):
         if seed % 10 == 0:
             stars, sides = stars + 1, sides + check_star(ours, mesher, seed)
         progress.step()
-    told = ", ".join("%d: %d" % pair for pair in sorted(met.items()))
-    print("%d cuts, no difference; answers met: %s; %d blocks with %d finer neighbours pass 8" % (len(all_seeds), told, stars, sides))
+    print("%d cuts, no difference; answers met: %s; %d blocks with %d finer neighbours pass 8"
+          % (len(all_seeds), tally(met), stars, sides))
 
 
 if __name__ == "__main__":

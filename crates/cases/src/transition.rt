@@ -34,11 +34,11 @@ fn side_mark(case: u16) -> u8
 }
 
 // The first places of the three lines that a row of cells lies on, and their step.
-pub struct Lines {
-    pub a: usize,
-    pub b: usize,
-    pub c: usize,
-    pub step: Stride,
+struct Lines {
+    a: usize,
+    b: usize,
+    c: usize,
+    step: Stride,
 }
 
 // What the point v2 steps along a line adds.

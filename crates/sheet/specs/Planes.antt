@@ -28,6 +28,7 @@ use Rattle.model.specs.Record.{headerOf, countOf, samplesOf, starOf}
 use Rattle.grid.specs.Places.{in-block}
 use Rattle.grid.specs.Kinds.{in-block-reading}
 use Rattle.cases.specs.Sheets.{Measured, Plane}
+use Rattle.cases.specs.RowPlaces.{row-before}
 use Rattle.algorithm.specs.Passes.{Grows}
 use Rattle.sheet.specs.declared.Figures.{Figures}
 use Rattle.sheet.specs.Definition.{insideAt, insideSamples, crossesX, crossesY, crossesZ, xEdges, yEdges, zEdges, madeAt, plus}
@@ -183,12 +184,6 @@ module _ (bytes : List ℕ) (x : ℕ) (hx : x ≤ headerOf bytes .block .subdivi
   abbrev subs : ℕ
   subs = headerOf bytes .block .subdivisions
 
-  -- a point's place in its plane
-  in-plane : (y z : ℕ) → y ≤ subs → z ≤ subs → (subs + 1) * y + z < (subs + 1) * (subs + 1)
-  in-plane y z hy hz =
-      let most : (subs + 1) * y ≤ (subs + 1) * subs = mul-le-mul-left (subs + 1) hy in
-      omega (arith, most, mul-add (subs + 1) subs 1)
-
   pub plane-read : (plane : List Float)
       → ((k : ℕ) → k < (subs + 1) * (subs + 1) → getD plane k nan ≡ getD (samplesOf bytes) (inBlock subs x 0 0 + k) nan) → Plane (starOf bytes) x plane
   plane-read plane read =
@@ -196,7 +191,7 @@ module _ (bytes : List ℕ) (x : ℕ) (hx : x ≤ headerOf bytes .block .subdivi
         reading-at = λ y z hy hz.
             let at : inBlock subs x 0 0 + ((subs + 1) * y + z) ≡ inBlock subs x y z = omega arith in
             ap ofBlock
-            (read ((subs + 1) * y + z) (in-plane y z hy hz)
+            (read ((subs + 1) * y + z) (row-before subs y (subs + 1) z (omega arith) hz)
             ∙ ap (λ (k : ℕ). getD (samplesOf bytes) k nan) at
             ∙ sym (getD-take (sampleLength subs) (samplesOf bytes) (inBlock subs x y z) nan (omega (arith, in-block subs x y z hx hy hz))))
             ∙ sym (in-block-reading subs (starOf bytes .centre) (xyz x y z) (record { x-in = hx; y-in = hy; z-in = hz }));
@@ -214,7 +209,6 @@ pub plane-same : (s : Star) (x : ℕ) (high low : List Float) → Plane s x high
 plane-same s x high low p same =
     record {
       reading-at = λ y z hy hz.
-          let m = subdivisions s + 1 in
-          let most : m * y ≤ m * subdivisions s = mul-le-mul-left m hy in
-          ap ofBlock (same (m * y + z) (omega (arith, most, mul-add m (subdivisions s) 1))) ∙ p .reading-at y z hy hz;
+          let n = subdivisions s in
+          ap ofBlock (same ((n + 1) * y + z) (row-before n y (n + 1) z (omega arith) hz)) ∙ p .reading-at y z hy hz;
     }

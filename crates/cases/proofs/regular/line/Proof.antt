@@ -1,21 +1,18 @@
 -- `regular::line` meets its contract: the places from (y, 0) to (y, n) lie one after another.
 use Prim.Native.Nat.{ℕ, _+_, _-_, _*_, _≤_}
 use mathlib.Core.Path.{sym, ap, subst}
-use native.Mathlib.Nat.{mul-add, mul-le-mul-left}
 use native.Mathlib.Omega.{arith}
 use borrow.Author.Needs.{needs}
 use lib.ListN.{length, take, drop, length-take, length-drop}
 use Rattle.cases.specs.Sheets.{Line}
+use Rattle.cases.specs.RowPlaces.{row-before}
 use Rattle.cases.proofs.Lines.{part-is-line}
 use Rattle.cases.proofs.regular.line.Statement.{statement}
 use Rattle.cases.proofs.regular.line.Tie as tie
 
 -- the line ends within the plane
 ends-in : (e : tie.Start) → (e .args .n + 1) * e .args .y + e .args .n + 1 ≤ (e .args .n + 1) * (e .args .n + 1)
-ends-in e =
-    let m = e .args .n + 1 in
-    let most : m * e .args .y ≤ m * e .args .n = mul-le-mul-left m (e .pre .1 .0) in
-    omega (arith, most, mul-add m (e .args .n) 1)
+ends-in e = omega (arith, row-before (e .args .n) (e .args .y) (e .args .n + 1) (e .args .n) (omega (arith, e .pre .1 .0)) (omega arith))
 
 add-start : tie.Need-add-start
 add-start c = search needs
