@@ -9,6 +9,8 @@ use Rattle.judge.proofs.judge_mask.Reads as judge-mask
 use Rattle.judge.proofs.judge_buffer.Reads as judge-buffer
 use Rattle.judge.proofs.judge_room.Reads as judge-room
 use Rattle.judge.proofs.judge_store.Reads as judge-store
+use Rattle.judge.proofs.is_usable.Reads as is-usable
+use Rattle.judge.proofs.judge_lent.Reads as judge-lent
 use Rattle.judge.proofs.judge_star.Reads as judge-star
 use Rattle.judge.proofs.faces.judge_faces.Reads as judge-faces
 use Rattle.judge.proofs.point_read.answered.Reads as answered
@@ -34,6 +36,12 @@ judge-room-pinned κs a r r′ e e′ h k = pinned h k
 
 pub judge-store-pinned : (κs : Lfts 0) (a : _) (r r′ : _) (e e′ : _) → judge-store.Learnt κs a r e → judge-store.Learnt κs a r′ e′ → r ≡ r′
 judge-store-pinned κs a r r′ e e′ h k = pinned h k
+
+pub is-usable-pinned : (κs : Lfts 0) (a : _) (r r′ : _) (e e′ : _) → is-usable.Learnt κs a r e → is-usable.Learnt κs a r′ e′ → r ≡ r′
+is-usable-pinned κs a r r′ e e′ h k = pinned h k
+
+pub judge-lent-pinned : (κs : Lfts 0) (a : _) (r r′ : _) (e e′ : _) → judge-lent.Learnt κs a r e → judge-lent.Learnt κs a r′ e′ → r ≡ r′
+judge-lent-pinned κs a r r′ e e′ h k = pinned h k
 
 pub judge-star-pinned : (κs : Lfts 2) (a : _) (r r′ : _) (e e′ : _) → judge-star.Learnt κs a r e → judge-star.Learnt κs a r′ e′ → r ≡ r′
 judge-star-pinned κs a r r′ e e′ h k = pinned h k

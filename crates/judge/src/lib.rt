@@ -3,7 +3,7 @@ ghost use mathlib.Core.Path.{_≡_};
 ghost use Prim.Native.Nat.{_≤_};
 ghost use Rattle.model.specs.Limits.{mostSubdivisions};
 ghost use Rattle.model.specs.Refusals.{numbers, numbersOf, unless, orElse};
-ghost use Rattle.model.specs.Judging.{usable, usableSize, judgeSubdivisions, judgeMask, judgeMeasures, judgeBuffer, judgeRoom, judgeStore, judgeStar};
+ghost use Rattle.model.specs.Judging.{usable, usableSize, judgeSubdivisions, judgeMask, judgeMeasures, judgeBuffer, judgeRoom, judgeStore, judgeLent, judgeStar};
 ghost use Rattle.model.specs.Star.{star};
 ghost use Rattle.judge.specs.Parts.{judgeBase};
 
@@ -62,6 +62,8 @@ pub fn numbers_of(refusal: Refusal) -> Numbers
         Refusal::PointNeverSampled(count) => numbers(15, count, 0, 0),
         Refusal::StlLength(wanted) => numbers(16, wanted, 0, 0),
         Refusal::NoVertex(triangle) => numbers(17, triangle, 0, 0),
+        Refusal::BadFiller => numbers(18, 0, 0, 0),
+        Refusal::ChangesTooShort(wanted) => numbers(19, wanted, 0, 0),
         Refusal::VolumeSize => numbers(20, 0, 0, 0),
         Refusal::VolumeLength => numbers(21, 0, 0, 0),
         Refusal::FirstPoint => numbers(22, 0, 0, 0),
@@ -105,7 +107,7 @@ pub fn judge_mask(mask: u8) -> Verdict
 }
 
 // Finite, and at most 1,048,576 in size: both comparisons are false at a NaN.
-fn is_usable(x: f32) -> bool
+pub fn is_usable(x: f32) -> bool
     ensures { λ r. ⌜ r ≡ usable x ⌝ }
 {
     (-LIMIT <= x) & (x <= LIMIT)
@@ -156,9 +158,9 @@ pub fn judge_store(n: usize, held: usize) -> Verdict
     unless(wanted <= held, Refusal::IndexStoreTooShort(wanted))
 }
 
-// 1 to 7, of a block and its neighbours.
-pub fn judge_star(header: Header, centre: &[f32], neighbours: &[f32]) -> Verdict
-    ensures { λ r. ⌜ r ≡ judgeStar (star header (now (centre .entry)) (now (neighbours .entry))) ⌝ }
+// 1 to 6, of a block and the lengths of the lists that are lent with it.
+pub fn judge_lent(header: Header, centre: usize, neighbours: usize) -> Verdict
+    ensures { λ r. ⌜ r ≡ judgeLent (header .block) (header .mask) (header .threshold) centre neighbours ⌝ }
 {
     let n = header.block.subdivisions;
     let kind = or_else(judge_subdivisions(n), judge_mask(header.mask));
@@ -166,9 +168,16 @@ pub fn judge_star(header: Header, centre: &[f32], neighbours: &[f32]) -> Verdict
         return Verdict::Refused(r);
     }
     let measures = judge_measures(header);
-    let lengths = judge_lengths(n, header.mask, centre.len(), neighbours.len());
-    let shape = or_else(measures, lengths);
-    if let Verdict::Refused(r) = shape {
+    let lengths = judge_lengths(n, header.mask, centre, neighbours);
+    or_else(measures, lengths)
+}
+
+// 1 to 7, of a block and its neighbours.
+pub fn judge_star(header: Header, centre: &[f32], neighbours: &[f32]) -> Verdict
+    ensures { λ r. ⌜ r ≡ judgeStar (star header (now (centre .entry)) (now (neighbours .entry))) ⌝ }
+{
+    let lent = judge_lent(header, centre.len(), neighbours.len());
+    if let Verdict::Refused(r) = lent {
         return Verdict::Refused(r);
     }
     judge_samples(centre, neighbours)

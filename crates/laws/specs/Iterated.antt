@@ -60,9 +60,17 @@ module _ {A : Type 0} where
   unfoldable pub placed : ℕ → ℕ → (ℕ → ℕ → A → A) → ℕ → A → A
   placed wide n f i a = cond (ltb (i % wide) n) (f (i / wide) (i % wide) a) a
 
+-- a number of two digits, the lower one below the base
+module _ (base k i : ℕ) (h : i < base) where
+  pub upper : (base * k + i) / base ≡ k
+  upper = mul-add-div (let some : 0 < base = omega arith in some) k i ∙ rw (div-eq-of-lt h, add-zero)
+
+  pub lower : (base * k + i) % base ≡ i
+  lower = mul-add-mod-self-left base k i ∙ mod-eq-of-lt h
+
 module _ {A : Type 0} (wide n : ℕ) (some : 0 < wide) (fits : n ≤ wide) (f : ℕ → ℕ → A → A) where
   at-place : (k i : ℕ) → i < wide → ((wide * k + i) / wide ≡ k) × ((wide * k + i) % wide ≡ i)
-  at-place k i h = (mul-add-div some k i ∙ rw (div-eq-of-lt h, add-zero), mul-add-mod-self-left wide k i ∙ mod-eq-of-lt h)
+  at-place k i h = (upper wide k i h, lower wide k i h)
 
   place-in : (k i : ℕ) → i < n → (a : A) → placed wide n f (wide * k + i) a ≡ f k i a
   unfolding placed

@@ -6,6 +6,7 @@ pub mod Lists
 pub mod Laying
 pub mod Filled
 pub mod Gathered
+pub mod Rounds
 pub mod Sums
 pub mod Squares
 -- tests as Bools, and counting what passes one

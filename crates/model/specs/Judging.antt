@@ -1,4 +1,4 @@
--- Document 01, 'Answers by number': when each of 1 to 10 and 14 is met, and 1 to 7 in their order. What judges several takes the first
+-- Document 01, 'Answers by number': when each of 1 to 10 and 14 is met, and 1 to 6 and 1 to 7 in their order. What judges several takes the first
 -- that is met. Definitions only.
 use Prim.Native.Nat.{ℕ, zero, suc, _+_, _*_, _/_}
 use mathlib.Core.Bool.{Bool, cond, _&&_, Bool·beq}
@@ -75,17 +75,22 @@ sampleUsable samples place = unless (usable (getD samples place nan)) (BadSample
 unfoldable pub judgeSamples : List Float → Verdict
 judgeSamples samples = first (sampleUsable samples) (length samples)
 
+-- 1 to 6, of a block and the lengths of the lists that are lent with it
+unfoldable pub judgeLent : Block → ℕ → Float → ℕ → ℕ → Verdict
+judgeLent block mask threshold centre neighbours =
+    let n = block .subdivisions in
+    orElse (judgeSubdivisions n)
+    (orElse (judgeMask mask)
+    (orElse (judgeMeasures block threshold)
+    (orElse (judgeCentre n centre)
+    (orElse (judgeMissing n mask neighbours)
+    (judgeTooLong n mask neighbours)))))
+
 -- 1 to 7, of a block and its neighbours
 unfoldable pub judgeStar : Star → Verdict
 judgeStar s =
-    let n = subdivisions s in
-    orElse (judgeSubdivisions n)
-    (orElse (judgeMask (s .mask))
-    (orElse (judgeMeasures (s .block) (s .threshold))
-    (orElse (judgeCentre n (length (s .centre)))
-    (orElse (judgeMissing n (s .mask) (length (s .neighbours)))
-    (orElse (judgeTooLong n (s .mask) (length (s .neighbours)))
-    (judgeSamples (s .centre ++ s .neighbours)))))))
+    orElse (judgeLent (s .block) (s .mask) (s .threshold) (length (s .centre)) (length (s .neighbours)))
+    (judgeSamples (s .centre ++ s .neighbours))
 
 -- 8: the centre's face point and the neighbour's coinciding point lie on the same side of the threshold
 unfoldable pub facesAgree : Star → ℕ → ℕ → ℕ → Bool

@@ -104,6 +104,8 @@ pub enum Refusal {
     PointNeverSampled(usize),
     StlLength(usize),
     NoVertex(usize),
+    BadFiller,
+    ChangesTooShort(usize),
     VolumeSize,
     VolumeLength,
     FirstPoint,

@@ -23,7 +23,6 @@ use Rattle.model.specs.Judging.{judgeStar, judgeFaces}
 use Rattle.model.specs.Record.{headerOf, samplesOf, starOf, judgeRecord, readRecord}
 use Rattle.model.specs.Blank.{isBlank, blankBefore}
 use Rattle.model.specs.Viewer.{packed, blankAnswer, blankAnswerBefore}
-use Rattle.judge.specs.First.{or-else-passed}
 use Rattle.record.specs.Accepted.{accepted, passes, length-samples}
 use Rattle.record.specs.Reading.{was-read}
 use Rattle.record.specs.RoundTrip.{star-passes, read-star}
@@ -31,7 +30,7 @@ use Rattle.blankness.specs.Theorems.{blank-none, blank-exactly, mask-zero}
 use Rattle.promises.specs.Left.{Lent, answered, counts, centreOf, neighboursOf}
 use Rattle.promises.specs.Orders.{inOrder, blockJudges, recordJudges}
 use Rattle.promises.specs.Blank.{BlankPromises}
-use Rattle.promises.specs.Judges.{record-in-order}
+use Rattle.promises.specs.Judges.{block-in-order, record-in-order}
 use Rattle.promises.specs.Extracted.{faces-passed, equal-mesh}
 
 -- one number of two, and one that is no refusal's
@@ -54,8 +53,7 @@ module _ (bytes : List ℕ) where
       star-passes bytes (accepted bytes e) (take own (samplesOf bytes)) (drop own (samplesOf bytes)) (take-append-drop own (samplesOf bytes)) long
 
   block-passes : inOrder (recordJudges bytes) ≡ Passed → inOrder (blockJudges (starOf bytes)) ≡ Passed
-  unfolding judgeStar
-  block-passes e = simp or-else-passed (block-passed (judged e))
+  block-passes e = block-in-order (starOf bytes) ∙ block-passed (judged e)
 
   exactly : judgeRecord bytes ≡ Passed → judgeFaces (starOf bytes) ≡ Passed → (blankAnswer bytes ≡ 1) ↔ (counts (starOf bytes) .triangles ≡ 0)
   unfolding blankAnswer

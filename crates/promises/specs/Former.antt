@@ -30,17 +30,20 @@ formerVerdict n = unless (leb 1 n && leb n formerMost) (Subdivisions n)
 
 -- ---- with 1 as it was judged
 
--- and then 2 to 7
-abbrev pub starBy : Verdict → Star → Verdict
-starBy one s =
+-- and then 2 to 6
+abbrev pub lentBy : Verdict → Star → Verdict
+lentBy one s =
     let n = subdivisions s in
     orElse one
     (orElse (judgeMask (s .mask))
     (orElse (judgeMeasures (s .block) (s .threshold))
     (orElse (judgeCentre n (length (s .centre)))
     (orElse (judgeMissing n (s .mask) (length (s .neighbours)))
-    (orElse (judgeTooLong n (s .mask) (length (s .neighbours)))
-    (judgeSamples (s .centre ++ s .neighbours)))))))
+    (judgeTooLong n (s .mask) (length (s .neighbours)))))))
+
+-- and then 7
+abbrev pub starBy : Verdict → Star → Verdict
+starBy one s = orElse (lentBy one s) (judgeSamples (s .centre ++ s .neighbours))
 
 -- a record: 11 and 12, then 1, then 2, 3, 13 and 7
 abbrev pub recordBy : Verdict → List ℕ → Verdict

@@ -23,13 +23,13 @@ use Rattle.model.specs.Samples.{sampleLength, sampled, outsideCount, oneUp}
 use Rattle.model.specs.Limits.{mostSubdivisions, mostMask, sideCount}
 use Rattle.model.specs.Star.{Star, star, subdivisions}
 use Rattle.model.specs.Mesh.{storeLength}
-use Rattle.model.specs.Judging.{judgeStar, judgeSubdivisions, judgeMask, measureUsable, judgeMeasures, judgeCentre, sideThere, judgeMissing, judgeBuffer, usable, sampleUsable, judgeSamples, facesAgree, faceSpot, faceRow, judgeFaces}
+use Rattle.model.specs.Judging.{judgeLent, judgeStar, judgeSubdivisions, judgeMask, measureUsable, judgeMeasures, judgeCentre, sideThere, judgeMissing, judgeBuffer, usable, sampleUsable, judgeSamples, facesAgree, faceSpot, faceRow, judgeFaces}
 use Rattle.model.specs.Extraction.{judgeExtraction}
 use Rattle.model.specs.Words.{wordAt}
 use Rattle.model.specs.Record.{versionAt, headerLength, headerOf, countOf, samplesOf, judgeRecord}
 use Rattle.judge.specs.First.{or-else-assoc, or-else-passed}
 use Rattle.promises.specs.Left.{Lent, counts}
-use Rattle.promises.specs.Orders.{Judge, inOrder, Numbered, Judged, blockJudges, extractionJudges, writingJudges, recordJudges, readingJudges, pointJudge, pointJudges, sampleJudges}
+use Rattle.promises.specs.Orders.{Judge, inOrder, Numbered, Judged, lentJudges, blockJudges, roomJudges, extractionJudges, writingJudges, recordJudges, readingJudges, pointJudge, pointJudges, sampleJudges}
 
 infixr 4 _&_
 pub _&_ : {A B : Type 0} → A → B → A × B
@@ -55,11 +55,15 @@ pub reading-in-order : (bytes : List ℕ) (samples : List Float)
 unfolding judgeRecord
 reading-in-order bytes samples = simp (or-else-assoc, or-else-passed)
 
+pub block-in-order : (s : Star) → inOrder (blockJudges s) ≡ judgeStar s
+unfolding judgeLent judgeStar
+block-in-order s = simp (or-else-assoc, or-else-passed)
+
 pub writing-in-order : (h : Header) (centre neighbours : List Float) (bytes : List ℕ)
     → inOrder (writingJudges h centre neighbours bytes)
     ≡ orElse (judgeStar (star h centre neighbours))
     (judgeBuffer (headerLength + 4 * length (centre ++ neighbours)) (length bytes))
-unfolding judgeStar
+unfolding judgeLent judgeStar
 writing-in-order h centre neighbours bytes = simp (or-else-assoc, or-else-passed)
 
 pub point-in-order : (n : ℕ) (samples : List Float) (x y z : ℤ)
@@ -73,7 +77,7 @@ sample-in-order bytes x y z = simp (or-else-assoc, or-else-passed)
 
 pub extraction-in-order : (s : Star) (lent : Lent)
     → inOrder (extractionJudges s lent) ≡ judgeExtraction s (length (lent .store)) (length (lent .vertices)) (length (lent .triangles))
-unfolding judgeExtraction judgeStar
+unfolding judgeExtraction judgeLent judgeStar
 extraction-in-order s lent = simp (or-else-assoc, or-else-passed)
 
 -- ---- a call that says what its judges come to
@@ -165,20 +169,28 @@ centre-number n held = by-unless (eqb held (sampleLength n)) (CentreLength (samp
 pub buffer-number : (wanted held : ℕ) → Refuses 14 (judgeBuffer wanted held)
 buffer-number wanted held = by-unless (leb wanted held) (BufferTooShort wanted)
 
+pub lent-numbered : (block : Block) (mask : ℕ) (threshold : Float) (centre neighbours : ℕ) → Numbered (lentJudges block mask threshold centre neighbours)
+lent-numbered block mask threshold centre neighbours =
+    let n = block .subdivisions in
+    let long = neighboursLength n mask in
+    subdivisions-number n & mask-number mask & measures-number block threshold & centre-number n centre & missing-number n mask neighbours &
+    by-unless (leb neighbours long) (NeighboursTooLong long) & tt
+
 block-numbered : (s : Star) → Numbered (blockJudges s)
 block-numbered s =
-    let n = subdivisions s in
-    let held = length (s .neighbours) in
-    let long = neighboursLength n (s .mask) in
-    subdivisions-number n & mask-number (s .mask) & measures-number (s .block) (s .threshold) & centre-number n (length (s .centre)) &
-    missing-number n (s .mask) held & by-unless (leb held long) (NeighboursTooLong long) & samples-number (s .centre ++ s .neighbours) & tt
+    numbered-append (take 6 (blockJudges s)) (drop 6 (blockJudges s))
+    (lent-numbered (s .block) (s .mask) (s .threshold) (length (s .centre)) (length (s .neighbours)))
+    (samples-number (s .centre ++ s .neighbours) & tt)
+
+pub room-numbered : (s : Star) (lent : Lent) → Numbered (roomJudges s lent)
+room-numbered s lent =
+    let wanted = storeLength (subdivisions s) in
+    by-unless (leb wanted (length (lent .store))) (IndexStoreTooShort wanted) &
+    by-unless (leb (counts s .vertices) (length (lent .vertices) / 6) && leb (counts s .triangles) (length (lent .triangles) / 3)) (NoRoom (counts s)) & tt
 
 pub extraction-numbered : (s : Star) (lent : Lent) → Numbered (extractionJudges s lent)
 extraction-numbered s lent =
-    let wanted = storeLength (subdivisions s) in
-    numbered-append (blockJudges s) (drop 7 (extractionJudges s lent)) (block-numbered s)
-    (faces-number s & by-unless (leb wanted (length (lent .store))) (IndexStoreTooShort wanted) &
-    by-unless (leb (counts s .vertices) (length (lent .vertices) / 6) && leb (counts s .triangles) (length (lent .triangles) / 3)) (NoRoom (counts s)) & tt)
+    numbered-append (blockJudges s) (drop 7 (extractionJudges s lent)) (block-numbered s) (faces-number s & room-numbered s lent)
 
 pub writing-numbered : (h : Header) (centre neighbours : List Float) (bytes : List ℕ) → Numbered (writingJudges h centre neighbours bytes)
 writing-numbered h centre neighbours bytes =

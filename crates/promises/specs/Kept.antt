@@ -19,6 +19,7 @@ use Rattle.promises.specs.ReadsKept.{reads-kept}
 use Rattle.promises.specs.VolumeKept.{volume-kept}
 use Rattle.promises.specs.LargerKept.{larger-kept}
 use Rattle.promises.specs.SheetKept.{sheet-kept}
+use Rattle.promises.specs.RepairKept.{repair-kept}
 use Rattle.promises.specs.Views.{point, packed-record, subdivisions-apart, blank-apart, viewer-sample}
 
 pub kept : Promises
@@ -51,5 +52,6 @@ kept =
       volume = volume-kept;
       larger = larger-kept;
       sheet = sheet-kept;
+      repair = repair-kept;
       starred = figures-agree;
     }

@@ -16,7 +16,7 @@ use Rattle.model.specs.Refusals.{orElse}
 use Rattle.model.specs.Samples.{sampleLength}
 use Rattle.model.specs.Sides.{sampleCount}
 use Rattle.model.specs.Star.{Star, subdivisions}
-use Rattle.model.specs.Judging.{judgeSubdivisions, judgeStar, judgeBuffer}
+use Rattle.model.specs.Judging.{judgeSubdivisions, judgeLent, judgeStar, judgeBuffer}
 use Rattle.model.specs.Mesh.{storeLength, regularMesh}
 use Rattle.model.specs.Extraction.{outcome, judgeExtraction, extract, readPoint}
 use Rattle.model.specs.Record.{headerOf, countOf, judgeLength, judgeVersion, judgeRecord, readAnswer, readRecord, writeRecord}
@@ -40,7 +40,7 @@ module _ (verdict : ℕ → Verdict) (These : ℕ → Type 0) (same : (n : ℕ) 
   of-record bytes = same (headerOf bytes .block .subdivisions)
 
   answered-by : AnsweredBy verdict These
-  unfolding extract judgeExtraction judgeStar readPoint writeRecord readRecord judgeRecord subdivisionsAnswer blankAnswer recordPoint sampleAnswer
+  unfolding extract judgeExtraction judgeLent judgeStar readPoint writeRecord readRecord judgeRecord subdivisionsAnswer blankAnswer recordPoint sampleAnswer
   answered-by =
       record {
         extraction = λ s store vertices triangles h i. extractBy (same (subdivisions s) h i) s store vertices triangles;

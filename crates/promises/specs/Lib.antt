@@ -11,6 +11,7 @@ pub mod Volume
 pub mod Former
 pub mod Larger
 pub mod Sheet
+pub mod Repair
 pub mod Orders
 pub mod Points
 pub mod Left
@@ -36,3 +37,4 @@ pub mod ReadsReached
 pub mod VolumeKept
 pub mod LargerKept
 pub mod SheetKept
+pub mod RepairKept

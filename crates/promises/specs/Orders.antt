@@ -7,6 +7,7 @@ use mathlib.Core.List.{List, [], _∷_, _++_}
 use lib.IntN.{ℤ}
 use lib.Ieee.{Float}
 use lib.ListN.{length}
+use Rattle.model.specs.declared.Block.{Block}
 use Rattle.model.specs.declared.Header.{Header}
 use Rattle.model.specs.declared.Refusal.{Refusal}
 use Rattle.model.specs.declared.Refusal.the-variants.{PointNeverSampled}
@@ -50,26 +51,33 @@ pub record Packed (judges : List Judge) (base value answer : ℕ) : Type 0 where
   pub accepted : inOrder judges ≡ Passed → answer ≡ value
   pub apart : inOrder judges ≡ Passed → value < base
 
--- document 01's orders: 1 to 7 of a block, 1 to 10 of extraction, 1 to 7 and 14 of the writer
+-- document 01's orders: 1 to 6 of a block and the lengths of the lists lent with it, 1 to 7 of a block, 9 and 10 of the buffers that extraction is lent,
+-- 1 to 10 of extraction, 1 to 7 and 14 of the writer
+abbrev pub lentJudges : Block → ℕ → Float → ℕ → ℕ → List Judge
+lentJudges block mask threshold centre neighbours =
+    let n = block .subdivisions in
+    judge 1 (judgeSubdivisions n) ∷
+    judge 2 (judgeMask mask) ∷
+    judge 3 (judgeMeasures block threshold) ∷
+    judge 4 (judgeCentre n centre) ∷
+    judge 5 (judgeMissing n mask neighbours) ∷
+    judge 6 (judgeTooLong n mask neighbours) ∷
+    []
+
 abbrev pub blockJudges : Star → List Judge
 blockJudges s =
-    let n = subdivisions s in
-    judge 1 (judgeSubdivisions n) ∷
-    judge 2 (judgeMask (s .mask)) ∷
-    judge 3 (judgeMeasures (s .block) (s .threshold)) ∷
-    judge 4 (judgeCentre n (length (s .centre))) ∷
-    judge 5 (judgeMissing n (s .mask) (length (s .neighbours))) ∷
-    judge 6 (judgeTooLong n (s .mask) (length (s .neighbours))) ∷
+    lentJudges (s .block) (s .mask) (s .threshold) (length (s .centre)) (length (s .neighbours)) ++
     judge 7 (judgeSamples (s .centre ++ s .neighbours)) ∷
     []
 
-abbrev pub extractionJudges : Star → Lent → List Judge
-extractionJudges s lent =
-    blockJudges s ++
-    judge 8 (judgeFaces s) ∷
+abbrev pub roomJudges : Star → Lent → List Judge
+roomJudges s lent =
     judge 9 (judgeStore (subdivisions s) (length (lent .store))) ∷
     judge 10 (judgeRoom (counts s .vertices) (counts s .triangles) (length (lent .vertices)) (length (lent .triangles))) ∷
     []
+
+abbrev pub extractionJudges : Star → Lent → List Judge
+extractionJudges s lent = blockJudges s ++ judge 8 (judgeFaces s) ∷ roomJudges s lent
 
 abbrev pub writingJudges : Header → List Float → List Float → List ℕ → List Judge
 writingJudges h centre neighbours bytes =

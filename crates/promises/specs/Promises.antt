@@ -43,6 +43,7 @@ use Rattle.promises.specs.Reads.{ReadsPromises}
 use Rattle.promises.specs.Volume.{VolumePromises}
 use Rattle.promises.specs.Larger.{LargerPromises}
 use Rattle.promises.specs.Sheet.{SheetPromises}
+use Rattle.promises.specs.Repair.{RepairPromises}
 
 -- ---- 1. every call is answered
 
@@ -156,5 +157,6 @@ pub record Promises : Type 0 where
   pub volume : VolumePromises
   pub larger : LargerPromises
   pub sheet : SheetPromises
+  pub repair : RepairPromises
   -- what the definitions work out is what document 01 states
   pub starred : map (λ (f : Figure). f .worked) figures ≡ map (λ (f : Figure). f .stated) figures

@@ -11,14 +11,14 @@ use Rattle.model.specs.Sides.{named, neighbourOf}
 use Rattle.model.specs.Rotations.{pointFrom, rotationOf, rotations}
 use Rattle.model.specs.Star.{Star}
 use Rattle.model.specs.Points.{fineSample, transitionCase}
-use Rattle.model.specs.Judging.{judgeMeasures, judgeMissing, judgeSamples, judgeStar, facesAgree, judgeFaces}
+use Rattle.model.specs.Judging.{judgeMeasures, judgeMissing, judgeSamples, judgeLent, judgeStar, facesAgree, judgeFaces}
 use Rattle.model.specs.Mesh.{transitionPlace, transitionLeaves, transitionUse, transitionCell, transitionRow, transitionSide, meshOf}
 use Rattle.closed.specs.Refuted.{starOf}
 use Rattle.promises.specs.Reads.{Costly}
 
 -- one cell with the corners inside that lie two steps from one another; whoever unfolds it can judge it and compute its mesh
 unfoldable alternating : ℕ → List ℕ → Star
-unfolding starOf ones onesIn named neighbourOf pointFrom rotationOf rotations fineSample transitionCase transitionPlace transitionLeaves transitionUse transitionCell transitionRow transitionSide meshOf judgeMeasures judgeMissing judgeSamples judgeStar facesAgree judgeFaces Ieee.neg Ieee.div Ieee.ofInt Ieee.round Ieee.units Ieee.odd Ieee.size Ieee.climb Ieee.span rows.classes rows.cellRows rows.vertexRows tables.transitionClass tables.transitionCodes tables.transitionCell tables.transitionCode tables.transitionVertices tables.transitionTriangles tables.transitionCorner tables.transitionTurned
+unfolding starOf ones onesIn named neighbourOf pointFrom rotationOf rotations fineSample transitionCase transitionPlace transitionLeaves transitionUse transitionCell transitionRow transitionSide meshOf judgeMeasures judgeMissing judgeSamples judgeLent judgeStar facesAgree judgeFaces Ieee.neg Ieee.div Ieee.ofInt Ieee.round Ieee.units Ieee.odd Ieee.size Ieee.climb Ieee.span rows.classes rows.cellRows rows.vertexRows tables.transitionClass tables.transitionCodes tables.transitionCell tables.transitionCode tables.transitionVertices tables.transitionTriangles tables.transitionCorner tables.transitionTurned
 alternating mask neighbours = starOf 1 mask (0 ∷ 3 ∷ 5 ∷ 6 ∷ []) neighbours
 
 unfoldable pub alone : Star

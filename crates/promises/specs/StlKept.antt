@@ -13,6 +13,7 @@ use lib.Ieee.{Float}
 use lib.ListN.{length, getD}
 use Rattle.laws.specs.Steps.{each}
 use Rattle.laws.specs.Lists.{length-each}
+use Rattle.laws.specs.Rounds.{each-at}
 use Rattle.model.specs.declared.Counts.{Counts}
 use Rattle.model.specs.declared.Refusal.{Refusal}
 use Rattle.model.specs.declared.Refusal.the-variants.{StlLength, NoVertex}
@@ -39,7 +40,7 @@ use Rattle.promises.specs.Left.{Laid, Lent, answered, left}
 use Rattle.promises.specs.Orders.{inOrder, Numbered, Judged}
 use Rattle.promises.specs.Stl.{stlWritingJudges, stlReadingJudges, verticesLeft, trianglesLeft, WritableAsStl, StlPromises}
 use Rattle.promises.specs.Judges.{_&_, judged, one-or-other, Refuses, by-unless, by-first, buffer-number}
-use Rattle.promises.specs.ReadBack.{is-laid, each-at}
+use Rattle.promises.specs.ReadBack.{is-laid}
 use Rattle.promises.specs.Extracted.{passed, equal-mesh}
 use Rattle.promises.specs.LargerKept.{triangles-few}
 

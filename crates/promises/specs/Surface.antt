@@ -10,6 +10,7 @@ use lib.ListN.{length, getD, length-append, List·getD-append}
 use Rattle.model.specs.declared.Triangle.{Triangle}
 use Rattle.laws.specs.Steps.{each, laid}
 use Rattle.laws.specs.Lists.{length-each, listed-is}
+use Rattle.laws.specs.Rounds.{each-at}
 use Rattle.model.specs.Formulas.{vector}
 use Rattle.model.specs.Star.{Star}
 use Rattle.model.specs.Mesh.{Made, Mesh, regularMesh, meshOf}
@@ -18,7 +19,6 @@ use Rattle.closed.specs.Clauses.{noVertex, edgeAt, noTriangle, sides, runs, Own
 use Rattle.closed.specs.NoHole.{no-hole}
 use Rattle.closed.specs.Front.{regular-first}
 use Rattle.promises.specs.Left.{Lent, numberIn, cornerIn, vertexIn, triangleIn, regularPart}
-use Rattle.promises.specs.ReadBack.{each-at}
 
 -- place j of item k of what is laid into a buffer
 module _ {A B : Type 0} (f : A → List B) (w : ℕ) (wide : (a : A) → length (f a) ≡ w) (l : List A) (before after : List B)

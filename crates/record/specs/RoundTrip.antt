@@ -23,16 +23,15 @@ use Rattle.model.specs.Limits.{mostSubdivisions, mostMask, sideCount}
 use Rattle.model.specs.Sides.{named, namedBelow, neighbourLength, neighboursLength, sampleCount}
 use Rattle.model.specs.Refusals.{unless, orElse}
 use Rattle.model.specs.Star.{Star, star}
-use Rattle.model.specs.Judging.{judgeMeasures, judgeMissing, sideThere, usable, judgeSamples, judgeBuffer, judgeStar}
+use Rattle.model.specs.Judging.{judgeMeasures, judgeMissing, sideThere, usable, judgeSamples, judgeBuffer, judgeLent, judgeStar}
 use Rattle.model.specs.Record.{sampleFrom, countOf, headerOf, samplesOf, starOf, recordOf, readRecord, writeAnswer, writeRecord}
 use Rattle.grid.specs.Counts.{mostSamples, count-small}
 use Rattle.grid.specs.Shape.{Shaped}
 use Rattle.grid.specs.SideLaws.{named-below}
 use Rattle.judge.specs.First.{both-passed, passed-over}
-use Rattle.judge.specs.Passing.{star-shaped}
+use Rattle.judge.specs.Passing.{star-measures, star-samples, star-shaped}
 use Rattle.words.specs.Orders.{Bytes}
 use Rattle.words.specs.Floats.{Fit}
-use Rattle.record.specs.Writable.{star-parts}
 use Rattle.record.specs.Accepted.{Accepted, passes, length-samples, sample-is, samples-pass, samples-usable}
 use Rattle.record.specs.Reading.{was-read}
 use Rattle.record.specs.Bytes.{measuresOf, length-record, length-told, version-told, header-back, samples-back, record-back}
@@ -61,7 +60,7 @@ module _ (bytes : List ℕ) (a : Accepted bytes) where
 
   pub star-passes : (centre neighbours : List Float) → centre ++ neighbours ≡ samplesOf bytes → length centre ≡ sampleLength n
       → judgeStar (star (headerOf bytes) centre neighbours) ≡ Passed
-  unfolding judgeStar headerOf
+  unfolding judgeLent judgeStar headerOf
   star-passes centre neighbours whole centre-is =
       let neighbours-are : length neighbours ≡ neighboursLength n mask =
       omega (arith, length-append centre neighbours, ap length whole, length-samples bytes) in
@@ -169,7 +168,6 @@ module _ (h : Header) (centre neighbours : List Float) (fit-measures : Fit (meas
   read-back =
       let n = h .block .subdivisions in
       let long = length-record h samples in
-      let parts = star-parts (star h centre neighbours) passed in
       let few : length samples ≤ mostSamples = rw (← count-is, n-is, mask-is) (count-small n (h .mask) (shaped .few) (shaped .sides)) in
       record {
         long = omega arith;
@@ -178,11 +176,11 @@ module _ (h : Header) (centre neighbours : List Float) (fit-measures : Fit (meas
         some = rw n-is (shaped .some);
         few = rw n-is (shaped .few);
         sides = rw mask-is (shaped .sides);
-        measures = ap (λ (k : Header). judgeMeasures (k .block) (k .threshold)) header-is ∙ parts .0;
+        measures = ap (λ (k : Header). judgeMeasures (k .block) (k .threshold)) header-is ∙ star-measures (star h centre neighbours) passed;
         counted = rw count-is long;
         usable-samples = λ k l.
             ap usable (sym (sample-is bytes k l) ∙ ap (λ (s : List Float). getD s k nan) samples-are)
-            ∙ samples-usable samples k (parts .1) (rw (← count-is) l);
+            ∙ samples-usable samples k (star-samples (star h centre neighbours) passed) (rw (← count-is) l);
       }
 
 -- bytes are answered only for a block that passes

@@ -11,27 +11,14 @@ use lib.Seq.{getD-append-add}
 use Rattle.model.specs.declared.Header.{Header}
 use Rattle.model.specs.declared.Verdict.the-variants.{Passed}
 use Rattle.model.specs.Limits.{mostSubdivisions}
-use Rattle.model.specs.Star.{Star, star, subdivisions}
-use Rattle.model.specs.Judging.{judgeSubdivisions, judgeMask, judgeMeasures, judgeCentre, judgeMissing, judgeTooLong, judgeSamples, judgeStar}
-use Rattle.judge.specs.First.{both-passed}
-use Rattle.judge.specs.Passing.{star-shaped}
+use Rattle.model.specs.Star.{star}
+use Rattle.model.specs.Judging.{judgeMeasures, judgeStar}
+use Rattle.judge.specs.Passing.{star-measures, star-samples, star-shaped}
 use Rattle.words.specs.Floats.{Numbers}
 use Rattle.record.specs.Usable.{usable-number}
 use Rattle.grid.specs.Counts.{mostSamples, count-small}
 use Rattle.record.specs.Accepted.{measure-number, samples-usable}
 use Rattle.record.specs.Bytes.{measuresOf}
-
-pub star-parts : (s : Star) → judgeStar s ≡ Passed → (judgeMeasures (s .block) (s .threshold) ≡ Passed) × (judgeSamples (s .centre ++ s .neighbours) ≡ Passed)
-unfolding judgeStar
-star-parts s passed =
-    let n = subdivisions s in
-    let held = length (s .neighbours) in
-    let past-1 = both-passed (judgeSubdivisions n) _ passed .1 in
-    let past-2 = both-passed (judgeMask (s .mask)) _ past-1 .1 in
-    let past-3 = both-passed (judgeMeasures (s .block) (s .threshold)) _ past-2 in
-    let past-4 = both-passed (judgeCentre n (length (s .centre))) _ (past-3 .1) .1 in
-    let past-5 = both-passed (judgeMissing n (s .mask) held) _ past-4 .1 in
-    (past-3 .0, both-passed (judgeTooLong n (s .mask) held) (judgeSamples (s .centre ++ s .neighbours)) past-5 .1)
 
 pub record Writable (h : Header) (centre neighbours : List Float) : Type 0 where
   pub few : h .block .subdivisions ≤ mostSubdivisions
@@ -53,13 +40,12 @@ pub writable : (h : Header) (centre neighbours : List Float) → judgeStar (star
 writable h centre neighbours passed =
     let s = star h centre neighbours in
     let shaped = star-shaped s passed in
-    let parts = star-parts s passed in
     let number : (k : ℕ) → k < length centre + length neighbours → T (not (isNan (getD (centre ++ neighbours) k nan))) =
-    λ k l. usable-number (getD (centre ++ neighbours) k nan) (samples-usable (centre ++ neighbours) k (parts .1) (rw length-append l)) in
+    λ k l. usable-number (getD (centre ++ neighbours) k nan) (samples-usable (centre ++ neighbours) k (star-samples s passed) (rw length-append l)) in
     record {
       few = shaped .few;
       counted = rw (shaped .centre-is, shaped .neighbours-are) (count-small (h .block .subdivisions) (h .mask) (shaped .few) (shaped .sides));
-      measures = measures-are h (parts .0);
+      measures = measures-are h (star-measures s passed);
       centre-numbers = λ k l.
           subst (λ (x : Float). T (not (isNan x))) (List·getD-append centre neighbours nan k l) (number k (omega arith));
       neighbour-numbers = λ k l.

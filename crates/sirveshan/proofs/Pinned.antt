@@ -9,6 +9,7 @@ use Rattle.sirveshan.proofs.sirveshan_read.Reads as read
 use Rattle.sirveshan.proofs.sirveshan_write.Reads as write
 use Rattle.sirveshan.proofs.sirveshan_write_stl.Reads as write-stl
 use Rattle.sirveshan.proofs.sirveshan_read_stl.Reads as read-stl
+use Rattle.sirveshan.proofs.sirveshan_repair.Reads as repair
 use Rattle.sirveshan.proofs.sirveshan_cut.Reads as cut
 use Rattle.sirveshan.proofs.sirveshan_subdivisions.Reads as subdivisions
 use Rattle.sirveshan.proofs.sirveshan_blank.Reads as blank
@@ -39,6 +40,12 @@ sirveshan-write-stl-pinned κs a r r′ e e′ h k = (λ i. pinned h k i .answer
 pub sirveshan-read-stl-pinned : (κs : Lfts 2) (a : _) (r r′ : _) (e e′ : _) → read-stl.Learnt κs a r e → read-stl.Learnt κs a r′ e′
     → (r ≡ r′) × (now (e .1 .0) ≡ now (e′ .1 .0))
 sirveshan-read-stl-pinned κs a r r′ e e′ h k = (λ i. pinned h k i .answer, λ i. pinned h k i .positions)
+
+pub sirveshan-repair-pinned : (κs : Lfts 3) (a : _) (r r′ : _) (e e′ : _) → repair.Learnt κs a r e → repair.Learnt κs a r′ e′
+    → (r ≡ r′)
+    × ((now (e .1 .0) ≡ now (e′ .1 .0)) × ((now (e .1 .1 .0) ≡ now (e′ .1 .1 .0)) × (now (e .1 .1 .1 .1 .0) ≡ now (e′ .1 .1 .1 .1 .0))))
+sirveshan-repair-pinned κs a r r′ e e′ h k =
+    (λ i. pinned h k i .answer, (λ i. pinned h k i .centre, (λ i. pinned h k i .neighbours, λ i. pinned h k i .changes)))
 
 pub sirveshan-cut-pinned : (κs : Lfts 2) (a : _) (r r′ : _) (e e′ : _) → cut.Learnt κs a r e → cut.Learnt κs a r′ e′
     → (r ≡ r′) × (now (e .1 .1 .1 .1 .0) ≡ now (e′ .1 .1 .1 .1 .0))

@@ -19,6 +19,8 @@ use Rattle.stl.specs.declared.StlWritten.{StlWritten}
 use Rattle.stl.specs.declared.StlWritten.the-variants as StlWritten
 use Rattle.stl.specs.declared.StlRead.{StlRead}
 use Rattle.stl.specs.declared.StlRead.the-variants as StlRead
+use Rattle.repair.specs.declared.Repaired.{Repaired}
+use Rattle.repair.specs.declared.Repaired.the-variants as Repaired
 use Rattle.volume.specs.declared.BlockCut.{BlockCut}
 use Rattle.volume.specs.declared.BlockCut.the-variants as BlockCut
 use Rattle.sheet.specs.declared.Line.{Line}
@@ -33,12 +35,14 @@ use Rattle.model.specs.Refusals.{numbers, numbersOf}
 use Rattle.model.specs.Extraction.{Outcome}
 use Rattle.model.specs.Record.{ReadOutcome, WriteOutcome}
 use Rattle.stl.specs.Definition as Stl
+use Rattle.repair.specs.Definition.{RepairOutcome}
 use Rattle.volume.specs.Definition.{CutOutcome}
 use Rattle.sheet.specs.Definition as Sheet
 use Rattle.sirveshan.specs.declared.Extracted.{Extracted}
 use Rattle.sirveshan.specs.declared.HeaderRead.{HeaderRead}
 use Rattle.sirveshan.specs.declared.Written.{Written}
 use Rattle.sirveshan.specs.declared.TrianglesRead.{TrianglesRead}
+use Rattle.sirveshan.specs.declared.Mended.{Mended}
 use Rattle.sirveshan.specs.declared.SamplesCut.{SamplesCut}
 use Rattle.sirveshan.specs.declared.Sampled.{Sampled}
 use Rattle.sirveshan.specs.declared.LineTold.{LineTold}
@@ -79,6 +83,10 @@ asStlWritten (StlWritten.Refused r) = record { refused = numbersOf r; length = 0
 abbrev pub asTrianglesRead : StlRead → TrianglesRead
 asTrianglesRead (StlRead.Triangles triangles) = record { refused = notRefused; triangles = triangles }
 asTrianglesRead (StlRead.Refused r) = record { refused = numbersOf r; triangles = 0 }
+
+abbrev pub asMended : Repaired → Mended
+asMended (Repaired.Changes changes) = record { refused = notRefused; changes = changes }
+asMended (Repaired.Refused r) = record { refused = numbersOf r; changes = 0 }
 
 abbrev pub asSamplesCut : BlockCut → SamplesCut
 asSamplesCut (BlockCut.Samples samples) = record { refused = notRefused; samples = samples }
@@ -141,6 +149,15 @@ pub record ReadStlCall : Type 0 where
 
 abbrev pub readStlCall : Stl.ReadOutcome → ReadStlCall
 readStlCall o = record { answer = asTrianglesRead (o .answer); positions = o .positions }
+
+pub record RepairCall : Type 0 where
+  pub answer : Mended
+  pub centre : List ℕ
+  pub neighbours : List ℕ
+  pub changes : List ℕ
+
+abbrev pub repairCall : RepairOutcome → RepairCall
+repairCall o = record { answer = asMended (o .answer); centre = o .left .centre; neighbours = o .left .neighbours; changes = o .changes }
 
 pub record CutCall : Type 0 where
   pub answer : SamplesCut

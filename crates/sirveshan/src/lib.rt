@@ -6,10 +6,11 @@ ghost use Rattle.model.specs.Extraction.{extract};
 ghost use Rattle.model.specs.Record.{readRecord, writeRecord};
 ghost use Rattle.model.specs.Viewer.{subdivisionsAnswer, blankAnswer, sampleAnswer, recordPoint};
 ghost use Rattle.stl.specs.Definition.{writeStl, readStl};
+ghost use Rattle.repair.specs.Definition.{delivery, repair};
 ghost use Rattle.volume.specs.Definition.{cutBlock};
 ghost use Rattle.sheet.specs.Definition.{sheetLine, sheetTotal};
-ghost use Rattle.sirveshan.specs.Calls.{asExtracted, asHeaderRead, asWritten, asStlWritten, asTrianglesRead, asSamplesCut, kindNumber, asSampled};
-ghost use Rattle.sirveshan.specs.Calls.{extractCall, readCall, writeCall, writeStlCall, readStlCall, cutCall};
+ghost use Rattle.sirveshan.specs.Calls.{asExtracted, asHeaderRead, asWritten, asStlWritten, asTrianglesRead, asMended, asSamplesCut, kindNumber, asSampled};
+ghost use Rattle.sirveshan.specs.Calls.{extractCall, readCall, writeCall, writeStlCall, readStlCall, repairCall, cutCall};
 ghost use Rattle.sirveshan.specs.Calls.{lineTold, asLineTold, asTotalTold};
 use grid::transition_sides::SIDES;
 use judge::numbers_of;
@@ -27,6 +28,7 @@ use model::Vector;
 use model::Xyz;
 use record::reader::read_record;
 use record::writer::write_record;
+use repair::Repaired;
 use sheet::Figures;
 use sheet::Line;
 use sheet::NO_FIGURES;
@@ -63,6 +65,12 @@ pub struct Written {
 pub struct TrianglesRead {
     pub refused: Numbers,
     pub triangles: usize,
+}
+
+#[repr(C)]
+pub struct Mended {
+    pub refused: Numbers,
+    pub changes: usize,
 }
 
 #[repr(C)]
@@ -194,6 +202,21 @@ fn as_triangles_read(answer: StlRead) -> TrianglesRead
         StlRead::Refused(refusal) => TrianglesRead {
             refused: numbers_of(refusal),
             triangles: 0,
+        },
+    }
+}
+
+fn as_mended(answer: Repaired) -> Mended
+    ensures { λ r. ⌜ r ≡ asMended answer ⌝ }
+{
+    match answer {
+        Repaired::Changes(changes) => Mended {
+            refused: NOT_REFUSED,
+            changes,
+        },
+        Repaired::Refused(refusal) => Mended {
+            refused: numbers_of(refusal),
+            changes: 0,
         },
     }
 }
@@ -347,6 +370,22 @@ pub extern "C" fn sirveshan_read_stl(src: &[u8], positions: &mut [f32]) -> Trian
     ensures { λ r. ⌜ record { answer = r; positions = now (positions .exit) } ≡ readStlCall (readStl (now (src .entry)) (now (positions .entry))) ⌝ }
 {
     as_triangles_read(read_stl(src, positions))
+}
+
+// A block's samples and its neighbours', by their bits, repaired in place: bad ones become the filler, fine ones that disagree take the
+// centre's bits, and each change is listed as four words in the first places of a lent list.
+#[no_mangle]
+pub extern "C" fn sirveshan_repair(
+    header: Header,
+    centre: &mut [u32],
+    neighbours: &mut [u32],
+    filler: f32,
+    changes: &mut [u32],
+) -> Mended
+    ensures { λ r. ⌜ record { answer = r; centre = now (centre .exit); neighbours = now (neighbours .exit); changes = now (changes .exit) }
+        ≡ repairCall (repair header (delivery (now (centre .entry)) (now (neighbours .entry))) filler (now (changes .entry))) ⌝ }
+{
+    as_mended(repair::repair(header, centre, neighbours, filler, changes))
 }
 
 // The block of n subdivisions whose (0, 0, 0) is the point `first` of a raw volume, in the first places of a lent list.

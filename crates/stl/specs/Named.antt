@@ -1,12 +1,11 @@
 -- Document 02, [1]: refusal 17. A look at all corners finds whether there is a triangle that names no vertex; what passes names one with
 -- each corner.
-use Prim.Native.Nat.{ℕ, zero, suc, _+_, _*_, _<_, zero-le}
-use native.Mathlib.Nat.{add-zero, not-suc-le-zero, le-of-suc-le-suc, eq-or-lt-of-le}
+use Prim.Native.Nat.{ℕ, _+_, _*_, _<_, zero-le}
+use native.Mathlib.Nat.{add-zero}
 use native.Mathlib.Omega.{arith}
-use mathlib.Core.Path.{_≡_, refl, ap, _∙_}
+use mathlib.Core.Path.{_≡_, refl}
 use mathlib.Core.Bool.{Bool, true, _&&_, and-eq-true-iff}
 use mathlib.Core.List.{List}
-use mathlib.Core.Logic.{⊎-elim}
 use borrow.Author.Tests.{ltb-true, lt-ltb}
 use lib.Dec.{ltb}
 use lib.Ieee.{Float}
@@ -15,8 +14,8 @@ use Rattle.laws.specs.Below.{allBelow, each-below}
 use Rattle.model.specs.declared.Refusal.the-variants.{NoVertex}
 use Rattle.model.specs.declared.Verdict.{Verdict}
 use Rattle.model.specs.declared.Verdict.the-variants.{Passed}
-use Rattle.model.specs.Refusals.{unless, first}
-use Rattle.judge.specs.First.{both-passed, unless-passed, passed-over}
+use Rattle.model.specs.Refusals.{unless}
+use Rattle.judge.specs.First.{unless-passed, each-passed, passed-over}
 use Rattle.stl.specs.Definition.{vertexCount, triangleCount, cornerOf, named, judgeNamed}
 
 -- the first k corners each name a vertex
@@ -52,12 +51,6 @@ pub record Names (vertices : List Float) (triangles : List ℕ) (t : ℕ) : Type
 abbrev pub AllName : List Float → List ℕ → Type 0
 AllName vertices triangles = (t : ℕ) → t < triangleCount triangles → Names vertices triangles t
 
-first-passed : (f : ℕ → Verdict) (n k : ℕ) → first f n ≡ Passed → k < n → f k ≡ Passed
-first-passed f zero k e h = absurd (not-suc-le-zero h)
-first-passed f (suc n) k e h =
-    let parts = both-passed (first f n) (f n) e in
-    ⊎-elim (λ same. ap f same ∙ parts .1) (λ l. first-passed f n k (parts .0) l) (eq-or-lt-of-le (le-of-suc-le-suc h))
-
 module _ (vertices : List Float) (triangles : List ℕ) where
   abbrev held : ℕ
   held = vertexCount vertices
@@ -68,7 +61,7 @@ module _ (vertices : List Float) (triangles : List ℕ) where
       let a = ltb (cornerOf triangles t 0) held in
       let b = ltb (cornerOf triangles t 1) held in
       let c = ltb (cornerOf triangles t 2) held in
-      let all : named held triangles t ≡ true = unless-passed _ (NoVertex t) (first-passed (namedSpot held triangles) (triangleCount triangles) t e h) in
+      let all : named held triangles t ≡ true = unless-passed _ (NoVertex t) (each-passed (namedSpot held triangles) (triangleCount triangles) t e h) in
       let third = and-eq-true-iff (a && b) c .0 all in
       let both = and-eq-true-iff a b .0 (third .0) in
       record {

@@ -1,11 +1,12 @@
 -- Document 02, [8]: the centre's places as n + 7 squares, and the point of each. The model's `inBlock` is the place at (i, j) of a square, also where the
 -- square is a face's. Assumes nothing.
 use Prim.Native.Nat.{ℕ, zero, suc, _+_, _-_, _*_, _/_, _%_, _≤_, _<_}
-use native.Mathlib.Nat.{mul-add, mul-assoc, mul-le-mul-left, mul-add-div, mul-add-mod-self-left, div-eq-of-lt, mod-eq-of-lt, mod-lt, div-add-mod, add-zero}
+use native.Mathlib.Nat.{mul-add, mul-assoc, mul-le-mul-left, mod-lt, div-add-mod}
 use native.Mathlib.Decide.{decLe, decLt}
 use native.Mathlib.Omega.{arith}
 use mathlib.Core.Path.{_≡_, refl, ap, _∙_}
 use borrow.Author.Tests.{le-leb, lt-leb}
+use Rattle.laws.specs.Iterated.{upper, lower}
 use Rattle.model.specs.Samples.{sampleLength, inBlock}
 use Rattle.model.specs.Rotations.{xyz}
 use Rattle.volume.specs.Definition.{pointBeside, pointOn, pointOf}
@@ -20,20 +21,14 @@ module _ (n : ℕ) where
   nested : (square i j : ℕ) → inBlock n square i j ≡ m * (m * square + i) + j
   nested square i j = omega (arith, mul-add m (m * square) i, mul-assoc m m square)
 
-  quotient : (a b : ℕ) → b < m → (m * a + b) / m ≡ a
-  quotient a b h = mul-add-div (omega arith) a b ∙ ap (λ (k : ℕ). a + k) (div-eq-of-lt h) ∙ add-zero a
-
-  rest : (a b : ℕ) → b < m → (m * a + b) % m ≡ b
-  rest a b h = mul-add-mod-self-left m a b ∙ mod-eq-of-lt h
-
   pub point-at : (square i j : ℕ) → i ≤ n → j ≤ n → pointOf n (inBlock n square i j) ≡ pointOn n square i j
   point-at square i j hi hj =
-      let line : (m * (m * square + i) + j) / m ≡ m * square + i = quotient (m * square + i) j (omega arith) in
+      let line : (m * (m * square + i) + j) / m ≡ m * square + i = upper m (m * square + i) j (omega arith) in
       let s : inBlock n square i j / m / m ≡ square =
-      ap (λ (k : ℕ). k / m / m) (nested square i j) ∙ ap (λ (k : ℕ). k / m) line ∙ quotient square i (omega arith) in
+      ap (λ (k : ℕ). k / m / m) (nested square i j) ∙ ap (λ (k : ℕ). k / m) line ∙ upper m square i (omega arith) in
       let a : inBlock n square i j / m % m ≡ i =
-      ap (λ (k : ℕ). k / m % m) (nested square i j) ∙ ap (λ (k : ℕ). k % m) line ∙ rest square i (omega arith) in
-      let b : inBlock n square i j % m ≡ j = ap (λ (k : ℕ). k % m) (nested square i j) ∙ rest (m * square + i) j (omega arith) in
+      ap (λ (k : ℕ). k / m % m) (nested square i j) ∙ ap (λ (k : ℕ). k % m) line ∙ lower m square i (omega arith) in
+      let b : inBlock n square i j % m ≡ j = ap (λ (k : ℕ). k % m) (nested square i j) ∙ lower m (m * square + i) j (omega arith) in
       λ t. pointOn n (s t) (a t) (b t)
 
   -- a place lies in a square

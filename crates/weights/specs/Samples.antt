@@ -17,13 +17,13 @@ use Rattle.model.specs.Sides.{named, namedBelow, neighbourLength, neighbourOf}
 use Rattle.model.specs.Rotations.{neighbourPoint}
 use Rattle.model.specs.Star.{Star, subdivisions, neighbourAt}
 use Rattle.model.specs.Points.{fineSample}
-use Rattle.model.specs.Judging.{usable, judgeSubdivisions, judgeMask, measureUsable, judgeMeasures, judgeCentre, judgeMissing, judgeTooLong, sampleUsable, judgeSamples, judgeStar}
+use Rattle.model.specs.Judging.{usable, measureUsable, judgeMeasures, sampleUsable, judgeSamples, judgeStar}
 use Rattle.grid.specs.Shape.{Shaped}
 use Rattle.grid.specs.Places.{Within, in-block, sample-is}
 use Rattle.grid.specs.RotationLaws.{OnFineFace, neighbour-point-in}
 use Rattle.grid.specs.SideLaws.{NeighbourThere, part-ends}
-use Rattle.judge.specs.First.{both-passed, unless-passed, each-passed}
-use Rattle.judge.specs.Passing.{star-shaped}
+use Rattle.judge.specs.First.{unless-passed, each-passed}
+use Rattle.judge.specs.Passing.{star-measures, star-samples, star-shaped}
 use Rattle.weights.specs.Clauses.{AreF32}
 use Rattle.weights.specs.Small.{Small}
 use Rattle.weights.specs.Coordinates.{Measured, usable-small, usable-size-small}
@@ -37,24 +37,12 @@ module _ (s : Star) (fit : AreF32 s) (passed : judgeStar s ≡ Passed) where
   pub shaped : Shaped s
   shaped = star-shaped s passed
 
-  three-and-seven : (judgeMeasures (s .block) (s .threshold) ≡ Passed) × (judgeSamples (s .centre ++ s .neighbours) ≡ Passed)
-  unfolding judgeStar
-  three-and-seven =
-      let n = subdivisions s in
-      let past-1 = both-passed (judgeSubdivisions n) _ passed .1 in
-      let past-2 = both-passed (judgeMask (s .mask)) _ past-1 .1 in
-      let three = both-passed (judgeMeasures (s .block) (s .threshold)) _ past-2 in
-      let past-4 = both-passed (judgeCentre n (length (s .centre))) _ (three .1) .1 in
-      let past-5 = both-passed (judgeMissing n (s .mask) (length (s .neighbours))) _ past-4 .1 in
-      let past-6 = both-passed (judgeTooLong n (s .mask) (length (s .neighbours))) _ past-5 .1 in
-      (three .0, past-6)
-
   -- ---- 3
 
   measure : (k : ℕ) → k < 5 → measureUsable (s .block) (s .threshold) k ≡ true
   unfolding judgeMeasures
   measure k h =
-      unless-passed _ (Measure k) (each-passed (λ k. unless (measureUsable (s .block) (s .threshold) k) (Measure k)) 5 k (three-and-seven .0) h)
+      unless-passed _ (Measure k) (each-passed (λ k. unless (measureUsable (s .block) (s .threshold) k) (Measure k)) 5 k (star-measures s passed) h)
 
   pub threshold-small : Small mostSize (s .threshold)
   threshold-small = usable-small _ (fit .threshold) (measure 4 (omega arith))
@@ -74,7 +62,7 @@ module _ (s : Star) (fit : AreF32 s) (passed : judgeStar s ≡ Passed) where
 
   all-usable : (i : ℕ) → i < length (s .centre ++ s .neighbours) → usable (getD (s .centre ++ s .neighbours) i nan) ≡ true
   unfolding judgeSamples
-  all-usable i h = unless-passed _ (BadSample i) (each-passed (sampleUsable (s .centre ++ s .neighbours)) _ i (three-and-seven .1) h)
+  all-usable i h = unless-passed _ (BadSample i) (each-passed (sampleUsable (s .centre ++ s .neighbours)) _ i (star-samples s passed) h)
 
   in-centre : (i : ℕ) → i < length (s .centre) → Small mostSize (getD (s .centre) i nan)
   in-centre i h =

@@ -1,104 +1,43 @@
--- `judge::judge_star` meets its contract: each way out is one of the laws of 1 to 7 in parts.
+-- `judge::judge_star` meets its contract: what 1 to 6 refuse is refused so, and what they let pass is left to 7.
 use borrow.Author.Needs.{needs}
-use mathlib.Core.Path.{_≡_, sym, _∙_}
-use Rattle.model.specs.declared.Verdict.{Verdict}
-use Rattle.model.specs.declared.Verdict.the-variants.{Passed}
-use Rattle.model.specs.Refusals.{orElse}
+use mathlib.Core.Path.{sym, _∙_}
 use Rattle.model.specs.Star.{Star, star}
-use Rattle.judge.specs.Parts.{judgeKind}
-use Rattle.judge.specs.Passing.{judgeShape, kind-refused, shape-refused, samples-left, kind-passed}
+use Rattle.judge.specs.Passing.{lent-refused, samples-left}
 use Rattle.judge.proofs.judge_star.Statement.{statement}
 use Rattle.judge.proofs.judge_star.Tie as tie
 
-judge-subdivisions-requires : tie.Need-judge-subdivisions-requires
-judge-subdivisions-requires c κs = search needs
+judge-lent-requires : tie.Need-judge-lent-requires
+judge-lent-requires c κs = search needs
 
-judge-mask-requires : tie.Need-judge-mask-requires
-judge-mask-requires c κs = search needs
+enum-known-lent : tie.Need-enum-known-lent
+enum-known-lent c = search needs
 
-or-else-requires : tie.Need-or-else-requires
-or-else-requires c κs = search needs
-
-enum-known-kind : tie.Need-enum-known-kind
-enum-known-kind c = search needs
-
-abbrev start : tie.After-or-else → tie.Start
-start c = c .before .before .before .before .before
-
-abbrev star-of : tie.Start → Star
-star-of c = star (c .args .header) (c .args .centre .now) (c .args .neighbours .now)
-
-abbrev kind-of : tie.Start → Verdict
-kind-of c = judgeKind (c .args .header .block .subdivisions) (c .args .header .mask)
-
-kind-is : (c : tie.After-or-else) → c .or-else .result ≡ kind-of (start c)
-kind-is c = c .or-else .ensures ∙ (λ i. orElse (c .before .before .judge-subdivisions .ensures i) (c .before .judge-mask .ensures i))
+abbrev star-of : tie.After-judge-lent → Star
+star-of c = let a = c .before .before .before .args in star (a .header) (a .centre .now) (a .neighbours .now)
 
 returns : tie.Need-returns
 returns c =
-    let after = c .before .before .before in
-    sym (kind-refused (star-of (start after)) (sym (kind-is after) ∙ c .before .kind .given .1))
+    let judged = c .before .before .before in
+    sym (lent-refused (star-of judged) (sym (judged .judge-lent .ensures) ∙ c .before .lent .given .1))
 
 enum-told : tie.Need-enum-told
 enum-told c = search needs
 
--- 1 and 2 are passed
-passed-kind : (c : tie.After-enum-told) → kind-of (start (c .before .before)) ≡ Passed
-passed-kind c = sym (kind-is (c .before .before)) ∙ c .enum-told .given .1
-
-judge-measures-requires : tie.Need-judge-measures-requires
-judge-measures-requires c κs = search needs
-
-judge-lengths-requires : tie.Need-judge-lengths-requires
-judge-lengths-requires c κs =
-    let args = start (c .before .before .before) .args in
-    let kind = kind-passed (args .header .block .subdivisions) (args .header .mask) (passed-kind (c .before)) in
-    (kind .few, kind .sides)
-
-or-else-requires-2 : tie.Need-or-else-requires-2
-or-else-requires-2 c κs = search needs
-
-enum-known-shape : tie.Need-enum-known-shape
-enum-known-shape c = search needs
-
-shape-is : (c : tie.After-or-else2) → c .or-else2 .result ≡ judgeShape (star-of (start (c .before .before .before .before .before)))
-shape-is c = c .or-else2 .ensures ∙ (λ i. orElse (c .before .before .judge-measures .ensures i) (c .before .judge-lengths .ensures i))
+judge-samples-requires : tie.Need-judge-samples-requires
+judge-samples-requires c κs = search needs
 
 returns-2 : tie.Need-returns-2
 returns-2 c =
     let judged = c .before .before .before in
-    let told = judged .before .before .before in
-    let shape = sym (shape-is judged) ∙ c .before .shape .given .1 in
-    sym (shape-refused (star-of (start (told .before .before))) (passed-kind told) shape)
-
-enum-told-2 : tie.Need-enum-told-2
-enum-told-2 c = search needs
-
-judge-samples-requires : tie.Need-judge-samples-requires
-judge-samples-requires c κs = search needs
-
-returns-3 : tie.Need-returns-3
-returns-3 c =
-    let judged = c .before .before .before in
-    let told = judged .before .before .before in
-    let shape = sym (shape-is judged) ∙ c .before .enum-told2 .given .1 in
-    c .judge-samples .ensures ∙ sym (samples-left (star-of (start (told .before .before))) (passed-kind told) shape)
+    c .judge-samples .ensures ∙ sym (samples-left (star-of judged) (sym (judged .judge-lent .ensures) ∙ c .before .enum-told .given .1))
 
 pub judge-star-spec : {M : Type 1} → statement M
 judge-star-spec =
     tie.close
     (tie.spec
-    judge-subdivisions-requires
-    judge-mask-requires
-    or-else-requires
-    enum-known-kind
+    judge-lent-requires
+    enum-known-lent
     returns
     enum-told
-    judge-measures-requires
-    judge-lengths-requires
-    or-else-requires-2
-    enum-known-shape
-    returns-2
-    enum-told-2
     judge-samples-requires
-    returns-3)
+    returns-2)

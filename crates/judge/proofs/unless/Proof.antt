@@ -1,10 +1,9 @@
 -- `judge::unless` meets its contract, for each answer of the test.
-use borrow.Author.Needs.{needs}
 use Rattle.judge.proofs.unless.Statement.{statement}
 use Rattle.judge.proofs.unless.Tie as tie
 
 returns : tie.Need-returns
-returns c = search needs
+returns c = rw (c .if1 .taken)
 
 returns-2 : tie.Need-returns-2
 returns-2 c = rw (c .if1 .left)
