@@ -19,13 +19,14 @@ import reference
 
 NAN, INFINITY, LIMIT = 0x7FC00000, 0x7F800000, 0x49800000
 BAD = [NAN, 0xFFC00001, INFINITY, INFINITY | 1 << 31, LIMIT + 1, LIMIT + 1 | 1 << 31]
+SMALL = [1, 1, 1, 2, 2, 3]
 
 
 class Call:
     """What one call lends: a block and the lengths of the three buffers."""
 
-    def __init__(self, chance):
-        self.n = chance.choice([1, 1, 1, 2, 2, 3])
+    def __init__(self, chance, sizes=SMALL):
+        self.n = chance.choice(sizes)
         self.mask = chance.choice([0, 1 << chance.randrange(6), chance.randrange(64)])
         self.threshold = chance.choice([0, 0x3F000000, 0x80000000])
         self.base = [chance.choice([0, 0x3F800000, LIMIT]) for _ in range(3)]

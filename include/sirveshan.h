@@ -77,6 +77,8 @@
  *   15  grid point never sampled                            coordinates outside, 1 to 3
  *   16  STL length not its count's, or too many triangles   length wanted, 0 in writing
  *   17  a triangle names no vertex                          triangle
+ *   18  a filler that 7 would refuse
+ *   19  list of changes too short                           entries wanted
  *   20  volume size 0 or above 1,024
  *   21  volume length not four times its sizes' product
  *   22  first point not in the volume
@@ -284,6 +286,29 @@ typedef struct sirveshan_triangles_read {
 } sirveshan_triangles_read;
 
 sirveshan_triangles_read sirveshan_read_stl(const uint8_t *src, size_t length, float *positions, size_t positions_length);
+
+/*
+ * Repairs a damaged delivery in place. Samples are lent by their bits, since a NaN's bits can be told only so: the lists are those
+ * of sirveshan_extract, their floats seen as uint32_t.
+ *
+ * Each sample that 7 would refuse becomes the filler; then, at each point that 8 would refuse, the neighbour's sample takes the
+ * bits of the centre's. changes gets four words a change: its list (0 centre, 1 neighbours), its place there, the bits before and
+ * the bits after; all beyond stays. The order is the centre's bad samples by place, the neighbours' by place, then the points by
+ * side, u and v. A sample that is filled and then taken from the centre has two entries. Undone from the last to the first they
+ * give the delivery back.
+ *
+ * changes_length counts words: there is room for changes_length / 4 changes, rounded down. Judged are 1 to 6, 18 (a filler that 7
+ * would refuse) and 19, in that order: 19 tells how many changes there are. On a refusal the count is 0 and no lent place is
+ * altered, the delivery's neither. After the call 7 and 8 are not met, and a second call lists nothing. Where they were not met
+ * before, nothing is altered.
+ */
+typedef struct sirveshan_mended {
+    sirveshan_refusal refused;
+    size_t changes;
+} sirveshan_mended;
+
+sirveshan_mended sirveshan_repair(sirveshan_header header, uint32_t *centre, size_t centre_length, uint32_t *neighbours,
+                                  size_t neighbours_length, float filler, uint32_t *changes, size_t changes_length);
 
 /*
  * Cuts a block of n subdivisions out of a raw volume: its point `first` becomes the block's (0, 0, 0), and the block's samples, the

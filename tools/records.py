@@ -11,14 +11,18 @@ bytes.  face-run is a run: the face in four blocks side by side, two along x and
 two along z.  face.volume is the face as a raw volume of 30 x 15 x 22 samples, half
 a metre apart: little-endian f32, x fastest.  ledge is a block that lies before the
 face, with a thin ledge that only its finer neighbour's samples meet: all its own
-samples are outside, and the transition cells have triangles.
+samples are outside, and the transition cells have triangles.  ledge.damaged is that
+block with a NaN among its samples and one fine sample turned inside: refused as it
+is, and what `sirveshan repair` is for.
 """
 
 import struct
 from pathlib import Path
 
 from reference import (ROTATIONS, Block, bits, block_length, face_point, fine_place, neighbours_length,
-                       record_of, sample_place, sides_named)
+                       record_of, sample_place, shared_place, sides_named)
+
+NAN = 0x7FC00000
 
 EXAMPLES = Path(__file__).resolve().parent.parent / "examples"
 
@@ -112,6 +116,14 @@ def examples():
     }
 
 
+def deliveries():
+    """Damaged deliveries by file name."""
+    block = ledge()
+    block.centre[sample_place(block.n, (2, 1, 3))] = NAN
+    block.neighbours[shared_place(block, 0, 1, 2)] = bits(1.0)
+    return {"ledge.damaged": record_of(block)}
+
+
 def face_block(x, z):
     """The block so many blocks farther along x and z."""
     block = sampled_block(lambda *point: depth_in_rock(point[0] + SIZE * x, point[1], point[2] + SIZE * z), 8, 0)
@@ -133,7 +145,7 @@ def volumes():
 
 def main():
     EXAMPLES.mkdir(exist_ok=True)
-    for name, content in {**examples(), **runs(), **volumes()}.items():
+    for name, content in {**examples(), **deliveries(), **runs(), **volumes()}.items():
         (EXAMPLES / name).write_bytes(content)
 
 

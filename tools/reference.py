@@ -16,6 +16,7 @@ As a command, one record on standard input:
     python3 tools/reference.py store             the index store, a place a line
     python3 tools/reference.py viewer [X Y Z]    subdivisions, blank, sample
     python3 tools/reference.py stl               the mesh as an STL file
+    python3 tools/reference.py repair FILLER     the repaired record; its changes on standard error
 
 and a run of records on standard input:
 
@@ -343,14 +344,18 @@ def refuse_buffer(length, wanted):
     return Refusal(14, wanted) if length < wanted else None
 
 
-def refuse_block(block):
-    """1 to 7, as extraction and the writer judge them."""
+def refuse_lent(block):
+    """1 to 6: all but the samples themselves."""
     return (refuse_subdivisions(block.n)
             or refuse_mask(block.mask)
             or refuse_numbers(block.base, block.size, block.threshold)
             or refuse_centre_length(block.n, len(block.centre))
-            or refuse_neighbours_length(block.n, block.mask, len(block.neighbours))
-            or refuse_samples(block.centre + block.neighbours))
+            or refuse_neighbours_length(block.n, block.mask, len(block.neighbours)))
+
+
+def refuse_block(block):
+    """1 to 7, as extraction and the writer judge them."""
+    return refuse_lent(block) or refuse_samples(block.centre + block.neighbours)
 
 
 # Point read
@@ -608,8 +613,8 @@ def lay(lent, numbers):
 
 # Block record
 
-def parse(record):
-    """A block, or a refusal: 11, 12, 1, 2, 3, 13, 7."""
+def parse_delivery(record):
+    """A block whatever its samples are, or a refusal: 11, 12, 1, 2, 3, 13."""
     if len(record) < HEADER or int.from_bytes(record[:4], "big") != len(record) - 4:
         return Refusal(11)
     version, n, mask, threshold, *base, size = struct.unpack(">3B5I", record[4:HEADER])
@@ -622,11 +627,16 @@ def parse(record):
     if len(record) - HEADER != 4 * wanted:
         return Refusal(13, wanted)
     samples = list(struct.unpack(">%dI" % wanted, record[HEADER:]))
-    refusal = refuse_samples(samples)
-    if refusal:
-        return refusal
     centre = block_length(n)
     return Block(n, mask, threshold, tuple(base), size, samples[:centre], samples[centre:])
+
+
+def parse(record):
+    """A block, or a refusal: 11, 12, 1, 2, 3, 13, 7."""
+    block = parse_delivery(record)
+    if isinstance(block, Refusal):
+        return block
+    return refuse_samples(block.centre + block.neighbours) or block
 
 
 def read(record, samples):
@@ -732,6 +742,82 @@ def read_stl(file, positions):
 def mesh_stl(mesh):
     return stl_of([number for vertex in mesh.vertices for number in vertex],
                   [index for triangle in mesh.triangles for index in triangle])
+
+
+# Repair: document 02, [5]
+
+class Change(NamedTuple):
+    """A sample that is changed: list 0 is the centre, 1 the neighbours; the bits before and after."""
+    list: int
+    place: int
+    old: int
+    new: int
+
+
+def fillers(list_number, samples, filler):
+    """The changes of a list whose bad samples become the filler, by place."""
+    return [Change(list_number, place, pattern, filler) for place, pattern in enumerate(samples)
+            if not within_limit(value(pattern))]
+
+
+def shared_place(block, side, u, v):
+    """Where the neighbour's point that coincides with u, v of a side's face stands among the neighbours."""
+    return fine_place(block.n, block.mask, side, 2 * u, 2 * v) - block_length(block.n)
+
+
+def mismatches(block):
+    """The changes at the points that 8 would refuse, by side, u, v, of a block whose samples 7 does not refuse."""
+    threshold, changes = value(block.threshold), []
+    for side in sides_named(block.mask):
+        for u in range(block.n + 1):
+            for v in range(block.n + 1):
+                here = block.centre[sample_place(block.n, face_point(block.n, side, u, v))]
+                place = shared_place(block, side, u, v)
+                there = block.neighbours[place]
+                if inside(value(here), threshold) != inside(value(there), threshold):
+                    changes.append(Change(1, place, there, here))
+    return changes
+
+
+def apply_changes(block, changes):
+    """Makes the changes in the block's own lists, in order."""
+    for change in changes:
+        (block.neighbours if change.list else block.centre)[change.place] = change.new
+
+
+def undo_changes(block, changes):
+    for change in reversed(changes):
+        (block.neighbours if change.list else block.centre)[change.place] = change.old
+
+
+def changes_of(block, filler):
+    """All changes of a block that 1 to 6 do not refuse, in order; the block stays as it is."""
+    filled = block._replace(centre=list(block.centre), neighbours=list(block.neighbours))
+    changes = fillers(0, block.centre, filler) + fillers(1, block.neighbours, filler)
+    apply_changes(filled, changes)
+    return changes + mismatches(filled)
+
+
+def refuse_filler(filler):
+    return None if within_limit(value(filler)) else Refusal(18)
+
+
+def refuse_changes(wanted, length):
+    return Refusal(19, wanted) if wanted > length // 4 else None
+
+
+def repair(block, filler, lent):
+    """The number of changes, made in the block's lists and listed in the lent one, or a refusal: 1 to 6, 18, 19."""
+    refusal = refuse_lent(block) or refuse_filler(filler)
+    if refusal:
+        return refusal
+    changes = changes_of(block, filler)
+    refusal = refuse_changes(len(changes), len(lent))
+    if refusal:
+        return refusal
+    apply_changes(block, changes)
+    lay(lent, [word for change in changes for word in change])
+    return len(changes)
 
 
 # Cutting blocks from a raw volume: document 02, [8].  Little-endian f32, x fastest
@@ -988,11 +1074,30 @@ def put_stl(record):
     sys.stdout.buffer.write(mesh_stl(mesh))
 
 
+def change_lines(changes):
+    """As `sirveshan repair --plain` prints them."""
+    return "".join("%d %d %08x %08x\n" % change for change in changes)
+
+
+def put_repaired(record, filler):
+    block = parse_delivery(record)
+    refusal = block if isinstance(block, Refusal) else refuse_filler(filler)
+    if refusal:
+        sys.exit(listing_text(refusal, [], []).strip())
+    changes = changes_of(block, filler)
+    apply_changes(block, changes)
+    sys.stderr.write(change_lines(changes))
+    sys.stdout.buffer.write(record_of(block))
+
+
 def main(arguments):
     texts = {"listing": listing, "mesh": mesh_text, "store": store_text, "sheet": sheet_text}
     command, *point = arguments or [""]
     if arguments == ["stl"]:
         put_stl(sys.stdin.buffer.read())
+        return
+    if command == "repair" and len(point) == 1:
+        put_repaired(sys.stdin.buffer.read(), bits(f32(float(point[0]))))
         return
     if command in texts and not point:
         text = texts[command](sys.stdin.buffer.read())

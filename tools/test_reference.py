@@ -1,5 +1,5 @@
 #!/usr/bin/env python3
-"""Document 01's figures, case A and refusals, document 02's STL, blank, reads, cut blocks and the sheet, asked of tools/reference.py; the example records.
+"""Document 01's figures, case A and refusals, document 02's STL, blank, reads, repair, cut blocks and the sheet, asked of tools/reference.py; the example records.
 
     python3 tools/test_reference.py
 """
@@ -301,6 +301,57 @@ class Stl(unittest.TestCase):
         self.not_read(Refusal(14, 9), file, room=8)
 
 
+class Repair(unittest.TestCase):
+    def damaged(self):
+        """Two bad samples and two fine ones that disagree with the centre, one of which is bad too."""
+        block = flat_block(1, 0b100001, ONE)
+        block.centre[4] = NAN + 5
+        block.neighbours[7] = INFINITY
+        block.neighbours[reference.shared_place(block, 0, 0, 1)] = NEGATIVE_ZERO
+        block.neighbours[reference.shared_place(block, 5, 1, 0)] = BEYOND
+        return block
+
+    def test_order(self):
+        block = self.damaged()
+        low, high = reference.shared_place(block, 0, 0, 1), reference.shared_place(block, 5, 1, 0)
+        bad = sorted([(7, INFINITY), (high, BEYOND)])
+        filled = [(0, 4, NAN + 5, ZERO)] + [(1, place, old, ZERO) for place, old in bad]
+        taken = [(1, low, NEGATIVE_ZERO, ONE), (1, high, ZERO, ONE)]
+        self.assertEqual(reference.changes_of(block, ZERO), filled + taken)
+
+    def test_repairs(self):
+        block = self.damaged()
+        before = block._replace(centre=list(block.centre), neighbours=list(block.neighbours))
+        lent = [7] * 80
+        count = reference.repair(block, ONE, lent)
+        self.assertIsNone(reference.refuse_block(block))
+        self.assertIsNone(reference.refuse_face_mismatch(block))
+        self.assertEqual(lent[4 * count:], [7] * (80 - 4 * count))
+        self.assertEqual(reference.changes_of(block, ZERO), [])
+        changes = [reference.Change(*lent[4 * k:4 * k + 4]) for k in range(count)]
+        reference.undo_changes(block, changes)
+        self.assertEqual(block, before)
+
+    def test_bits_are_taken(self):
+        block = flat_block(1, 0b000001, ZERO)._replace(threshold=ZERO)
+        place = reference.shared_place(block, 0, 1, 1)
+        block.centre[reference.sample_place(1, reference.face_point(1, 0, 1, 1))] = NEGATIVE_ZERO
+        block.neighbours[place] = bits(-1.0)
+        self.assertEqual(reference.changes_of(block, ONE), [(1, place, bits(-1.0), NEGATIVE_ZERO)])
+
+    def test_refuses(self):
+        block = self.damaged()
+        before = block._replace(centre=list(block.centre), neighbours=list(block.neighbours))
+        wanted = len(reference.changes_of(block, ZERO))
+        self.assertEqual(reference.repair(block._replace(n=0), NAN, []), Refusal(1, 0))
+        self.assertEqual(reference.repair(block._replace(neighbours=[]), NAN, []), Refusal(5, 0))
+        for filler in (NAN, INFINITY, BEYOND):
+            self.assertEqual(reference.repair(block, filler, []), Refusal(18))
+        lent = [7] * (4 * wanted - 1)
+        self.assertEqual(reference.repair(block, ZERO, lent), Refusal(19, wanted))
+        self.assertEqual((block, lent), (before, [7] * (4 * wanted - 1)))
+
+
 class Cut(unittest.TestCase):
     # A volume of 4 x 3 x 5 whose samples tell their place.
     SIZES = (4, 3, 5)
@@ -459,7 +510,7 @@ class Listing(unittest.TestCase):
 
 class Examples(unittest.TestCase):
     def test_stored_as_made(self):
-        for name, content in {**records.examples(), **records.runs(), **records.volumes()}.items():
+        for name, content in {**records.examples(), **records.deliveries(), **records.runs(), **records.volumes()}.items():
             self.assertEqual((records.EXAMPLES / name).read_bytes(), content)
 
     def test_all_are_meshed(self):

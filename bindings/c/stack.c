@@ -14,6 +14,7 @@ enum { STACK = 1 << 20, PAINT = 0xc7, MOST = SIRVESHAN_MOST_SUBDIVISIONS, SAMPLE
 
 static float samples[SAMPLES], vertices[6 * SIRVESHAN_MOST_VERTICES(MOST, 63)], positions[9 * SIRVESHAN_MOST_TRIANGLES(MOST, 63)];
 static uint32_t store[SIRVESHAN_STORE_LENGTH(MOST)], triangles[3 * SIRVESHAN_MOST_TRIANGLES(MOST, 63)];
+static uint32_t words[SAMPLES], changes[4 * SAMPLES];
 static uint8_t bytes[SIRVESHAN_RECORD_LENGTH(MOST, 63)], file[SIRVESHAN_STL_LENGTH(SIRVESHAN_MOST_TRIANGLES(MOST, 63))];
 static size_t subdivisions;
 static uint8_t mask;
@@ -33,6 +34,7 @@ static void *calls(void *unused)
     size_t centre = SIRVESHAN_CENTRE_LENGTH(subdivisions), rest = SIRVESHAN_NEIGHBOURS_LENGTH(subdivisions, mask), k;
     sirveshan_written written;
     sirveshan_triangles_read read;
+    sirveshan_mended mended;
     sirveshan_point sizes = {40, 40, 40}, first = {39, 0, 20};
     sirveshan_samples_cut cut;
     volatile uint8_t here = 0;
@@ -50,6 +52,10 @@ static void *calls(void *unused)
         abort();
     written = sirveshan_write(h, samples, centre, samples + centre, rest, bytes, sizeof bytes);
     if (written.refused.number != 0 || sirveshan_read(bytes, written.length, samples, SAMPLES).refused.number != 0)
+        abort();
+    memset(words, 0xff, sizeof words);
+    mended = sirveshan_repair(h, words, centre, words + centre, rest, 0, changes, sizeof changes / 4);
+    if (mended.refused.number != 0 || mended.changes != centre + rest)
         abort();
     if (sirveshan_subdivisions(bytes, written.length) != subdivisions || sirveshan_blank(bytes, written.length) > 1)
         abort();

@@ -193,14 +193,19 @@ def check_help_and_version():
     assert re.fullmatch(rb"sirveshan \d+\.\d+\.\d+\n", done.stdout), done.stdout
 
 
+def to_full_disk(*words):
+    """Standard output that takes nothing."""
+    with open("/dev/full", "wb") as full:
+        done = subprocess.run([*COMMAND, *map(str, words)], stdout=full, stderr=subprocess.PIPE, timeout=DEADLINE)
+    same("status", done.returncode, 3)
+    assert done.stderr.startswith(b"sirveshan: cannot write: "), done.stderr
+
+
 def check_full_disk():
     record = EXAMPLES / "face.record"
     for words in (["mesh", record], ["mesh", record, "--summary"], ["stl", record, "-o", "-"], ["info", record], ["info", record, "--plain"],
                   ["sample", record, 0, 0, 0], ["sheet", record], ["sheet", record, "--csv"], ["--help"], ["--version"]):
-        with open("/dev/full", "wb") as full:
-            done = subprocess.run([*COMMAND, *map(str, words)], stdout=full, stderr=subprocess.PIPE, timeout=DEADLINE)
-        same("%s: status" % words, done.returncode, 3)
-        assert done.stderr.startswith(b"sirveshan: cannot write: "), done.stderr
+        to_full_disk(*words)
 
 
 def check_pipe_closed_early():
@@ -678,6 +683,113 @@ def check_stl_check_refusals():
     file = stl_of((EXAMPLES / "case-a.record").read_bytes())
     for damaged in (b"", file[:83], file[:84], file[:-1], file + b"\0", changed(file, 80, b"\xff" * 4)):
         refused(run("stl", "--check", "-", given=damaged), reference.refuse_stl_file(damaged))
+
+
+# Repair
+
+def damage(chance, record, count):
+    """Samples of every kind at random places of a record."""
+    kinds = [NAN, 0xFFA12345, 0x7F800000, 0xFF800000, LIMIT, LIMIT + 1, 0, 1 << 31, 0x3F800000, 0xC0000000]
+    for _ in range(count):
+        place = chance.randrange((len(record) - reference.HEADER) // 4)
+        record = changed(record, reference.HEADER + 4 * place, f32(chance.choice(kinds)))
+    return record
+
+
+def some_deliveries():
+    chance = random.Random(21)
+    blocks = [records.case_a(), noise(chance, 2, 0), noise(chance, 2, 0b100101), noise(chance, 1, 63), noise(chance, 5, 0b001000)]
+    sound = [reference.record_of(block) for block in blocks]
+    return sound + [damage(chance, record, count) for record in sound for count in (1, 10, 60)] + [mismatch()] + list(records.deliveries().values())
+
+
+def repaired(record, filler):
+    """What the reference leaves of a record, and its changes."""
+    block = reference.parse_delivery(record)
+    changes = reference.changes_of(block, reference.bits(filler))
+    reference.apply_changes(block, changes)
+    return reference.record_of(block), changes
+
+
+def check_repair():
+    with tempfile.TemporaryDirectory() as folder:
+        for k, record in enumerate(some_deliveries()):
+            for filler in (0.0, -2.5):
+                file = Path(folder) / ("%d.record" % k)
+                wanted, changes = repaired(record, filler)
+                done = run("repair", "-", "--filler", filler, "-o", file, "--plain", "--force", given=record)
+                same("status", done.returncode, 0)
+                same("changes", done.stdout.decode(), reference.change_lines(changes))
+                same("lines on standard error", done.stderr.count(b"\n"), 1)
+                same("file", file.read_bytes(), wanted)
+                accepted(run("mesh", file), reference.mesh_text(wanted))
+        same("files", len(names_in(folder)), k + 1)
+
+
+def check_repair_in_words():
+    block = records.case_a()
+    record = reference.record_of(block._replace(mask=1, neighbours=[0] * reference.neighbours_length(1, 1)))
+    record = changed(changed(record, 27 + 4 * 4, f32(0xFFA12345)), 27 + 4 * (32 + 80), f32(0x7F800000))
+    words = ["centre (1, 0, 0): NaN with bits ffa12345 becomes -0", "neighbour at low x (2, 2, 3): inf becomes -0",
+             "neighbour at low x (2, 0, 0): 0 becomes 1"]
+    with tempfile.TemporaryDirectory() as folder:
+        file, again = Path(folder) / "a.record", Path(folder) / "b.record"
+        done = run("repair", "-", "--filler=-0", "-o", file, given=record)
+        same("status", done.returncode, 0)
+        same("changes", done.stdout.decode().splitlines(), words)
+        same("summary", done.stderr.decode(), "2 samples became -0, 1 fine sample took the centre's bits\n")
+        done = run("repair", file, "--filler", "7", "-o", again)
+        same("a second pass", (done.returncode, done.stdout), (0, b""))
+        same("summary", done.stderr.decode(), "nothing to repair: the record is written as it was\n")
+        same("the same record", again.read_bytes(), file.read_bytes())
+
+
+def check_repair_refusals():
+    with tempfile.TemporaryDirectory() as folder:
+        file = Path(folder) / "a.record"
+        met = set()
+        for record in damaged_records():
+            refusal = reference.parse_delivery(record)
+            if isinstance(refusal, reference.Refusal):
+                met.add(refusal.number)
+                refused(run("repair", "-", "--filler", 0, "-o", file, given=record), refusal)
+        same("refusals met", met, {11, 12, 1, 2, 3, 13})
+        for filler in ("nan", "inf", "1048576.2", "-1e30"):
+            refused(run("repair", EXAMPLES / "face.record", "--filler", filler, "-o", file), reference.Refusal(18))
+        same("files", names_in(folder), [])
+
+
+def check_repair_bad_usage():
+    record = EXAMPLES / "case-a.record"
+    with tempfile.TemporaryDirectory() as folder:
+        file, there = Path(folder) / "a.record", Path(folder) / "there"
+        there.write_bytes(b"kept")
+        for words in ([record, "-o", file], [record, "--filler", 1], [record, "--filler", "one", "-o", file], ["--filler", 1, "-o", file],
+                      [record, "--filler", 1, "-o", "-"], [record, "--filler", 1, "-o", there], [record, "--filler", "-o", file],
+                      [record, record, "--filler", 1, "-o", file], [Path(folder) / "none", "--filler", 1, "-o", file]):
+            bad_usage(run("repair", *words))
+        not_written(run("repair", EXAMPLES / "face.record", "--filler", 1, "-o", file, preexec_fn=limited))
+        damaged = Path(folder) / "damaged"
+        damaged.write_bytes(changed(record.read_bytes(), reference.HEADER, f32(NAN)))
+        to_full_disk("repair", damaged, "--filler", 1, "-o", file)
+        same("files", (names_in(folder), there.read_bytes()), (["damaged", "there"], b"kept"))
+
+
+def check_repair_whose_list_is_cut():
+    """A list longer than a pipe holds, whose reader goes after some of it: no record, and that is told."""
+    record = reference.record_of(records.level_block(16, 0, NAN))
+    assert len(reference.change_lines(repaired(record, 0.0)[1])) > 1 << 16
+    with tempfile.TemporaryDirectory() as folder:
+        (Path(folder) / "damaged").write_bytes(record)
+        words = ["repair", Path(folder) / "damaged", "--filler", 0, "-o", Path(folder) / "a.record", "--plain"]
+        process = subprocess.Popen([*COMMAND, *map(str, words)], stdout=subprocess.PIPE, stderr=subprocess.PIPE)
+        same("its beginning", process.stdout.read(4), b"0 0 ")
+        process.stdout.close()
+        same("status", process.wait(DEADLINE), 3)
+        said = process.stderr.read().decode()
+        process.stderr.close()
+        assert re.fullmatch("sirveshan: cannot write: the list of changes: .*; no record is written\n", said), said
+        same("files", names_in(folder), ["damaged"])
 
 
 # Cutting

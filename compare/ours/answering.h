@@ -42,6 +42,21 @@ static inline void *marked(size_t bytes)
     return made;
 }
 
+static inline float number(uint32_t bits)
+{
+    float made;
+    memcpy(&made, &bits, 4);
+    return made;
+}
+
+/* From the words n, mask, threshold, base x y z and size, floats by their bits. */
+static inline sirveshan_header header_of(const uint32_t *head)
+{
+    sirveshan_header made = {number(head[3]), number(head[4]), number(head[5]), number(head[6]),
+                             head[0], (uint8_t)head[1], number(head[2])};
+    return made;
+}
+
 static inline void put(const void *buffer, size_t bytes)
 {
     if (fwrite(buffer, 1, bytes, stdout) != bytes)

@@ -15,14 +15,10 @@ int main(void)
     while (fread(head, 4, 12, stdin) == 12) {
         size_t centres = head[7], fines = head[8];
         size_t places = head[9], numbers = head[10], corners = head[11];
-        float measures[5], *centre = given(4 * centres), *neighbours = given(4 * fines);
+        float *centre = given(4 * centres), *neighbours = given(4 * fines), *vertices = marked(4 * numbers);
         uint32_t *store = marked(4 * places), *triangles = marked(4 * corners);
-        float *vertices = marked(4 * numbers);
-        memcpy(measures, head + 2, sizeof measures);
-        sirveshan_header header = {measures[1], measures[2], measures[3], measures[4],
-                                   head[0], (uint8_t)head[1], measures[0]};
         sirveshan_extracted got =
-            sirveshan_extract(header, centre, centres, neighbours, fines, store, places,
+            sirveshan_extract(header_of(head), centre, centres, neighbours, fines, store, places,
                               vertices, numbers, triangles, corners);
         int mesh = got.refused.number == 0;
         uint32_t answer[4] = {

@@ -6,6 +6,10 @@ use crate::Header;
 /// The most subdivisions that a block may have.
 pub const MOST_SUBDIVISIONS: usize = 64;
 
+/// The most that a sample, a threshold, a coordinate of a base or a block's size may be in size. A sample beyond it is bad, as
+/// one that is not finite is.
+pub const MOST_SIZE: f32 = 1_048_576.0;
+
 /// The bytes of a record before its samples.
 pub const RECORD_HEADER: usize = 27;
 
@@ -134,6 +138,31 @@ fn face(m: usize, axis: usize, coordinate: i32) -> Option<usize> {
         above if usize::try_from(above) == Ok(m) => Some(2 * axis + 1),
         _ => None,
     }
+}
+
+/// The grid point whose sample stands at a place: the other way round from [`sample_place`].
+///
+/// ```
+/// assert_eq!(sirveshan::sample_point(2, 15), Some([1, 2, 0]));
+/// assert_eq!(sirveshan::sample_point(2, 32), Some([-1, 1, 2]));
+/// assert_eq!(sirveshan::sample_point(2, 81), None);
+/// ```
+pub fn sample_point(subdivisions: usize, place: usize) -> Option<[i32; 3]> {
+    if place >= sample_length(subdivisions) {
+        return None;
+    }
+    let m = subdivisions.checked_add(1)?;
+    let last = i32::try_from(m).ok()?;
+    let [layer, i, j] = [place / m / m, place / m % m, place % m].map(|k| k as i32);
+    Some(match layer - last {
+        0 => [-1, i, j],
+        1 => [last, i, j],
+        2 => [i, -1, j],
+        3 => [i, last, j],
+        4 => [i, j, -1],
+        5 => [i, j, last],
+        _ => [layer, i, j],
+    })
 }
 
 impl Header {

@@ -5,7 +5,8 @@
 //! for a stage that meshes block after block. [`Record`] is a block with its samples, read from and
 //! written to the bytes of a block record. [`viewer`] has the calls over record bytes alone. [`Stl`]
 //! writes a mesh as an STL file and reads one. [`Volume`] cuts blocks from a raw volume.
-//! [`sheet()`] tells the figures of each record of a run.
+//! [`sheet()`] tells the figures of each record of a run. [`repair()`] mends a damaged delivery and
+//! lists what it changed.
 //!
 //! What is proved is the library below: this crate hands its slices over and names its answers.
 //!
@@ -36,6 +37,7 @@ mod mesher;
 mod record;
 mod refusal;
 mod refusals;
+mod repair;
 mod sheet;
 mod stl;
 pub mod viewer;
@@ -45,12 +47,13 @@ pub use block::{Block, Header, Side};
 pub use extract::{extract, Counts};
 pub use lengths::{
     most_reads, most_triangles, most_vertices, neighbours_length, record_length, sample_length,
-    sample_place, stl_length, store_length, volume_length, MOST_ACROSS, MOST_RUN,
-    MOST_SUBDIVISIONS, RECORD_HEADER, STL_HEADER, STL_TRIANGLE,
+    sample_place, sample_point, stl_length, store_length, volume_length, MOST_ACROSS, MOST_RUN,
+    MOST_SIZE, MOST_SUBDIVISIONS, RECORD_HEADER, STL_HEADER, STL_TRIANGLE,
 };
 pub use mesher::{Mesh, Mesher};
 pub use record::{read_record, write_record, Record};
 pub use refusal::Refusal;
+pub use repair::{repair, Change};
 pub use sheet::{sheet, sheet_line, sheet_total, Figures, SheetLine, SheetLines};
 pub use stl::{read_stl, write_stl, Facet, Stl};
 pub use volume::{cut_block, Volume};

@@ -45,6 +45,12 @@ pub struct TrianglesRead {
 }
 
 #[repr(C)]
+pub struct Mended {
+    pub refused: CRefusal,
+    pub changes: usize,
+}
+
+#[repr(C)]
 pub struct CPoint {
     axes: [usize; 3],
 }
@@ -130,6 +136,16 @@ extern "C" {
         positions: *mut f32,
         positions_length: usize,
     ) -> TrianglesRead;
+    pub fn sirveshan_repair(
+        header: CHeader,
+        centre: *mut u32,
+        centre_length: usize,
+        neighbours: *mut u32,
+        neighbours_length: usize,
+        filler: f32,
+        changes: *mut u32,
+        changes_length: usize,
+    ) -> Mended;
     pub fn sirveshan_cut(
         src: *const u8,
         length: usize,

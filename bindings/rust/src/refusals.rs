@@ -29,6 +29,8 @@ pub(crate) fn words(number: u32, [first, second, third]: [usize; 3]) -> Option<S
         15 => format!("that grid point was never sampled: coordinates outside: {first}"),
         16 => format!("STL: the file needs {first} bytes (0: more triangles than 32 bits hold)"),
         17 => format!("triangle {first} names no vertex"),
+        18 => "the filler is not finite or beyond 1,048,576".to_string(),
+        19 => format!("the list of changes needs {first} entries"),
         20 => "a size of the volume is 0 or above 1,024".to_string(),
         21 => "the volume's bytes are not four times its sizes' product".to_string(),
         22 => "the first point is not in the volume".to_string(),

@@ -2,7 +2,7 @@
 
 use sirveshan::{
     most_reads, most_triangles, most_vertices, neighbours_length, record_length, sample_length,
-    sample_place, stl_length, store_length, volume_length, Side,
+    sample_place, sample_point, stl_length, store_length, volume_length, Side,
 };
 
 #[test]
@@ -34,6 +34,18 @@ fn every_place_is_some_points_and_no_two_points_share_one() {
     let mut places: Vec<usize> = points.filter_map(|p| sample_place(n as usize, p)).collect();
     places.sort_unstable();
     assert_eq!(places, (0..sample_length(3)).collect::<Vec<_>>());
+}
+
+#[test]
+fn a_places_point_is_at_that_place() {
+    for n in [1, 2, 5] {
+        for place in 0..sample_length(n) {
+            assert_eq!(sample_place(n, sample_point(n, place).unwrap()), Some(place));
+        }
+        assert_eq!(sample_point(n, sample_length(n)), None);
+    }
+    assert_eq!(sample_point(usize::MAX, 0), None);
+    assert_eq!(sample_point(1 << 40, 5), None);
 }
 
 #[test]

@@ -13,6 +13,7 @@ mod mapped;
 mod mesh;
 mod output;
 mod progress;
+mod repair;
 mod sample;
 mod sheet;
 mod stl;
@@ -37,6 +38,7 @@ struct Command {
 const COMMANDS: &[&Command] = &[
     &mesh::COMMAND,
     &stl::COMMAND,
+    &repair::COMMAND,
     &cut::COMMAND,
     &sheet::COMMAND,
     &info::COMMAND,
