@@ -1,11 +1,9 @@
--- Laws of a step that is taken again and again: what it keeps, what it only adds to, and steps that change nothing. Assumes nothing.
+-- Laws of a step that is taken again and again: what it keeps, what it only adds to, and steps that change nothing; and the digits of a number of
+-- rounds and steps. Assumes nothing.
 use Prim.Native.Nat.{ℕ, zero, suc, _+_, _-_, _*_, _/_, _%_, _≤_, _<_}
-use mathlib.Core.Path.{_≡_, refl, sym, ap, _∙_}
-use mathlib.Core.Bool.{cond}
-use native.Mathlib.Nat.{add-zero, add-suc, mul-zero, mul-suc, le-refl, le-trans, mul-add-div, div-eq-of-lt, mul-add-mod-self-left, mod-eq-of-lt}
+use mathlib.Core.Path.{_≡_, refl, sym, _∙_}
+use native.Mathlib.Nat.{add-zero, add-suc, le-refl, le-trans, mul-add-div, div-eq-of-lt, mul-add-mod-self-left, mod-eq-of-lt}
 use native.Mathlib.Omega.{arith}
-use borrow.Author.Tests.{lt-ltb, le-ltb}
-use lib.Dec.{ltb}
 use Rattle.laws.specs.Steps.{iterate}
 
 module _ {A : Type 0} (measure : A → ℕ) (step : ℕ → A → A) where
@@ -43,23 +41,6 @@ pub steps-skip : {A : Type 0} (f : ℕ → A → A) (a : A) (from next : ℕ) �
     → iterate f from a ≡ iterate f next a
 steps-skip {A} = part-skip (λ (a : A). a)
 
--- ---- steps in two nested rounds, laid out in one
-
-module _ {A : Type 0} where
-  pub iterate-same : (f g : ℕ → A → A) (k : ℕ) → ((i : ℕ) → i < k → (a : A) → f i a ≡ g i a) → (a : A) → iterate f k a ≡ iterate g k a
-  iterate-same f g zero same a = refl
-  iterate-same f g (suc k) same a =
-      same k (le-refl _) (iterate f k a) ∙ ap (g k) (iterate-same f g k (λ i h. same i (omega arith)) a)
-
-  -- the first j steps, and then the next k
-  pub iterate-add : (f : ℕ → A → A) (j k : ℕ) (a : A) → iterate f (j + k) a ≡ iterate (λ i. f (j + i)) k (iterate f j a)
-  iterate-add f j zero a = rw add-zero
-  iterate-add f j (suc k) a = rw add-suc (ap (f (j + k)) (iterate-add f j k a))
-
-  -- place i of rows that are so wide, of which the first n places are steps: step i % wide of round i / wide
-  unfoldable pub placed : ℕ → ℕ → (ℕ → ℕ → A → A) → ℕ → A → A
-  placed wide n f i a = cond (ltb (i % wide) n) (f (i / wide) (i % wide) a) a
-
 -- a number of two digits, the lower one below the base
 module _ (base k i : ℕ) (h : i < base) where
   pub upper : (base * k + i) / base ≡ k
@@ -67,29 +48,3 @@ module _ (base k i : ℕ) (h : i < base) where
 
   pub lower : (base * k + i) % base ≡ i
   lower = mul-add-mod-self-left base k i ∙ mod-eq-of-lt h
-
-module _ {A : Type 0} (wide n : ℕ) (some : 0 < wide) (fits : n ≤ wide) (f : ℕ → ℕ → A → A) where
-  at-place : (k i : ℕ) → i < wide → ((wide * k + i) / wide ≡ k) × ((wide * k + i) % wide ≡ i)
-  at-place k i h = (upper wide k i h, lower wide k i h)
-
-  place-in : (k i : ℕ) → i < n → (a : A) → placed wide n f (wide * k + i) a ≡ f k i a
-  unfolding placed
-  place-in k i h a =
-      let at = at-place k i (omega arith) in
-      rw (at .0, at .1, lt-ltb i n h)
-
-  place-beyond : (k i : ℕ) → n ≤ i → i < wide → (a : A) → placed wide n f (wide * k + i) a ≡ a
-  unfolding placed
-  place-beyond k i h l a =
-      let at = at-place k i l in
-      rw (at .1, le-ltb i n h)
-
-  row-placed : (k : ℕ) (a : A) → iterate (λ i. placed wide n f (wide * k + i)) wide a ≡ iterate (f k) n a
-  row-placed k a =
-      sym (steps-skip (λ i. placed wide n f (wide * k + i)) a n wide fits (λ i l u. place-beyond k i l u))
-      ∙ iterate-same _ (f k) n (λ i h. place-in k i h) a
-
-  pub rows-placed : (k : ℕ) (a : A) → iterate (placed wide n f) (wide * k) a ≡ iterate (λ y. iterate (f y) n) k a
-  rows-placed zero a = rw mul-zero
-  rows-placed (suc k) a =
-      rw (mul-suc, iterate-add (placed wide n f) (wide * k) wide a, rows-placed k a) (row-placed k (iterate (λ y. iterate (f y) n) k a))
