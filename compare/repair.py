@@ -9,12 +9,12 @@ numbers, every bit of the delivery and all of the lent list are compared; and th
 undone backwards gives the delivery back.
 """
 
-import random
 import struct
 import sys
 from collections import Counter
+from typing import NamedTuple
 
-from calling import MARK, Program, Progress, seeds
+from calling import MARK, Program, answers, seeds, tally
 import reference
 from damaged import BAD, LIMIT, SMALL, Call
 
@@ -27,29 +27,28 @@ TAME = [0, SIGN, 1, SIGN | 1, LIMIT, SIGN | LIMIT, LIMIT - 1, 0x3F000000, 0xBF00
 LARGER = [17, 20]
 
 
+class Delivery(NamedTuple):
+    """What one call lends, the words of its list, and the filler of the second pass."""
+    block: reference.Block
+    filler: int
+    room: int
+    filler_again: int
+
+
 class Ours(Program):
-    """The answer of the call as five numbers, the two lists of the delivery and the lent list."""
+    """The answer of the call as five numbers; the centre, the neighbours and the lent list as one list of words."""
 
     def __init__(self):
         super().__init__("repair_answers")
+
+    def answer(self, delivery):
+        return self.repair(delivery.block, delivery.filler, delivery.room)
 
     def repair(self, block, filler, room):
         lengths = [len(block.centre), len(block.neighbours), room]
         words = [block.n, block.mask, block.threshold, *block.base, block.size, filler, *lengths, *block.centre, *block.neighbours]
         answer = self.ask(struct.pack("<%dI" % len(words), *words), 40 + 4 * sum(lengths))
         return list(struct.unpack("<5Q", answer[:40])), list(struct.unpack("<%dI" % sum(lengths), answer[40:]))
-
-
-def copied(block):
-    return block._replace(centre=list(block.centre), neighbours=list(block.neighbours))
-
-
-def wanted_answer(block, filler, room):
-    """The same by the reference, and the block as it leaves it."""
-    block, lent = copied(block), [MARK] * room
-    answer = reference.repair(block, filler, lent)
-    numbers = [*answer, 0] if isinstance(answer, reference.Refusal) else [0, 0, 0, 0, answer]
-    return (numbers, block.centre + block.neighbours + lent), block
 
 
 def scattered(chance, samples):
@@ -68,60 +67,66 @@ def disagreeing(chance, call):
                     call.neighbours[reference.shared_place(call, side, u, v)] = chance.choice(TAME + WILD[:3])
 
 
-def first_difference(ours, theirs):
-    """The first word that differs, counted over the centre, the neighbours and the lent list."""
-    for place, (a, b) in enumerate(zip(ours, theirs)):
-        if a != b:
-            return "word %d is %08x, not %08x" % (place, a, b)
-    return "the words are the same"
+def a_delivery(chance):
+    call = Call(chance, SMALL if chance.randrange(500) else LARGER)
+    disagreeing(chance, call)
+    scattered(chance, call.centre)
+    scattered(chance, call.neighbours)
+    for _ in range(chance.choice([0, 0, 0, 1])):
+        call.damage(chance)
+    block = call.block()
+    filler = chance.choice(TAME) if chance.random() < 0.9 else chance.choice(WILD)
+    fit = reference.refuse_lent(block) or reference.refuse_filler(filler)
+    count = 0 if fit else len(reference.changes_of(block, filler))
+    room = chance.choice([4 * count, 4 * count, 4 * count + 7, max(0, 4 * count - 1), 0])
+    return Delivery(block, filler, room, chance.choice(TAME))
 
 
-class Comparison:
-    def __init__(self):
-        self.ours, self.met, self.changes = Ours(), Counter(), 0
+def copied(block):
+    return block._replace(centre=list(block.centre), neighbours=list(block.neighbours))
 
-    def hold(self, what, found, wanted):
-        if found != wanted:
-            place = first_difference(found[1], wanted[1])
-            raise SystemExit("%s: ours %s, the reference %s; %s" % (what, found[0], wanted[0], place))
 
-    def delivery(self, seed, chance):
-        call = Call(chance, SMALL if seed % 500 else LARGER)
-        disagreeing(chance, call)
-        scattered(chance, call.centre)
-        scattered(chance, call.neighbours)
-        for _ in range(chance.choice([0, 0, 0, 1])):
-            call.damage(chance)
-        block = call.block()
-        filler = chance.choice(TAME) if chance.random() < 0.9 else chance.choice(WILD)
-        fit = reference.refuse_lent(block) or reference.refuse_filler(filler)
-        count = 0 if fit else len(reference.changes_of(block, filler))
-        room = chance.choice([4 * count, 4 * count, 4 * count + 7, max(0, 4 * count - 1), 0])
-        found = self.ours.repair(block, filler, room)
-        wanted, left = wanted_answer(block, filler, room)
-        self.met[wanted[0][0]] += 1
-        self.hold("seed %d" % seed, found, wanted)
-        if wanted[0][0] == 0:
-            self.changes += wanted[0][4]
-            self.after(seed, chance, block, left, found[1][-room:] if room else [], wanted[0][4])
+def difference(what, found, wanted):
+    """Where two answers differ first, or None."""
+    if found == wanted:
+        return None
+    places = [k for k, (a, b) in enumerate(zip(found[1], wanted[1])) if a != b]
+    word = "word %d is %08x, not %08x" % (places[0], found[1][places[0]], wanted[1][places[0]]) if places else "the words are the same"
+    return "%s: ours %s, the reference %s; %s" % (what, found[0], wanted[0], word)
 
-    def after(self, seed, chance, before, left, lent, count):
-        again = self.ours.repair(left, chance.choice(TAME), 3)
-        self.hold("seed %d, a second pass" % seed, again, ([0] * 5, left.centre + left.neighbours + [MARK] * 3))
-        undone = copied(left)
-        reference.undo_changes(undone, [reference.Change(*lent[4 * k:4 * k + 4]) for k in range(count)])
-        if undone != before:
-            raise SystemExit("seed %d: undone, the list does not give the delivery back" % seed)
+
+def lasting_fault(ours, delivery, left, lent):
+    """What is wrong with a second pass over what an accepted call left, or with its list undone, or None."""
+    again = ours.repair(left, delivery.filler_again, 3)
+    undone = copied(left)
+    reference.undo_changes(undone, [reference.Change(*lent[at:at + 4]) for at in range(0, len(lent), 4)])
+    if undone != delivery.block:
+        return "undone, the list does not give the delivery back"
+    return difference("a second pass", again, ([0] * 5, left.centre + left.neighbours + [MARK] * 3))
+
+
+def fault_by(ours):
+    """What is wrong with an answer, or None."""
+    def fault(delivery, found):
+        left, lent = copied(delivery.block), [MARK] * delivery.room
+        answer = reference.repair(left, delivery.filler, lent)
+        refused = isinstance(answer, reference.Refusal)
+        numbers = [*answer, 0] if refused else [0, 0, 0, 0, answer]
+        wrong = difference("the call", found, (numbers, left.centre + left.neighbours + lent))
+        if wrong or refused:
+            return wrong
+        own = len(left.centre) + len(left.neighbours)
+        return lasting_fault(ours, delivery, left, found[1][own:own + 4 * answer])
+    return fault
 
 
 def main(words):
-    all_seeds = seeds(words, __doc__)
-    comparison, progress = Comparison(), Progress(len(all_seeds))
-    for seed in all_seeds:
-        comparison.delivery(seed, random.Random(seed))
-        progress.step()
-    met = ", ".join("%d: %d" % pair for pair in sorted(comparison.met.items()))
-    print("%d deliveries, %d changes, no difference; answers met: %s" % (len(all_seeds), comparison.changes, met))
+    all_seeds, ours = seeds(words, __doc__), Ours()
+    met, changes = Counter(), 0
+    for numbers, _ in answers(all_seeds, a_delivery, ours, fault_by(ours)):
+        met[numbers[0]] += 1
+        changes += numbers[4]
+    print("%d deliveries, %d changes, no difference; answers met: %s" % (len(all_seeds), changes, tally(met)))
 
 
 if __name__ == "__main__":
