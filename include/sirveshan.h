@@ -299,8 +299,8 @@ sirveshan_triangles_read sirveshan_read_stl(const uint8_t *src, size_t length, f
  *
  * changes_length counts words: there is room for changes_length / 4 changes, rounded down. Judged are 1 to 6, 18 (a filler that 7
  * would refuse) and 19, in that order: 19 tells how many changes there are. On a refusal the count is 0 and no lent place is
- * altered, the delivery's neither. After the call 7 and 8 are not met, and a second call lists nothing. Where they were not met
- * before, nothing is altered.
+ * altered, the delivery's neither. After a call that is not refused 7 and 8 are not met, and a second call, with any filler that 18
+ * lets pass, lists nothing. Where they were not met before, nothing is altered.
  */
 typedef struct sirveshan_mended {
     sirveshan_refusal refused;

@@ -76,11 +76,12 @@ impl Record {
     /// Reads the bytes of a record whose samples may be damaged: they are taken as they stand, for [`Record::repair`]. All but
     /// the samples is judged as in [`Record::read`], so 7 is not.
     pub fn read_damaged(bytes: &[u8]) -> Result<Record, Refusal> {
-        let (head, patterns) = bytes.split_at(RECORD_HEADER.min(bytes.len()));
-        let sound = [head, &vec![0; patterns.len()]].concat();
+        let head = RECORD_HEADER.min(bytes.len());
+        let mut sound = bytes.to_vec();
+        sound[head..].fill(0);
         let mut record = Record::read(&sound)?;
         let samples = record.centre.iter_mut().chain(&mut record.neighbours);
-        for (sample, pattern) in samples.zip(patterns.chunks_exact(4)) {
+        for (sample, pattern) in samples.zip(bytes[head..].chunks_exact(4)) {
             *sample =
                 f32::from_bits(pattern.iter().fold(0, |bits, &byte| bits << 8 | u32::from(byte)));
         }

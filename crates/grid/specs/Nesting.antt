@@ -34,6 +34,10 @@ pub record Nests (m a b c : ℕ) : Type 0 where
 pub in-block-nested : (n x y z : ℕ) → nested (n + 1) x y z ≡ inBlock n x y z
 in-block-nested n x y z = omega arith
 
+-- the parts of a place in the block as digits, of which z is the last
+pub in-block-digits : (n x y z : ℕ) → inBlock n x y z ≡ (n + 1) * ((n + 1) * x + y) + z
+in-block-digits n x y z = omega arith
+
 pub on-face-nested : (n face i j : ℕ) → nested (n + 1) (n + 1 + face) i j ≡ onFace n face i j
 on-face-nested n face i j = omega arith
 

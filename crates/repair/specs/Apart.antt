@@ -1,6 +1,6 @@
 -- Document 02, [5]: no two points of the named sides' faces have their fine sample at one place.
 use Prim.Native.Nat.{ℕ, _+_, _*_, _/_, _%_, _≤_, _<_}
-use native.Mathlib.Nat.{mul-comm, mul-add, mul-assoc, div-add-mod}
+use native.Mathlib.Nat.{mul-comm, div-add-mod}
 use native.Mathlib.Omega.{arith}
 use mathlib.Core.Path.{_≡_, sym, ap, _∙_}
 use mathlib.Core.Bool.{Bool, true}
@@ -14,6 +14,7 @@ use Rattle.model.specs.Samples.{inBlock}
 use Rattle.model.specs.Sides.{named, namedBelow, neighbourLength}
 use Rattle.model.specs.Rotations.{xyz, rotations, rotationOf, coordinate, pointFrom, neighbourPoint}
 use Rattle.grid.specs.Places.{Within}
+use Rattle.grid.specs.Nesting.{in-block-digits}
 use Rattle.grid.specs.RotationLaws.{OnFace, by-side, point-in}
 use Rattle.grid.specs.Walks.{sidePlace}
 use Rattle.judge.specs.Faces.{fine-on}
@@ -34,9 +35,8 @@ module _ (base a b : ℕ) {x y : ℕ} (hx : x < base) (hy : y < base) (e : base 
 same-place : (m : ℕ) (p q : Xyz) → Within m p → Within m q → inBlock m (p .x) (p .y) (p .z) ≡ inBlock m (q .x) (q .y) (q .z) → p ≡ q
 same-place m p q hp hq e =
     let b = m + 1 in
-    let nested : (r : Xyz) → inBlock m (r .x) (r .y) (r .z) ≡ b * (b * r .x + r .y) + r .z =
-    λ r. omega (arith, mul-assoc b b (r .x), mul-add b (b * r .x) (r .y)) in
-    let f : b * (b * p .x + p .y) + p .z ≡ b * (b * q .x + q .y) + q .z = sym (nested p) ∙ e ∙ nested q in
+    let digits : (r : Xyz) → inBlock m (r .x) (r .y) (r .z) ≡ b * (b * r .x + r .y) + r .z = λ r. in-block-digits m (r .x) (r .y) (r .z) in
+    let f : b * (b * p .x + p .y) + p .z ≡ b * (b * q .x + q .y) + q .z = sym (digits p) ∙ e ∙ digits q in
     let pz : p .z < b = omega (arith, hp .z-in) in
     let qz : q .z < b = omega (arith, hq .z-in) in
     let py : p .y < b = omega (arith, hp .y-in) in

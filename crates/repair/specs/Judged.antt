@@ -33,12 +33,12 @@ module _ (d : Delivery) where
   abbrev samples : List Float
   samples = map valueOf (d .centre) ++ map valueOf (d .neighbours)
 
-  pub samples-pass : AllUsable (d .centre) → AllUsable (d .neighbours) → judgeSamples samples ≡ Passed
-  samples-pass a b =
+  pub lists-pass : AllUsable (d .centre) → AllUsable (d .neighbours) → judgeSamples samples ≡ Passed
+  lists-pass a b =
       one-after-the-other (map valueOf (d .centre)) (map valueOf (d .neighbours))
       ∙ rw (list-passes 0 (d .centre) a) (list-passes (length (map valueOf (d .centre))) (d .neighbours) b)
 
-  pub samples-usable : judgeSamples samples ≡ Passed → AllUsable (d .centre) × AllUsable (d .neighbours)
-  samples-usable passed =
+  pub lists-usable : judgeSamples samples ≡ Passed → AllUsable (d .centre) × AllUsable (d .neighbours)
+  lists-usable passed =
       let both = both-passed _ _ (sym (one-after-the-other (map valueOf (d .centre)) (map valueOf (d .neighbours))) ∙ passed) in
       (list-usable 0 (d .centre) (both .0), list-usable (length (map valueOf (d .centre))) (d .neighbours) (both .1))

@@ -25,9 +25,9 @@ module _ (h : Header) (d : Delivery) (filler : Float) (held : ℕ) where
   abbrev wanted : ℕ
   wanted = length (listOf h d filler)
 
-  pub lent-refused : {r : Refusal} → lentWith h d ≡ Refused r → judgeRepair h d filler held ≡ Refused r
+  pub judged-lent : {r : Refusal} → lentWith h d ≡ Refused r → judgeRepair h d filler held ≡ Refused r
   unfolding judgeRepair
-  lent-refused e = rw e
+  judged-lent e = rw e
 
   pub filler-refused : {r : Refusal} → lentWith h d ≡ Passed → judgeFiller filler ≡ Refused r → judgeRepair h d filler held ≡ Refused r
   unfolding judgeRepair

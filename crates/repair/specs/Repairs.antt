@@ -30,7 +30,7 @@ use Rattle.repair.specs.Filled.{filledBits, filledIn, fillers-leave}
 use Rattle.repair.specs.Faces.{spotCount, spotOf, agreeBits, spot-on, coarse-held, agree-is, same-shape, filled-shaped}
 use Rattle.repair.specs.Apart.{spots-apart}
 use Rattle.repair.specs.Told.{faceRow, by-spots, bad-named, place-held}
-use Rattle.repair.specs.Judged.{AllUsable, samples-pass, samples-usable}
+use Rattle.repair.specs.Judged.{AllUsable, lists-pass, lists-usable}
 
 -- ---- where 7 and 8 are not met
 
@@ -214,7 +214,7 @@ module _ (h : Header) (filler : ℕ) (d : Delivery) (shaped : Shaped (asStar h d
   -- ---- 7 and 8 cannot be met
 
   pub seven-passes : judgeSamples (map valueOf (repaired .centre) ++ map valueOf (repaired .neighbours)) ≡ Passed
-  seven-passes = samples-pass repaired centre-usable neighbours-usable
+  seven-passes = lists-pass repaired centre-usable neighbours-usable
 
   pub eight-passes : judgeFaces (asStar h repaired) ≡ Passed
   eight-passes = faces-pass (asStar h repaired) repaired-agrees
@@ -227,5 +227,5 @@ module _ (h : Header) (filler : ℕ) (d : Delivery) (shaped : Shaped (asStar h d
 pub accepted-kept : (h : Header) (filler : ℕ) (d : Delivery) → judgeSamples (map valueOf (d .centre) ++ map valueOf (d .neighbours)) ≡ Passed
     → judgeFaces (asStar h d) ≡ Passed → changesOf h filler d ≡ []
 accepted-kept h filler d seven eight =
-    let usable = samples-usable d seven in
+    let usable = lists-usable d seven in
     nothing-listed h filler d (usable .0) (usable .1) (faces-agree (asStar h d) eight)

@@ -1,7 +1,7 @@
 -- Document 02, [8]: the centre's places as n + 7 squares, and the point of each. The model's `inBlock` is the place at (i, j) of a square, also where the
 -- square is a face's. Assumes nothing.
 use Prim.Native.Nat.{ℕ, zero, suc, _+_, _-_, _*_, _/_, _%_, _≤_, _<_}
-use native.Mathlib.Nat.{mul-add, mul-assoc, mul-le-mul-left, mod-lt, div-add-mod}
+use native.Mathlib.Nat.{mul-add, mul-le-mul-left, mod-lt, div-add-mod}
 use native.Mathlib.Decide.{decLe, decLt}
 use native.Mathlib.Omega.{arith}
 use mathlib.Core.Path.{_≡_, refl, ap, _∙_}
@@ -9,6 +9,7 @@ use borrow.Author.Tests.{le-leb, lt-leb}
 use Rattle.laws.specs.Iterated.{upper, lower}
 use Rattle.model.specs.Samples.{sampleLength, inBlock}
 use Rattle.model.specs.Rotations.{xyz}
+use Rattle.grid.specs.Nesting.{in-block-digits}
 use Rattle.volume.specs.Definition.{pointBeside, pointOn, pointOf}
 use Rattle.volume.specs.Known.{Near}
 
@@ -18,17 +19,14 @@ module _ (n : ℕ) where
   abbrev m : ℕ
   m = n + 1
 
-  nested : (square i j : ℕ) → inBlock n square i j ≡ m * (m * square + i) + j
-  nested square i j = omega (arith, mul-add m (m * square) i, mul-assoc m m square)
-
   pub point-at : (square i j : ℕ) → i ≤ n → j ≤ n → pointOf n (inBlock n square i j) ≡ pointOn n square i j
   point-at square i j hi hj =
       let line : (m * (m * square + i) + j) / m ≡ m * square + i = upper m (m * square + i) j (omega arith) in
       let s : inBlock n square i j / m / m ≡ square =
-      ap (λ (k : ℕ). k / m / m) (nested square i j) ∙ ap (λ (k : ℕ). k / m) line ∙ upper m square i (omega arith) in
+      ap (λ (k : ℕ). k / m / m) (in-block-digits n square i j) ∙ ap (λ (k : ℕ). k / m) line ∙ upper m square i (omega arith) in
       let a : inBlock n square i j / m % m ≡ i =
-      ap (λ (k : ℕ). k / m % m) (nested square i j) ∙ ap (λ (k : ℕ). k % m) line ∙ lower m square i (omega arith) in
-      let b : inBlock n square i j % m ≡ j = ap (λ (k : ℕ). k % m) (nested square i j) ∙ lower m (m * square + i) j (omega arith) in
+      ap (λ (k : ℕ). k / m % m) (in-block-digits n square i j) ∙ ap (λ (k : ℕ). k % m) line ∙ lower m square i (omega arith) in
+      let b : inBlock n square i j % m ≡ j = ap (λ (k : ℕ). k % m) (in-block-digits n square i j) ∙ lower m (m * square + i) j (omega arith) in
       λ t. pointOn n (s t) (a t) (b t)
 
   -- a place lies in a square
@@ -52,7 +50,7 @@ module _ (n : ℕ) where
       let i : place / m % m < m = mod-lt (place / m) (omega arith) in
       let j : place % m < m = mod-lt place (omega arith) in
       let back : inBlock n s (place / m % m) (place % m) ≡ place =
-      nested s (place / m % m) (place % m) ∙ ap (λ (k : ℕ). m * k + place % m) squares ∙ lines in
+      in-block-digits n s (place / m % m) (place % m) ∙ ap (λ (k : ℕ). m * k + place % m) squares ∙ lines in
       record { below = below (decLt s (n + 7)) back; row = omega arith; column = omega arith; is = back }
     where
       below : Dec (place / m / m < n + 7) → inBlock n (place / m / m) (place / m % m) (place % m) ≡ place → place / m / m < n + 7

@@ -7,7 +7,7 @@ use Rattle.model.specs.declared.Refusal.the-variants.{BadFiller}
 use Rattle.model.specs.declared.Verdict.the-variants.{Passed}
 use Rattle.model.specs.Refusals.{unless}
 use Rattle.repair.specs.Definition.{Delivery, delivery, changesOf, lentWith, judgeFiller, judgeChanges}
-use Rattle.repair.specs.Passing.{shaped-by, lent-refused, filler-refused, changes-left}
+use Rattle.repair.specs.Passing.{shaped-by, judged-lent, filler-refused, changes-left}
 use borrow.Author.Needs.{needs}
 use Rattle.repair.proofs.judge_repair.Statement.{statement}
 use Rattle.repair.proofs.judge_repair.Tie as tie
@@ -28,7 +28,7 @@ returns : tie.Need-returns
 returns c = let judged = c .before .before .before in
     let start = entry judged in
     let a = start .args in
-    sym (lent-refused (a .header) (lent start) (a .filler) (a .held) (sym (judged .judge-lent .ensures) ∙ c .before .lent .given .1))
+    sym (judged-lent (a .header) (lent start) (a .filler) (a .held) (sym (judged .judge-lent .ensures) ∙ c .before .lent .given .1))
 
 enum-told : tie.Need-enum-told
 enum-told c = search needs

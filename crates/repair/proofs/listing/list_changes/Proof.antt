@@ -14,6 +14,9 @@ lent start = delivery (start .args .centre .now) (start .args .neighbours .now)
 abbrev entry : tie.After-list-bad → tie.Start
 entry first = first .before .before .before .before .before
 
+abbrev of-centre : tie.After-list-bad2 → tie.After-list-bad
+of-centre second = second .before .before .before .before
+
 list-bad-requires : tie.Need-list-bad-requires
 list-bad-requires c κs = let start = c .before .before .before .before in
     let a = start .args in
@@ -29,7 +32,7 @@ list-bad-requires-2 c κs = let first = c .before .before .before in
 
 list-mismatches-requires : tie.Need-list-mismatches-requires
 list-mismatches-requires c κs = let second = c .before .before .before in
-    let first = second .before .before .before .before in
+    let first = of-centre second in
     let start = entry first in
     let a = start .args in (
       start .pre .0,
@@ -50,7 +53,7 @@ same-length c = search needs
 returns : tie.Need-returns
 returns c = let third = c .before .before in
     let second = third .before .before .before .before in
-    let first = second .before .before .before .before in
+    let first = of-centre second in
     let start = entry first in
     let a = start .args in
     rw (changes-are (a .header) (a .filler) (lent start))
