@@ -82,8 +82,7 @@ impl Record {
         let mut record = Record::read(&sound)?;
         let samples = record.centre.iter_mut().chain(&mut record.neighbours);
         for (sample, pattern) in samples.zip(bytes[head..].chunks_exact(4)) {
-            *sample =
-                f32::from_bits(pattern.iter().fold(0, |bits, &byte| bits << 8 | u32::from(byte)));
+            *sample = f32::from_be_bytes([pattern[0], pattern[1], pattern[2], pattern[3]]);
         }
         Ok(record)
     }
