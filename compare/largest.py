@@ -11,6 +11,7 @@ import sys
 
 from calling import MARK, Ours
 import reference
+from records import agree
 
 N, MASK = reference.LARGEST_N, reference.LARGEST_MASK
 STORE = reference.store_length(N)
@@ -22,13 +23,9 @@ def block():
     noise = [reference.bits(k) for k in (1.0, -1.0, 0.3, -0.5)]
     centre = chance.choices(noise, k=reference.block_length(N))
     neighbours = chance.choices(noise, k=reference.neighbours_length(N, MASK))
-    for side in range(6):
-        for u in range(N + 1):
-            for v in range(N + 1):
-                fine = reference.sample_place(2 * N, reference.neighbour_point(N, side, 2 * u, 2 * v))
-                coarse = reference.sample_place(N, reference.face_point(N, side, u, v))
-                neighbours[side * reference.block_length(2 * N) + fine] = centre[coarse]
-    return centre, neighbours
+    samples = centre + neighbours
+    agree(N, MASK, samples)
+    return samples[:len(centre)], samples[len(centre):]
 
 
 def main():

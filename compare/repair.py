@@ -82,10 +82,6 @@ def a_delivery(chance):
     return Delivery(block, filler, room, chance.choice(TAME))
 
 
-def copied(block):
-    return block._replace(centre=list(block.centre), neighbours=list(block.neighbours))
-
-
 def difference(what, found, wanted):
     """Where two answers differ first, or None."""
     if found == wanted:
@@ -98,7 +94,7 @@ def difference(what, found, wanted):
 def lasting_fault(ours, delivery, left, lent):
     """What is wrong with a second pass over what an accepted call left, or with its list undone, or None."""
     again = ours.repair(left, delivery.filler_again, 3)
-    undone = copied(left)
+    undone = reference.copied(left)
     reference.undo_changes(undone, [reference.Change(*lent[at:at + 4]) for at in range(0, len(lent), 4)])
     if undone != delivery.block:
         return "undone, the list does not give the delivery back"
@@ -108,7 +104,7 @@ def lasting_fault(ours, delivery, left, lent):
 def fault_by(ours):
     """What is wrong with an answer, or None."""
     def fault(delivery, found):
-        left, lent = copied(delivery.block), [MARK] * delivery.room
+        left, lent = reference.copied(delivery.block), [MARK] * delivery.room
         answer = reference.repair(left, delivery.filler, lent)
         refused = isinstance(answer, reference.Refusal)
         numbers = [*answer, 0] if refused else [0, 0, 0, 0, answer]

@@ -20,7 +20,7 @@ import struct
 from pathlib import Path
 
 from reference import (ROTATIONS, Block, bits, block_length, face_point, fine_place, neighbours_length,
-                       record_of, sample_place, shared_place, sides_named)
+                       record_of, sample_place, shared_place, shared_points, sides_named)
 
 NAN = 0x7FC00000
 
@@ -94,10 +94,8 @@ def level_block(n, mask, pattern, threshold=bits(0.0)):
 
 def agree(n, mask, samples):
     """Each fine face takes the centre's samples at the points that they share; the centre's stand first in the list."""
-    for side in sides_named(mask):
-        for u in range(n + 1):
-            for v in range(n + 1):
-                samples[fine_place(n, mask, side, 2 * u, 2 * v)] = samples[sample_place(n, face_point(n, side, u, v))]
+    for side, u, v in shared_points(n, mask):
+        samples[fine_place(n, mask, side, 2 * u, 2 * v)] = samples[sample_place(n, face_point(n, side, u, v))]
 
 
 def case_a():

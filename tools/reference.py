@@ -261,6 +261,12 @@ def neighbour_point(n, side, u2, v2, w=0):
                  for k in range(3))
 
 
+def shared_points(n, mask):
+    """The points of the named sides' faces, which the centre shares with their neighbours, by side, u, v."""
+    steps = range(n + 1)
+    return ((side, u, v) for side in sides_named(mask) for u in steps for v in steps)
+
+
 def fine_place(n, mask, side, u2, v2, w=0):
     """The place of a point of a named side's neighbour among all samples, those of the centre first."""
     before = sides_named(mask).index(side)
@@ -316,15 +322,19 @@ def refuse_samples(samples):
     return None
 
 
-def refuse_face_mismatch(block):
+def mismatched_points(block):
+    """The points that 8 is about, by side, u, v."""
     field = Field(block)
-    for side in sides_named(block.mask):
-        for u in range(block.n + 1):
-            for v in range(block.n + 1):
-                coarse = field.centre(face_point(block.n, side, u, v))
-                fine = field.neighbour(side, neighbour_point(block.n, side, 2 * u, 2 * v))
-                if inside(coarse, field.threshold) != inside(fine, field.threshold):
-                    return Refusal(8, side, u, v)
+    for side, u, v in shared_points(block.n, block.mask):
+        coarse = field.centre(face_point(block.n, side, u, v))
+        fine = field.neighbour(side, neighbour_point(block.n, side, 2 * u, 2 * v))
+        if inside(coarse, field.threshold) != inside(fine, field.threshold):
+            yield side, u, v
+
+
+def refuse_face_mismatch(block):
+    for side, u, v in mismatched_points(block):
+        return Refusal(8, side, u, v)
     return None
 
 
@@ -766,16 +776,12 @@ def shared_place(block, side, u, v):
 
 
 def mismatches(block):
-    """The changes at the points that 8 would refuse, by side, u, v, of a block whose samples 7 does not refuse."""
-    threshold, changes = value(block.threshold), []
-    for side in sides_named(block.mask):
-        for u in range(block.n + 1):
-            for v in range(block.n + 1):
-                here = block.centre[sample_place(block.n, face_point(block.n, side, u, v))]
-                place = shared_place(block, side, u, v)
-                there = block.neighbours[place]
-                if inside(value(here), threshold) != inside(value(there), threshold):
-                    changes.append(Change(1, place, there, here))
+    """The changes at the points that 8 is about, of a block whose samples 7 does not refuse."""
+    changes = []
+    for side, u, v in mismatched_points(block):
+        here = block.centre[sample_place(block.n, face_point(block.n, side, u, v))]
+        place = shared_place(block, side, u, v)
+        changes.append(Change(1, place, block.neighbours[place], here))
     return changes
 
 
@@ -790,9 +796,14 @@ def undo_changes(block, changes):
         (block.neighbours if change.list else block.centre)[change.place] = change.old
 
 
+def copied(block):
+    """The same block with lists of its own."""
+    return block._replace(centre=list(block.centre), neighbours=list(block.neighbours))
+
+
 def changes_of(block, filler):
     """All changes of a block that 1 to 6 do not refuse, in order; the block stays as it is."""
-    filled = block._replace(centre=list(block.centre), neighbours=list(block.neighbours))
+    filled = copied(block)
     changes = fillers(0, block.centre, filler) + fillers(1, block.neighbours, filler)
     apply_changes(filled, changes)
     return changes + mismatches(filled)

@@ -321,7 +321,7 @@ class Repair(unittest.TestCase):
 
     def test_repairs(self):
         block = self.damaged()
-        before = block._replace(centre=list(block.centre), neighbours=list(block.neighbours))
+        before = reference.copied(block)
         lent = [7] * 80
         count = reference.repair(block, ONE, lent)
         self.assertIsNone(reference.refuse_block(block))
@@ -341,7 +341,7 @@ class Repair(unittest.TestCase):
 
     def test_refuses(self):
         block = self.damaged()
-        before = block._replace(centre=list(block.centre), neighbours=list(block.neighbours))
+        before = reference.copied(block)
         wanted = len(reference.changes_of(block, ZERO))
         self.assertEqual(reference.repair(block._replace(n=0), NAN, []), Refusal(1, 0))
         self.assertEqual(reference.repair(block._replace(neighbours=[]), NAN, []), Refusal(5, 0))

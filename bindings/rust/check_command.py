@@ -197,7 +197,7 @@ def to_full_disk(*words):
     """Standard output that takes nothing."""
     with open("/dev/full", "wb") as full:
         done = subprocess.run([*COMMAND, *map(str, words)], stdout=full, stderr=subprocess.PIPE, timeout=DEADLINE)
-    same("status", done.returncode, 3)
+    same("%s: status" % (words,), done.returncode, 3)
     assert done.stderr.startswith(b"sirveshan: cannot write: "), done.stderr
 
 

@@ -15,7 +15,7 @@ use Rattle.model.specs.declared.Header.{Header}
 use Rattle.model.specs.declared.Refusal.{Refusal}
 use Rattle.model.specs.declared.Refusal.the-variants.{BadFiller, ChangesTooShort}
 use Rattle.model.specs.declared.Verdict.{Verdict}
-use Rattle.model.specs.declared.Verdict.the-variants.{Passed}
+use Rattle.model.specs.declared.Verdict.the-variants.{Passed, Refused}
 use Rattle.model.specs.declared.Extraction.the-variants as Extraction
 use Rattle.model.specs.Star.{Star}
 use Rattle.model.specs.Judging.{usable, judgeLent, judgeStar, judgeFaces}
@@ -58,15 +58,16 @@ module _ (h : Header) (d : Delivery) (filler : Float) (changes : List ℕ) where
       judged Repaired.Refused (Repaired.Changes wanted) (λ v. repairAnswer (listOf h d filler) d changes v .answer) refl (λ r. refl) (λ q r e. cc) (λ r e. cc)
       _ _ in-order numbered
 
+  judged-so : (r : Refusal) → repair h d filler changes .answer ≡ Repaired.Refused r → judgeRepair h d filler (length changes) ≡ Refused r
+  judged-so r e = sym in-order ∙ repairing .refused-by-first r .0 e
+
   delivery-untouched : (r : Refusal) → repair h d filler changes .answer ≡ Repaired.Refused r → repair h d filler changes .left ≡ d
   unfolding repair
-  delivery-untouched r e =
-      ap (λ (v : Verdict). repairAnswer (listOf h d filler) d changes v .left) (sym in-order ∙ repairing .refused-by-first r .0 e)
+  delivery-untouched r e = ap (λ (v : Verdict). repairAnswer (listOf h d filler) d changes v .left) (judged-so r e)
 
   list-untouched : (r : Refusal) → repair h d filler changes .answer ≡ Repaired.Refused r → repair h d filler changes .changes ≡ changes
   unfolding repair
-  list-untouched r e =
-      ap (λ (v : Verdict). repairAnswer (listOf h d filler) d changes v .changes) (sym in-order ∙ repairing .refused-by-first r .0 e)
+  list-untouched r e = ap (λ (v : Verdict). repairAnswer (listOf h d filler) d changes v .changes) (judged-so r e)
 
   list-laid : (k : ℕ) → repair h d filler changes .answer ≡ Repaired.Changes k
       → Laid (4 * k) (each wordsOf (listOf h d filler)) changes (repair h d filler changes .changes)

@@ -19,7 +19,7 @@ use Rattle.repair.specs.declared.Change.{Change}
 use Rattle.repair.specs.declared.Repaired.the-variants as Repaired
 use Rattle.repair.specs.Definition.{Delivery, valueOf, asStar, applied, wordsOf, listOf, lentWith, judgeRepair, repairAnswer, repair}
 use Rattle.repair.specs.Spots.{length-applied}
-use Rattle.repair.specs.Passing.{repairable}
+use Rattle.repair.specs.Passing.{Repairable, repairable}
 use Rattle.repair.specs.Repairs.{seven-passes, eight-passes, nothing-again, accepted-kept}
 
 -- a count is answered only for what passes
@@ -73,8 +73,11 @@ module _ (h : Header) (d : Delivery) (filler : Float) (fit : T (fits binary32 fi
   unfolding judgeRepair
   lent-passed = both-passed (lentWith h d) _ passed .0
 
+  can-repair : Repairable h d filler held
+  can-repair = repairable h d filler held passed
+
   filler-bits : usable (valueOf bits) ≡ true
-  filler-bits = ap usable (ofBits-toBits binary32 filler fit) ∙ repairable h d filler held passed .filler-usable
+  filler-bits = ap usable (ofBits-toBits binary32 filler fit) ∙ can-repair .filler-usable
 
   lent-after : lentWith h after ≡ Passed
   lent-after =
@@ -82,15 +85,15 @@ module _ (h : Header) (d : Delivery) (filler : Float) (fit : T (fits binary32 fi
       rw (length-applied list 0 d, length-applied list 1 d) lent-passed
 
   pub faces-after : judgeFaces (asStar h after) ≡ Passed
-  faces-after = eight-passes h bits d (repairable h d filler held passed .shaped) filler-bits
+  faces-after = eight-passes h bits d (can-repair .shaped) filler-bits
 
   pub star-after : judgeStar (asStar h after) ≡ Passed
   star-after =
       samples-left (asStar h after) (rw (length-map, length-map) lent-after)
-      ∙ seven-passes h bits d (repairable h d filler held passed .shaped) filler-bits
+      ∙ seven-passes h bits d (can-repair .shaped) filler-bits
 
   pub done-again : (other : Float) (changes : List ℕ) → usable other ≡ true
       → repair h after other changes ≡ record { answer = Repaired.Changes 0; left = after; changes = changes }
   done-again other changes is =
       nothing-done h after other changes lent-after is
-      (nothing-again h bits d (repairable h d filler held passed .shaped) filler-bits (toBits binary32 other))
+      (nothing-again h bits d (can-repair .shaped) filler-bits (toBits binary32 other))

@@ -139,7 +139,7 @@ returns-2 : tie.Need-returns-2
 unfolding repair
 returns-2 c = let made = c .before .before .before .before in
     let listed = written (made .before) in
-    let start = entry (told listed .before .before) in
+    let start = first listed in
     let passed = judge-passed (told listed) in
     let changed = made .apply .ensures ∙ made-left listed in
     (λ i. record { answer = Repaired.Changes (count-is listed i); left = changed i; changes = (changes-left listed ∙ left-is (list listed) (start .args .changes .now) (can-repair (told listed) .room)) i })
