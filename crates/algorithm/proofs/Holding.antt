@@ -1,9 +1,10 @@
 -- Laws of the writing pass: a cell is written into the buffers, and what stands in them at the end.
 use Prim.Native.Nat.{ℕ, _+_, _*_, _≤_, _<_}
+use native.Mathlib.Nat.{zero-add}
 use native.Mathlib.Numerals.{add-one}
 use native.Mathlib.Omega.{arith}
 use mathlib.Core.Path.{_≡_, refl, sym, ap, _∙_}
-use mathlib.Core.List.{List}
+use mathlib.Core.List.{List, _++_}
 use lib.Ieee.{Float}
 use lib.ListN.{length, replicate, length-append}
 use lib.Seq.{take-all}
@@ -12,6 +13,7 @@ use Rattle.model.specs.Star.{Star, subdivisions}
 use Rattle.model.specs.Mesh.{Cell, Mesh, fillTo, triangleOf, filled, emptyMesh, cellStep, storeLength, meshOf}
 use Rattle.model.specs.Adding.{cell-triangles}
 use Rattle.model.specs.Extraction.{vertexFloats, triangleIndices}
+use Rattle.model.specs.Edges.{edgeNumber}
 use Rattle.grid.specs.Shape.{Shaped}
 use Rattle.points.specs.Fractions.{Fractions}
 use Rattle.points.specs.CellPoints.{centred}
@@ -20,9 +22,9 @@ use Rattle.cells.specs.declared.SheetIndex.{SheetIndex}
 use Rattle.cells.specs.declared.SheetIndex.the-variants.{Layer, Side}
 use Rattle.cells.specs.Kinds.{Ready as CellReady}
 use Rattle.cells.specs.SheetCells.{cellAt, sheetCell}
-use Rattle.cells.specs.Buffers.{layVertices, layTriangles}
+use Rattle.cells.specs.Buffers.{layVertices, layTriangles, layEdges}
 use Rattle.laws.specs.Lists.{length-listed, each-append}
-use Rattle.laws.specs.Laying.{take-lay}
+use Rattle.laws.specs.Laying.{lay-none, lay-append, take-lay}
 use Rattle.cases.specs.Sheets.{rowStart}
 use Rattle.cases.specs.Marks.{NextMarked}
 use Rattle.cells.specs.Puts.{Room, CellPut, SameMade}
@@ -36,19 +38,28 @@ module _ (c : Cell) (m : Mesh) where
 
 -- ---- a cell written
 
-pub holds-none : (n : ℕ) (vertices : List Float) (triangles : List ℕ)
-    → Holds (emptyMesh n) (record { vertices = 0; triangles = 0; reads = 0 }) vertices triangles (replicate (storeLength n) 0)
+pub holds-none : (n : ℕ) (vertices : List Float) (triangles edges : List ℕ)
+    → Holds (emptyMesh n) (record { vertices = 0; triangles = 0; reads = 0 }) vertices triangles (replicate (storeLength n) 0) edges
 unfolding emptyMesh
-holds-none n vertices triangles = record { vertex-count = refl; triangle-count = refl; read-so-far = refl; vertices-are = refl; triangles-are = refl; store-is = refl }
+holds-none n vertices triangles edges =
+    record {
+      vertex-count = refl;
+      triangle-count = refl;
+      read-so-far = refl;
+      vertices-are = refl;
+      triangles-are = refl;
+      store-is = refl;
+      numbered = record { before = edges; edges-are = sym (lay-none 1 edgeNumber edges 0) };
+    }
 
 -- a cell can be written: the buffers hold the mesh before it, and have room for a mesh that has it
-pub record Ready (s : Star) (c : Cell) (m : Mesh) (counts : Progress) (vertices : List Float) (triangles store : List ℕ) : Type 0 where
-  pub holds : Holds m counts vertices triangles store
+pub record Ready (s : Star) (c : Cell) (m : Mesh) (counts : Progress) (vertices : List Float) (triangles store edges : List ℕ) : Type 0 where
+  pub holds : Holds m counts vertices triangles store edges
   pub upto : Upto (cellStep c m) (meshOf s)
   pub fits : Fits s vertices triangles store
 
-module _ {s : Star} {c : Cell} {m : Mesh} {counts : Progress} {vertices : List Float} {triangles store : List ℕ}
-    (ready : Ready s c m counts vertices triangles store) where
+module _ {s : Star} {c : Cell} {m : Mesh} {counts : Progress} {vertices : List Float} {triangles store edges : List ℕ}
+    (ready : Ready s c m counts vertices triangles store edges) where
   filled-is : fillTo c (counts .vertices) store (c .vertices) ≡ filled c m
   filled-is = cc
 
@@ -64,11 +75,12 @@ module _ {s : Star} {c : Cell} {m : Mesh} {counts : Progress} {vertices : List F
       let e : counts .triangles + c .triangles ≡ length (cellStep c m .triangles) = cc (cell-triangles c m) in
       record { room = omega arith; short = omega arith }
 
-  pub holds-more : (counts′ : Progress) (vertices′ : List Float) (triangles′ store′ : List ℕ)
+  pub holds-more : (counts′ : Progress) (vertices′ : List Float) (triangles′ store′ edges′ : List ℕ)
       → CellPut c (counts .vertices) (counts .triangles) vertices triangles store (counts′ .vertices) (counts′ .triangles) (counts′ .reads) vertices′ triangles′ store′
-      → Holds (cellStep c m) counts′ vertices′ triangles′ store′
+      → edges′ ≡ layEdges edges (counts .vertices) (fillTo c (counts .vertices) store (c .vertices) .made)
+      → Holds (cellStep c m) counts′ vertices′ triangles′ store′ edges′
   unfolding cellStep
-  holds-more counts′ vertices′ triangles′ store′ put =
+  holds-more counts′ vertices′ triangles′ store′ edges′ put listed-too =
       let new = filled c m .made in
       let sent = listed (triangleOf c (filled c m .index)) (c .triangles) in
       let nv = counts .vertices in
@@ -79,6 +91,10 @@ module _ {s : Star} {c : Cell} {m : Mesh} {counts : Progress} {vertices : List F
       let et : counts′ .triangles ≡ nt + length sent = cc in
       let lv : vertices′ ≡ layVertices vertices nv new = cc in
       let lt : triangles′ ≡ layTriangles triangles nt sent = cc in
+      let le : edges′ ≡ layEdges edges (length (m .made)) new = cc in
+      let old = ready .holds .numbered in
+      let together : layEdges (layEdges (old .before) 0 (m .made)) (length (m .made)) new ≡ layEdges (old .before) 0 (m .made ++ new) =
+      rw zero-add at (lay-append 1 edgeNumber (λ t. refl) (old .before) 0 (m .made) new) in
       let made : length (fillTo c nv store (c .vertices) .made) ≡ length new = cc in
       let rv : 6 * (nv + length new) ≤ length vertices = omega (arith, room-vertices .room) in
       let rt : 3 * (nt + length sent) ≤ length triangles = omega (arith, room-triangles .room) in
@@ -89,11 +105,16 @@ module _ {s : Star} {c : Cell} {m : Mesh} {counts : Progress} {vertices : List F
         vertices-are = rw (ev, lv, take-lay 6 vertexFloats (λ t. refl) vertices nv new rv, ready .holds .vertices-are, each-append vertexFloats (m .made) new);
         triangles-are = rw (et, lt, take-lay 3 triangleIndices (λ t. refl) triangles nt sent rt, ready .holds .triangles-are, each-append triangleIndices (m .triangles) sent);
         store-is = cc;
+        numbered =
+            record {
+              before = old .before;
+              edges-are = le ∙ ap (λ (l : List ℕ). layEdges l (length (m .made)) new) (old .edges-are) ∙ together;
+            };
       }
 
 -- a mesh of which only the reads differ is held as well
-holds-same : {m m′ : Mesh} {counts : Progress} {vertices : List Float} {triangles store : List ℕ} → SameMade m m′
-    → Holds m counts vertices triangles store → Holds m′ counts vertices triangles store
+holds-same : {m m′ : Mesh} {counts : Progress} {vertices : List Float} {triangles store edges : List ℕ} → SameMade m m′
+    → Holds m counts vertices triangles store edges → Holds m′ counts vertices triangles store edges
 holds-same same h =
     record {
       vertex-count = h .vertex-count ∙ ap length (same .made-same);
@@ -102,6 +123,7 @@ holds-same same h =
       vertices-are = h .vertices-are ∙ ap (each vertexFloats) (same .made-same);
       triangles-are = h .triangles-are ∙ ap (each triangleIndices) (same .triangles-same);
       store-is = h .store-is ∙ same .store-same;
+      numbered = record { before = h .numbered .before; edges-are = h .numbered .edges-are ∙ ap (layEdges (h .numbered .before) 0) (same .made-same) };
     }
 
 -- ---- a sheet of cells
@@ -127,20 +149,20 @@ module _ (s : Star) (sheet : SheetIndex) (u : ℕ) (u-in : u < subdivisions s) w
   before v = rowTo cell v (rowBefore s sheet u)
 
   module _ {layer side marks : List ℕ} (held : Held s sheet (subdivisions s) layer side marks)
-      {counts : Progress} {vertices : List Float} {triangles store : List ℕ} where
+      {counts : Progress} {vertices : List Float} {triangles store edges : List ℕ} where
     -- the cells that are not marked make nothing
     pub holds-skip : (from next : ℕ) → NextMarked (subdivisions s) marks (rowStart (subdivisions s) u) from next
-        → Holds (before from) counts vertices triangles store → Holds (before next) counts vertices triangles store
+        → Holds (before from) counts vertices triangles store edges → Holds (before next) counts vertices triangles store edges
     holds-skip from next step = holds-same (row-skip s sheet held u from next u-in step (rowBefore s sheet u))
 
     -- a cell written, and those up to the next one that is marked
     pub holds-on : (v next : ℕ) → NextMarked (subdivisions s) marks (rowStart (subdivisions s) u) (v + 1) next
-        → Holds (cellStep (cell v) (before v)) counts vertices triangles store → Holds (before next) counts vertices triangles store
+        → Holds (cellStep (cell v) (before v)) counts vertices triangles store edges → Holds (before next) counts vertices triangles store edges
     holds-on v next step h = holds-skip (v + 1) next step (rw add-one h)
 
   -- a cell can be written, if the mesh fits
-  pub ready-at : (v : ℕ) {counts : Progress} {vertices : List Float} {triangles store : List ℕ} → v < subdivisions s → SheetIn s sheet
-      → Fits s vertices triangles store → Holds (before v) counts vertices triangles store → Ready s (cell v) (before v) counts vertices triangles store
+  pub ready-at : (v : ℕ) {counts : Progress} {vertices : List Float} {triangles store edges : List ℕ} → v < subdivisions s → SheetIn s sheet
+      → Fits s vertices triangles store → Holds (before v) counts vertices triangles store edges → Ready s (cell v) (before v) counts vertices triangles store edges
   ready-at v v-in is fits holds =
       record {
         holds = holds;
@@ -154,9 +176,9 @@ row-done s sheet u v e = rw (e, add-one)
 
 -- ---- at the end
 
-pub holds-all : (s : Star) (counts : Progress) (vertices : List Float) (triangles store : List ℕ)
-    → Exact s vertices triangles store → Holds (meshOf s) counts vertices triangles store → Written (meshOf s) vertices triangles store
-holds-all s counts vertices triangles store exact h =
+pub holds-all : (s : Star) (counts : Progress) (vertices : List Float) (triangles store edges : List ℕ)
+    → Exact s vertices triangles store → Holds (meshOf s) counts vertices triangles store edges → Written (meshOf s) vertices triangles store
+holds-all s counts vertices triangles store edges exact h =
     record {
       vertices-are = sym (take-all (6 * counts .vertices) vertices (omega arith)) ∙ h .vertices-are;
       triangles-are = sym (take-all (3 * counts .triangles) triangles (omega arith)) ∙ h .triangles-are;
@@ -165,17 +187,18 @@ holds-all s counts vertices triangles store exact h =
 
 -- ---- lengths that stay
 
-pub same-then : {v v′ v″ : List Float} {t t′ t″ s s′ s″ : List ℕ} → SameLengths v v′ t t′ s s′ → SameLengths v′ v″ t′ t″ s′ s″
-    → SameLengths v v″ t t″ s s″
+pub same-then : {v v′ v″ : List Float} {t t′ t″ s s′ s″ e e′ e″ : List ℕ} → SameLengths v v′ t t′ s s′ e e′ → SameLengths v′ v″ t′ t″ s′ s″ e′ e″
+    → SameLengths v v″ t t″ s s″ e e″
 same-then h k =
     record {
       vertices-same = k .vertices-same ∙ h .vertices-same;
       triangles-same = k .triangles-same ∙ h .triangles-same;
       store-same = k .store-same ∙ h .store-same;
+      edges-same = k .edges-same ∙ h .edges-same;
     }
 
-module _ {s : Star} {vertices₀ vertices : List Float} {triangles₀ triangles store₀ store : List ℕ}
-    (same : SameLengths vertices₀ vertices triangles₀ triangles store₀ store) where
+module _ {s : Star} {vertices₀ vertices : List Float} {triangles₀ triangles store₀ store edges₀ edges : List ℕ}
+    (same : SameLengths vertices₀ vertices triangles₀ triangles store₀ store edges₀ edges) where
   pub fits-still : Fits s vertices₀ triangles₀ store₀ → Fits s vertices triangles store
   fits-still fits =
       record {

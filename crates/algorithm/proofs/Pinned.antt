@@ -7,6 +7,7 @@ use Rattle.model.specs.Pinned.{pinned}
 use Rattle.algorithm.proofs.counting.plus.Reads as plus
 use Rattle.algorithm.proofs.counting.count_mesh.Reads as count-mesh
 use Rattle.algorithm.proofs.extract.Reads as extract
+use Rattle.algorithm.proofs.extract_whole.Reads as extract-whole
 
 pub plus-pinned : (κs : Lfts 0) (a : _) (r r′ : _) (e e′ : _) → plus.Learnt κs a r e → plus.Learnt κs a r′ e′ → r ≡ r′
 plus-pinned κs a r r′ e e′ h k = pinned h k
@@ -26,4 +27,15 @@ pub extract-pinned : (κs : Lfts 5) (a : _) (r r′ : _) (e e′ : _) → extrac
 extract-pinned κs a r r′ e e′ h k = (
   λ i. record { answer = pinned (h .0) (k .0) i; reads = pinned (h .1 .1 .1 .1) (k .1 .1 .1 .1) i },
   (pinned (h .1 .0) (k .1 .0), (pinned (h .1 .1 .0) (k .1 .1 .0), pinned (h .1 .1 .1 .0) (k .1 .1 .1 .0))),
+)
+
+pub extract-whole-pinned : (κs : Lfts 6) (a : _) (r r′ : _) (e e′ : _) → extract-whole.Learnt κs a r e → extract-whole.Learnt κs a r′ e′
+    → (r ≡ r′)
+    × ((now (e .1 .1 .1 .0) ≡ now (e′ .1 .1 .1 .0))
+    × ((now (e .1 .1 .1 .1 .0) ≡ now (e′ .1 .1 .1 .1 .0))
+    × ((now (e .1 .1 .1 .1 .1 .0) ≡ now (e′ .1 .1 .1 .1 .1 .0))
+    × (now (e .1 .1 .1 .1 .1 .1 .0) ≡ now (e′ .1 .1 .1 .1 .1 .1 .0)))))
+extract-whole-pinned κs a r r′ e e′ h k = (
+  λ i. record { answer = pinned (h .0) (k .0) i; reads = pinned (h .1 .1 .1 .1 .0) (k .1 .1 .1 .1 .0) i },
+  (pinned (h .1 .0) (k .1 .0), (pinned (h .1 .1 .0) (k .1 .1 .0), (pinned (h .1 .1 .1 .0) (k .1 .1 .1 .0), pinned (h .1 .1 .1 .1 .1) (k .1 .1 .1 .1 .1)))),
 )

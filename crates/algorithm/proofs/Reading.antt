@@ -65,6 +65,6 @@ module _ (s : Star) where
 
   -- ---- all
 
-  pub read-all : (cases : ℕ) (counts : Progress) (vertices : List Float) (triangles store : List ℕ) → ReadTo (meshOf s) mostSheets cases
-      → Holds (meshOf s) counts vertices triangles store → cases + counts .reads ≡ meshOf s .reads
-  read-all cases counts vertices triangles store r h = omega (arith, r .reads-are, h .read-so-far, h .vertex-count)
+  pub read-all : (cases : ℕ) (counts : Progress) (vertices : List Float) (triangles store edges : List ℕ) → ReadTo (meshOf s) mostSheets cases
+      → Holds (meshOf s) counts vertices triangles store edges → cases + counts .reads ≡ meshOf s .reads
+  read-all cases counts vertices triangles store edges r h = omega (arith, r .reads-are, h .read-so-far, h .vertex-count)

@@ -1,13 +1,14 @@
 -- What extraction's functions ask for and what they leave, by name. One set of names serves both kinds of cell.
 use Prim.Native.Nat.{ℕ, _+_, _*_, _≤_, _<_}
 use mathlib.Core.Path.{_≡_}
-use mathlib.Core.Bool.{true}
+use mathlib.Core.Bool.{Bool, true, cond}
 use mathlib.Core.List.{List}
 use lib.Ieee.{Float}
 use lib.ListN.{length, getD, take}
 use Rattle.model.specs.declared.Counts.{Counts}
 use Rattle.model.specs.declared.Header.{Header}
 use Rattle.model.specs.declared.Verdict.{Verdict}
+use Rattle.model.specs.declared.Verdict.the-variants as Verdict
 use Rattle.model.specs.declared.Refusal.{Refusal}
 use Rattle.model.specs.declared.Report.{Report}
 use Rattle.model.specs.declared.Extraction.the-variants as Extraction
@@ -18,7 +19,8 @@ use Rattle.model.specs.Sides.{named, neighboursLength}
 use Rattle.model.specs.Star.{Star, subdivisions}
 use Rattle.model.specs.Mesh.{Cell, Mesh, cellStep, storeLength, regularLayer, regularTo, transitionSide, transitionTo, meshOf}
 use Rattle.model.specs.Judging.{judgeFaces, judgeStore, judgeRoom, judgeStar}
-use Rattle.model.specs.Extraction.{vertexFloats, triangleIndices, Outcome, outcome}
+use Rattle.model.specs.Extraction.{vertexFloats, triangleIndices, Outcome}
+use Rattle.model.specs.Edges.{judgeEdges, edgesLeft}
 use Rattle.model.specs.Reads.{Reads}
 use Rattle.cases.specs.Sheets.{rowStart, sheetPlaces, mostSheetReads, Sheet}
 use Rattle.cases.specs.Marks.{markOf}
@@ -26,17 +28,31 @@ use Rattle.cells.specs.declared.SheetIndex.{SheetIndex}
 use Rattle.cells.specs.declared.SheetIndex.the-variants.{Layer, Side}
 use Rattle.cells.specs.SheetCells.{sheetOf, sheetCell, caseAt, allOf}
 use Rattle.cells.specs.declared.Progress.{Progress}
+use Rattle.cells.specs.Buffers.{layEdges}
 use Rattle.cells.specs.Puts.{Room, ReadSoFar}
 
 -- 1 to 9, in that order
 abbrev pub judged : Star → ℕ → Verdict
 judged s heldStore = orElse (judgeStar s) (orElse (judgeFaces s) (judgeStore (subdivisions s) heldStore))
 
--- what is left once 1 to 9 have passed: the mesh, or 10
-abbrev pub counted : Star → List ℕ → List Float → List ℕ → Outcome
-counted s store vertices triangles =
-    outcome (meshOf s) store vertices triangles
-    (judgeRoom (length (meshOf s .made)) (length (meshOf s .triangles)) (length vertices) (length triangles))
+-- 23, where the further list is asked for
+abbrev pub edgesJudged : Bool → ℕ → ℕ → Verdict
+edgesJudged numbered wanted held = cond numbered (judgeEdges wanted held) Verdict.Passed
+
+-- then 10
+abbrev pub roomJudged : Bool → Star → ℕ → ℕ → ℕ → Verdict
+roomJudged numbered s heldVertices heldTriangles heldEdges =
+    orElse (edgesJudged numbered (length (meshOf s .made)) heldEdges)
+    (judgeRoom (length (meshOf s .made)) (length (meshOf s .triangles)) heldVertices heldTriangles)
+
+-- what a verdict leaves in the further list, if it is asked for
+abbrev pub numbersLeft : Bool → Star → List ℕ → Verdict → List ℕ
+numbersLeft numbered s edges verdict = cond numbered (edgesLeft (meshOf s) edges verdict) edges
+
+-- all of them, in that order
+abbrev pub allJudged : Bool → Star → ℕ → ℕ → ℕ → ℕ → Verdict
+allJudged numbered s heldStore heldVertices heldTriangles heldEdges =
+    orElse (judgeStar s) (orElse (judgeFaces s) (orElse (judgeStore (subdivisions s) heldStore) (roomJudged numbered s heldVertices heldTriangles heldEdges)))
 
 -- a refusal reports no reads
 abbrev pub refusedReport : Refusal → Report
@@ -114,14 +130,20 @@ pub record Fits (s : Star) (vertices : List Float) (triangles store : List ℕ) 
   pub triangles-fit : Room 3 (length (meshOf s .triangles)) triangles
   pub store-fits : length store ≡ storeLength (subdivisions s)
 
+-- the numbers of a mesh's grid edges are laid into the further list, as far as it has places
+pub record Numbered (m : Mesh) (edges : List ℕ) : Type 0 where
+  pub before : List ℕ
+  pub edges-are : edges ≡ layEdges before 0 (m .made)
+
 -- the buffers hold a mesh in their first places, and the store is the mesh's
-pub record Holds (m : Mesh) (counts : Progress) (vertices : List Float) (triangles store : List ℕ) : Type 0 where
+pub record Holds (m : Mesh) (counts : Progress) (vertices : List Float) (triangles store edges : List ℕ) : Type 0 where
   pub vertex-count : counts .vertices ≡ length (m .made)
   pub triangle-count : counts .triangles ≡ length (m .triangles)
   pub read-so-far : ReadSoFar counts
   pub vertices-are : take (6 * counts .vertices) vertices ≡ each vertexFloats (m .made)
   pub triangles-are : take (3 * counts .triangles) triangles ≡ each triangleIndices (m .triangles)
   pub store-is : store ≡ m .store
+  pub numbered : Numbered m edges
 
 -- the case numbers of all cells of so many sheets have been read, and that is no large number
 pub record ReadTo (m : Mesh) (sheets reads : ℕ) : Type 0 where
@@ -133,10 +155,11 @@ abbrev pub mostSheets : ℕ
 mostSheets = mostSubdivisions + sideCount
 
 -- the lent buffers are as long as they were
-pub record SameLengths (vertices₀ vertices : List Float) (triangles₀ triangles store₀ store : List ℕ) : Type 0 where
+pub record SameLengths (vertices₀ vertices : List Float) (triangles₀ triangles store₀ store edges₀ edges : List ℕ) : Type 0 where
   pub vertices-same : length vertices ≡ length vertices₀
   pub triangles-same : length triangles ≡ length triangles₀
   pub store-same : length store ≡ length store₀
+  pub edges-same : length edges ≡ length edges₀
 
 -- room that is just enough, and then what the buffers hold
 pub record Exact (s : Star) (vertices : List Float) (triangles store : List ℕ) : Type 0 where

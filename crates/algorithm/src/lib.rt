@@ -1,13 +1,15 @@
 // Extraction: the mesh of a block and its finer neighbours. The block is judged, the mesh is counted, and then it is written into the lent
 // buffers, cell by cell.
 ghost use mathlib.Core.Path.{_≡_};
+ghost use mathlib.Core.Bool.{cond};
 ghost use Prim.Native.Nat.{_≤_};
 ghost use lib.ListN.{length};
 ghost use Rattle.model.specs.Star.{star};
-ghost use Rattle.model.specs.Mesh.{storeLength};
-ghost use Rattle.model.specs.Extraction.{extract};
+ghost use Rattle.model.specs.Mesh.{storeLength, meshOf};
+ghost use Rattle.model.specs.Extraction.{extract, outcome};
+ghost use Rattle.model.specs.Edges.{extractWhole};
 ghost use Rattle.grid.specs.Shape.{Shaped};
-ghost use Rattle.algorithm.specs.Passes.{judged, counted, refusedReport, Leaves};
+ghost use Rattle.algorithm.specs.Passes.{judged, edgesJudged, roomJudged, numbersLeft, allJudged, refusedReport, Leaves};
 
 pub mod counting;
 mod writing;
@@ -15,6 +17,7 @@ mod writing;
 use counting::count_mesh;
 use grid::shared_vertex_indices::store_length;
 use judge::faces::judge_faces;
+use judge::judge_edges;
 use judge::judge_room;
 use judge::judge_star;
 use judge::judge_store;
@@ -61,7 +64,24 @@ fn refused(refusal: Refusal) -> Report
     }
 }
 
-// The mesh of a block that has passed 1 to 9, or 10.
+// 23, where the further list is asked for.
+fn judge_numbers(numbered: bool, wanted: usize, held: usize) -> Verdict
+    ensures { λ r. ⌜ r ≡ edgesJudged numbered wanted held ⌝ }
+{
+    if numbered {
+        return judge_edges(wanted, held);
+    }
+    Verdict::Passed
+}
+
+// The places of the further list that are written.
+fn numbers_asked(numbered: bool, vertices: usize) -> usize
+    ensures { λ r. ⌜ r ≡ cond numbered vertices 0 ⌝ }
+{
+    if numbered { vertices } else { 0 }
+}
+
+// The mesh of a block that has passed 1 to 9, or 23 or 10.
 fn extract_mesh(
     header: Header,
     centre: &[f32],
@@ -69,12 +89,19 @@ fn extract_mesh(
     store: &mut [u32],
     vertices: &mut [f32],
     triangles: &mut [u32],
+    edges: &mut [u32],
+    numbered: bool,
 ) -> Report
     requires { ⌜ Shaped (star header (now centre) (now neighbours)) ⌝ }
     requires { ⌜ storeLength (header .block .subdivisions) ≤ length (now store) ⌝ }
-    ensures { λ r. ⌜ Leaves (counted (star header (now (centre .entry)) (now (neighbours .entry))) (now (store .entry)) (now (vertices .entry)) (now (triangles .entry))) r (now (store .exit)) (now (vertices .exit)) (now (triangles .exit)) ⌝ }
+    ensures { λ r. ⌜ Leaves (outcome (meshOf (star header (now (centre .entry)) (now (neighbours .entry)))) (now (store .entry)) (now (vertices .entry)) (now (triangles .entry)) (roomJudged numbered (star header (now (centre .entry)) (now (neighbours .entry))) (length (now (vertices .entry))) (length (now (triangles .entry))) (length (now (edges .entry))))) r (now (store .exit)) (now (vertices .exit)) (now (triangles .exit)) ⌝ }
+    ensures edges { λ r. ⌜ now (edges .exit) ≡ numbersLeft numbered (star header (now (centre .entry)) (now (neighbours .entry))) (now (edges .entry)) (roomJudged numbered (star header (now (centre .entry)) (now (neighbours .entry))) (length (now (vertices .entry))) (length (now (triangles .entry))) (length (now (edges .entry)))) ⌝ }
 {
     let counts = count_mesh(header, centre, neighbours);
+    let listed = judge_numbers(numbered, counts.vertices, edges.len());
+    if let Verdict::Refused(too_short) = listed {
+        return refused(too_short);
+    }
     let room = judge_room(counts, vertices.len(), triangles.len());
     if let Verdict::Refused(no_room) = room {
         return refused(no_room);
@@ -82,6 +109,7 @@ fn extract_mesh(
     let places = store_length(header.block.subdivisions);
     let floats = 6 * counts.vertices;
     let indices = 3 * counts.triangles;
+    let numbers = numbers_asked(numbered, counts.vertices);
     let reads = write_mesh(
         header,
         centre,
@@ -89,11 +117,42 @@ fn extract_mesh(
         &mut store[..places],
         &mut vertices[..floats],
         &mut triangles[..indices],
+        &mut edges[..numbers],
     );
     Report {
         answer: Extraction::Mesh(counts),
         reads,
     }
+}
+
+// One core for both calls: the flag says whether the further list is asked for.
+fn extract_numbered(
+    header: Header,
+    centre: &[f32],
+    neighbours: &[f32],
+    store: &mut [u32],
+    vertices: &mut [f32],
+    triangles: &mut [u32],
+    edges: &mut [u32],
+    numbered: bool,
+) -> Report
+    ensures { λ r. ⌜ Leaves (outcome (meshOf (star header (now (centre .entry)) (now (neighbours .entry)))) (now (store .entry)) (now (vertices .entry)) (now (triangles .entry)) (allJudged numbered (star header (now (centre .entry)) (now (neighbours .entry))) (length (now (store .entry))) (length (now (vertices .entry))) (length (now (triangles .entry))) (length (now (edges .entry))))) r (now (store .exit)) (now (vertices .exit)) (now (triangles .exit)) ⌝ }
+    ensures edges { λ r. ⌜ now (edges .exit) ≡ numbersLeft numbered (star header (now (centre .entry)) (now (neighbours .entry))) (now (edges .entry)) (allJudged numbered (star header (now (centre .entry)) (now (neighbours .entry))) (length (now (store .entry))) (length (now (vertices .entry))) (length (now (triangles .entry))) (length (now (edges .entry)))) ⌝ }
+{
+    let verdict = judge(header, centre, neighbours, store.len());
+    if let Verdict::Refused(refusal) = verdict {
+        return refused(refusal);
+    }
+    extract_mesh(
+        header,
+        centre,
+        neighbours,
+        store,
+        vertices,
+        triangles,
+        edges,
+        numbered,
+    )
 }
 
 pub fn extract(
@@ -110,9 +169,44 @@ pub fn extract(
     ensures triangles { λ r. ⌜ now (triangles .exit) ≡ extract (star header (now (centre .entry)) (now (neighbours .entry))) (now (store .entry)) (now (vertices .entry)) (now (triangles .entry)) .triangles ⌝ }
     ensures reads { λ r. ⌜ r .reads ≡ extract (star header (now (centre .entry)) (now (neighbours .entry))) (now (store .entry)) (now (vertices .entry)) (now (triangles .entry)) .reads ⌝ }
 {
-    let verdict = judge(header, centre, neighbours, store.len());
-    if let Verdict::Refused(refusal) = verdict {
-        return refused(refusal);
-    }
-    extract_mesh(header, centre, neighbours, store, vertices, triangles)
+    let mut none = [0u32; 0];
+    extract_numbered(
+        header,
+        centre,
+        neighbours,
+        store,
+        vertices,
+        triangles,
+        &mut none,
+        false,
+    )
+}
+
+// The same, and the number of each vertex's grid edge in a further list (document 02, [10]).
+pub fn extract_whole(
+    header: Header,
+    centre: &[f32],
+    neighbours: &[f32],
+    store: &mut [u32],
+    vertices: &mut [f32],
+    triangles: &mut [u32],
+    edges: &mut [u32],
+) -> Report
+    ensures answer { λ r. ⌜ r .answer ≡ extractWhole (star header (now (centre .entry)) (now (neighbours .entry))) (now (store .entry)) (now (vertices .entry)) (now (triangles .entry)) (now (edges .entry)) .mesh .answer ⌝ }
+    ensures store { λ r. ⌜ now (store .exit) ≡ extractWhole (star header (now (centre .entry)) (now (neighbours .entry))) (now (store .entry)) (now (vertices .entry)) (now (triangles .entry)) (now (edges .entry)) .mesh .store ⌝ }
+    ensures vertices { λ r. ⌜ now (vertices .exit) ≡ extractWhole (star header (now (centre .entry)) (now (neighbours .entry))) (now (store .entry)) (now (vertices .entry)) (now (triangles .entry)) (now (edges .entry)) .mesh .vertices ⌝ }
+    ensures triangles { λ r. ⌜ now (triangles .exit) ≡ extractWhole (star header (now (centre .entry)) (now (neighbours .entry))) (now (store .entry)) (now (vertices .entry)) (now (triangles .entry)) (now (edges .entry)) .mesh .triangles ⌝ }
+    ensures reads { λ r. ⌜ r .reads ≡ extractWhole (star header (now (centre .entry)) (now (neighbours .entry))) (now (store .entry)) (now (vertices .entry)) (now (triangles .entry)) (now (edges .entry)) .mesh .reads ⌝ }
+    ensures edges { λ r. ⌜ now (edges .exit) ≡ extractWhole (star header (now (centre .entry)) (now (neighbours .entry))) (now (store .entry)) (now (vertices .entry)) (now (triangles .entry)) (now (edges .entry)) .edges ⌝ }
+{
+    extract_numbered(
+        header,
+        centre,
+        neighbours,
+        store,
+        vertices,
+        triangles,
+        edges,
+        true,
+    )
 }

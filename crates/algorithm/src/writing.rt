@@ -9,7 +9,7 @@ ghost use Rattle.model.specs.Mesh.{storeLength, regularMesh, meshOf};
 ghost use Rattle.grid.specs.Shape.{Shaped};
 ghost use Rattle.points.specs.Fractions.{Fractions};
 ghost use Rattle.cells.specs.SheetCells.{Tables};
-ghost use Rattle.algorithm.specs.Passes.{Sheeted, Held, SheetIn, rowBefore, sheetBefore, sheetAfter, Fits, Holds, ReadTo, mostSheets, Exact, Written};
+ghost use Rattle.algorithm.specs.Passes.{Sheeted, Held, SheetIn, rowBefore, sheetBefore, sheetAfter, Fits, Holds, ReadTo, mostSheets, Exact, Written, Numbered};
 use crate::NO_LAYER;
 use crate::NO_SIDE;
 use cases::SHEET;
@@ -62,14 +62,15 @@ fn write_row(
     store: &mut [u32],
     vertices: &mut [f32],
     triangles: &mut [u32],
+    edges: &mut [u32],
 ) -> Progress
     requires { ⌜ Tables sheet (now classes) (now cells) (now codes) ⌝ }
     requires { ⌜ Shaped (star header (now centre) (now neighbours)) × Fractions (header .block .subdivisions) (now fractions) ⌝ }
     requires { ⌜ Sheeted (header .block .subdivisions) sheet (now layer) (now side) (now marks) × Held (star header (now centre) (now neighbours)) sheet (header .block .subdivisions) (now layer) (now side) (now marks) ⌝ }
     requires { ⌜ SheetIn (star header (now centre) (now neighbours)) sheet ⌝ }
     requires { ⌜ Fits (star header (now centre) (now neighbours)) (now vertices) (now triangles) (now store) ⌝ }
-    requires { ⌜ (u < header .block .subdivisions) × Holds (rowBefore (star header (now centre) (now neighbours)) sheet u) counts (now vertices) (now triangles) (now store) ⌝ }
-    ensures { λ r. ⌜ Holds (rowBefore (star header (now (centre .entry)) (now (neighbours .entry))) sheet (u + 1)) r (now (vertices .exit)) (now (triangles .exit)) (now (store .exit)) ⌝ }
+    requires { ⌜ (u < header .block .subdivisions) × Holds (rowBefore (star header (now centre) (now neighbours)) sheet u) counts (now vertices) (now triangles) (now store) (now edges) ⌝ }
+    ensures { λ r. ⌜ Holds (rowBefore (star header (now (centre .entry)) (now (neighbours .entry))) sheet (u + 1)) r (now (vertices .exit)) (now (triangles .exit)) (now (store .exit)) (now (edges .exit)) ⌝ }
 {
     let n = header.block.subdivisions;
     let start = (n + 1) * u;
@@ -91,6 +92,7 @@ fn write_row(
             store,
             vertices,
             triangles,
+            edges,
         );
         v = next_marked(n, marks, start, v + 1);
     }
@@ -114,14 +116,15 @@ fn write_sheet(
     store: &mut [u32],
     vertices: &mut [f32],
     triangles: &mut [u32],
+    edges: &mut [u32],
 ) -> Progress
     requires { ⌜ Tables sheet (now classes) (now cells) (now codes) ⌝ }
     requires { ⌜ Shaped (star header (now centre) (now neighbours)) × Fractions (header .block .subdivisions) (now fractions) ⌝ }
     requires { ⌜ Sheeted (header .block .subdivisions) sheet (now layer) (now side) (now marks) × Held (star header (now centre) (now neighbours)) sheet (header .block .subdivisions) (now layer) (now side) (now marks) ⌝ }
     requires { ⌜ SheetIn (star header (now centre) (now neighbours)) sheet ⌝ }
     requires { ⌜ Fits (star header (now centre) (now neighbours)) (now vertices) (now triangles) (now store) ⌝ }
-    requires { ⌜ Holds (sheetBefore (star header (now centre) (now neighbours)) sheet) counts (now vertices) (now triangles) (now store) ⌝ }
-    ensures { λ r. ⌜ Holds (sheetAfter (star header (now (centre .entry)) (now (neighbours .entry))) sheet) r (now (vertices .exit)) (now (triangles .exit)) (now (store .exit)) ⌝ }
+    requires { ⌜ Holds (sheetBefore (star header (now centre) (now neighbours)) sheet) counts (now vertices) (now triangles) (now store) (now edges) ⌝ }
+    ensures { λ r. ⌜ Holds (sheetAfter (star header (now (centre .entry)) (now (neighbours .entry))) sheet) r (now (vertices .exit)) (now (triangles .exit)) (now (store .exit)) (now (edges .exit)) ⌝ }
 {
     let n = header.block.subdivisions;
     let mut u = 0;
@@ -143,6 +146,7 @@ fn write_sheet(
             store,
             vertices,
             triangles,
+            edges,
         );
         u += 1;
     }
@@ -157,11 +161,12 @@ fn write_regular_cells(
     store: &mut [u32],
     vertices: &mut [f32],
     triangles: &mut [u32],
+    edges: &mut [u32],
 ) -> Pass
     requires { ⌜ Shaped (star header (now centre) (now neighbours)) × Fractions (header .block .subdivisions) (now fractions) ⌝ }
     requires { ⌜ Fits (star header (now centre) (now neighbours)) (now vertices) (now triangles) (now store) ⌝ }
     requires { ⌜ now store ≡ replicate (storeLength (header .block .subdivisions)) 0 ⌝ }
-    ensures { λ r. ⌜ Holds (regularMesh (star header (now (centre .entry)) (now (neighbours .entry)))) (r .counts) (now (vertices .exit)) (now (triangles .exit)) (now (store .exit)) ⌝ }
+    ensures { λ r. ⌜ Holds (regularMesh (star header (now (centre .entry)) (now (neighbours .entry)))) (r .counts) (now (vertices .exit)) (now (triangles .exit)) (now (store .exit)) (now (edges .exit)) ⌝ }
     ensures reads { λ r. ⌜ ReadTo (regularMesh (star header (now (centre .entry)) (now (neighbours .entry)))) mostSubdivisions (r .reads) ⌝ }
 {
     let n = header.block.subdivisions;
@@ -191,6 +196,7 @@ fn write_regular_cells(
             store,
             vertices,
             triangles,
+            edges,
         );
         x += 1;
     }
@@ -206,12 +212,13 @@ fn write_named_sides(
     store: &mut [u32],
     vertices: &mut [f32],
     triangles: &mut [u32],
+    edges: &mut [u32],
 ) -> Pass
     requires { ⌜ Shaped (star header (now centre) (now neighbours)) × Fractions (header .block .subdivisions) (now fractions) ⌝ }
     requires { ⌜ Fits (star header (now centre) (now neighbours)) (now vertices) (now triangles) (now store) ⌝ }
-    requires { ⌜ Holds (regularMesh (star header (now centre) (now neighbours))) (before .counts) (now vertices) (now triangles) (now store) ⌝ }
+    requires { ⌜ Holds (regularMesh (star header (now centre) (now neighbours))) (before .counts) (now vertices) (now triangles) (now store) (now edges) ⌝ }
     requires { ⌜ ReadTo (regularMesh (star header (now centre) (now neighbours))) mostSubdivisions (before .reads) ⌝ }
-    ensures { λ r. ⌜ Holds (meshOf (star header (now (centre .entry)) (now (neighbours .entry)))) (r .counts) (now (vertices .exit)) (now (triangles .exit)) (now (store .exit)) ⌝ }
+    ensures { λ r. ⌜ Holds (meshOf (star header (now (centre .entry)) (now (neighbours .entry)))) (r .counts) (now (vertices .exit)) (now (triangles .exit)) (now (store .exit)) (now (edges .exit)) ⌝ }
     ensures reads { λ r. ⌜ ReadTo (meshOf (star header (now (centre .entry)) (now (neighbours .entry)))) mostSheets (r .reads) ⌝ }
 {
     let mask = header.mask;
@@ -241,6 +248,7 @@ fn write_named_sides(
             store,
             vertices,
             triangles,
+            edges,
         );
         side = next_side(mask, side + 1);
     }
@@ -257,12 +265,13 @@ fn write_transition_cells(
     store: &mut [u32],
     vertices: &mut [f32],
     triangles: &mut [u32],
+    edges: &mut [u32],
 ) -> Pass
     requires { ⌜ Shaped (star header (now centre) (now neighbours)) × Fractions (header .block .subdivisions) (now fractions) ⌝ }
     requires { ⌜ Fits (star header (now centre) (now neighbours)) (now vertices) (now triangles) (now store) ⌝ }
-    requires { ⌜ Holds (regularMesh (star header (now centre) (now neighbours))) (before .counts) (now vertices) (now triangles) (now store) ⌝ }
+    requires { ⌜ Holds (regularMesh (star header (now centre) (now neighbours))) (before .counts) (now vertices) (now triangles) (now store) (now edges) ⌝ }
     requires { ⌜ ReadTo (regularMesh (star header (now centre) (now neighbours))) mostSubdivisions (before .reads) ⌝ }
-    ensures { λ r. ⌜ Holds (meshOf (star header (now (centre .entry)) (now (neighbours .entry)))) (r .counts) (now (vertices .exit)) (now (triangles .exit)) (now (store .exit)) ⌝ }
+    ensures { λ r. ⌜ Holds (meshOf (star header (now (centre .entry)) (now (neighbours .entry)))) (r .counts) (now (vertices .exit)) (now (triangles .exit)) (now (store .exit)) (now (edges .exit)) ⌝ }
     ensures reads { λ r. ⌜ ReadTo (meshOf (star header (now (centre .entry)) (now (neighbours .entry)))) mostSheets (r .reads) ⌝ }
 {
     if header.mask == 0 {
@@ -277,6 +286,7 @@ fn write_transition_cells(
         store,
         vertices,
         triangles,
+        edges,
     )
 }
 
@@ -299,11 +309,13 @@ pub fn write_mesh(
     store: &mut [u32],
     vertices: &mut [f32],
     triangles: &mut [u32],
+    edges: &mut [u32],
 ) -> u64
     requires { ⌜ Shaped (star header (now centre) (now neighbours)) ⌝ }
     requires { ⌜ Exact (star header (now centre) (now neighbours)) (now vertices) (now triangles) (now store) ⌝ }
     ensures { λ _. ⌜ Written (meshOf (star header (now (centre .entry)) (now (neighbours .entry)))) (now (vertices .exit)) (now (triangles .exit)) (now (store .exit)) ⌝ }
     ensures reads { λ r. ⌜ r ≡ meshOf (star header (now (centre .entry)) (now (neighbours .entry))) .reads ⌝ }
+    ensures edges { λ r. ⌜ Numbered (meshOf (star header (now (centre .entry)) (now (neighbours .entry)))) (now (edges .exit)) ⌝ }
 {
     clear(store);
     let fractions = fractions_of(header.block.subdivisions);
@@ -315,6 +327,7 @@ pub fn write_mesh(
         store,
         vertices,
         triangles,
+        edges,
     );
     let all = write_transition_cells(
         header,
@@ -325,6 +338,7 @@ pub fn write_mesh(
         store,
         vertices,
         triangles,
+        edges,
     );
     all.reads + all.counts.reads
 }

@@ -19,6 +19,7 @@ use Rattle.model.specs.Mesh.{Cell, fillTo, regularCell, transitionCell}
 use Rattle.cells.specs.declared.CellIndex.{CellIndex}
 use Rattle.cells.specs.declared.SheetIndex.{SheetIndex}
 use Rattle.cells.specs.declared.SheetIndex.the-variants.{Layer, Side}
+use Rattle.cells.specs.Buffers.{layEdges}
 use Rattle.cells.specs.Puts.{Room, CellPut, Adds}
 use Rattle.cells.specs.Rows.{Followed}
 use Rattle.cells.specs.Kinds.{Usable, cellOf, Coded}
@@ -38,6 +39,10 @@ module _ {c d : Cell} (same : c ≡ d) where
       → CellPut c nv nt vertices triangles store nv′ nt′ reads vertices′ triangles′ store′
       → CellPut d nv nt vertices triangles store nv′ nt′ reads vertices′ triangles′ store′
   put-as nv nt vertices triangles store nv′ nt′ reads vertices′ triangles′ store′ put = rw same at put
+
+  pub edges-as : (nv : ℕ) (edges store edges′ : List ℕ) → edges′ ≡ layEdges edges nv (fillTo c nv store (c .vertices) .made)
+      → edges′ ≡ layEdges edges nv (fillTo d nv store (d .vertices) .made)
+  edges-as nv edges store edges′ e = rw same at e
 
   pub adds-as : {dv dt : ℕ} → Adds c dv dt → Adds d dv dt
   adds-as adds = rw same at adds

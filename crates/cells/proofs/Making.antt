@@ -1,5 +1,5 @@
 -- The vertex of a code, put together from what the functions over its two points ensure.
-use Prim.Native.Nat.{ℕ}
+use Prim.Native.Nat.{ℕ, _+_, _-_, _*_, _/_}
 use mathlib.Core.Path.{_≡_}
 use native.Mathlib.Omega.{arith}
 use Rattle.tables.specs.Codes.{pointA, pointB}
@@ -11,7 +11,8 @@ use Rattle.model.specs.declared.Vertex.{Vertex}
 use Rattle.model.specs.Formulas.{vertexBetween}
 use Rattle.model.specs.Star.{Star}
 use Rattle.model.specs.Points.{cornerPoint, regularPoint, transitionPoint}
-use Rattle.model.specs.Mesh.{regularVertex, transitionVertex}
+use Rattle.model.specs.Samples.{inBlock}
+use Rattle.model.specs.Mesh.{regularEdge, regularVertex, transitionVertex}
 use Rattle.grid.specs.Places.{Within}
 use Rattle.points.specs.CellPoints.{InCell, cell-point-in}
 use Rattle.cells.specs.Kinds.{InBlock}
@@ -25,6 +26,12 @@ pub regular-made : (s : Star) (x y z code ka kb : ℕ) (pa pb : Xyz) (v : Vertex
     → v ≡ vertexBetween (s .threshold) (regularPoint s pa) (regularPoint s pb) → v ≡ regularVertex s x y z code
 unfolding regularVertex
 regular-made s x y z code ka kb pa pb v ea eb ep eq ev = rw (ev, ep, eq, ea, eb)
+
+pub edge-made : (n x y z code ka kb place axis : ℕ) (low : Xyz)
+    → ka ≡ pointA code → kb ≡ pointB code → low ≡ cornerPoint x y z ka → place ≡ inBlock n (low .x) (low .y) (low .z) → axis ≡ (kb - ka) / 2
+    → 3 * place + axis ≡ regularEdge n x y z code
+unfolding regularEdge
+edge-made n x y z code ka kb place axis low ea eb el ep ex = rw (ep, ex, el, ea, eb)
 
 pub point-in-cell : (i : ℕ) (p : CellPoint) → p ≡ cellPoint i → InCell p
 point-in-cell i p e = rw e (cell-point-in i)

@@ -33,8 +33,9 @@ module _ {c : Cell} {nv nt : ℕ} {vertices v v′ : List Float} {triangles stor
     (pinned (h .store-is) (k .store-is), (pinned (h .vertices-are) (k .vertices-are), pinned (h .triangles-are) (k .triangles-are))),
   )
 
-pub write-sheet-cell-pinned : (κs : Lfts 9) (a : _) (r r′ : _) (e e′ : _) → write-sheet-cell.Learnt κs a r e → write-sheet-cell.Learnt κs a r′ e′
+pub write-sheet-cell-pinned : (κs : Lfts 10) (a : _) (r r′ : _) (e e′ : _) → write-sheet-cell.Learnt κs a r e → write-sheet-cell.Learnt κs a r′ e′
     → let x = e .1 .1 .1 .1 .1 .1 .1 .1 .1 .1 .1 .1 in
     let y = e′ .1 .1 .1 .1 .1 .1 .1 .1 .1 .1 .1 .1 in
-    (r ≡ r′) × ((now (x .0) ≡ now (y .0)) × ((now (x .1 .0) ≡ now (y .1 .0)) × (now (x .1 .1 .0) ≡ now (y .1 .1 .0))))
-write-sheet-cell-pinned κs a r r′ e e′ h k = one-outcome h k
+    ((r ≡ r′) × ((now (x .0) ≡ now (y .0)) × ((now (x .1 .0) ≡ now (y .1 .0)) × (now (x .1 .1 .0) ≡ now (y .1 .1 .0)))))
+    × (now (x .1 .1 .1 .0) ≡ now (y .1 .1 .1 .0))
+write-sheet-cell-pinned κs a r r′ e e′ h k = (one-outcome (h .0) (k .0), pinned (h .1) (k .1))

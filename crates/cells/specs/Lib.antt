@@ -5,5 +5,6 @@ pub mod Kinds
 pub mod Inner
 pub mod SheetCells
 pub mod Fills
+pub mod Edges
 pub mod Uncut
 pub mod SheetNumbers

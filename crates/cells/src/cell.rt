@@ -6,12 +6,14 @@ ghost use lib.ListN.{length};
 ghost use Rattle.tables.specs.Cases.{verticesOf, trianglesOf};
 ghost use Rattle.model.specs.Star.{Star, star};
 ghost use Rattle.model.specs.Mesh.{storeLength, fillTo};
+ghost use Rattle.cells.specs.Buffers.{layEdges};
 ghost use Rattle.cells.specs.Puts.{Room, ReadSoFar, CellPut, Adds, Few};
 ghost use Rattle.cells.specs.Rows.{Followed};
 ghost use Rattle.cells.specs.Kinds.{Ready, Coded, cellOf};
 use crate::CellIndex;
 use crate::Progress;
 use crate::codes::count_made;
+use crate::edges::put_edges;
 use crate::triangles::put_triangles;
 use crate::triangles::triangle_count;
 use crate::triangles::vertex_count;
@@ -33,6 +35,7 @@ pub fn write_cell(
     store: &mut [u32],
     vertices: &mut [f32],
     triangles: &mut [u32],
+    edges: &mut [u32],
 ) -> Progress
     requires { ⌜ Ready (star header (now centre) (now neighbours)) (now fractions) at ⌝ }
     requires { ⌜ Coded at (now codes) (verticesOf (now row)) × Followed (now row) ⌝ }
@@ -40,6 +43,7 @@ pub fn write_cell(
     requires { ⌜ Room 6 (counts .vertices + length (fillTo (cellOf (star header (now centre) (now neighbours)) at (now codes) (now row) turned) (counts .vertices) (now store) (verticesOf (now row)) .made)) (now vertices) ⌝ }
     requires { ⌜ Room 3 (counts .triangles + trianglesOf (now row)) (now triangles) × ReadSoFar counts ⌝ }
     ensures { λ r. ⌜ CellPut (cellOf (star header (now (centre .entry)) (now (neighbours .entry))) at (now (codes .entry)) (now (row .entry)) turned) (counts .vertices) (counts .triangles) (now (vertices .entry)) (now (triangles .entry)) (now (store .entry)) (r .vertices) (r .triangles) (r .reads) (now (vertices .exit)) (now (triangles .exit)) (now (store .exit)) ⌝ }
+    ensures edges { λ r. ⌜ now (edges .exit) ≡ layEdges (now (edges .entry)) (counts .vertices) (fillTo (cellOf (star header (now (centre .entry)) (now (neighbours .entry))) at (now (codes .entry)) (now (row .entry)) turned) (counts .vertices) (now (store .entry)) (verticesOf (now (row .entry))) .made) ⌝ }
 {
     let base = counts.vertices;
     let filled = fill_cell(
@@ -55,6 +59,7 @@ pub fn write_cell(
         base,
     );
     let cell = filled.cell;
+    put_edges(header.block.subdivisions, at, codes, row, edges, base);
     let made = put_triangles(row, turned, &cell.index, triangles, counts.triangles);
     let reads = counts.reads + filled.reads;
     Progress {

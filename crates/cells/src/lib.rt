@@ -3,6 +3,7 @@
 mod buffers;
 mod cell;
 mod codes;
+mod edges;
 pub mod sheet_cells;
 mod triangles;
 mod vertices;

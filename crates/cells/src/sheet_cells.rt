@@ -5,6 +5,7 @@ ghost use lib.ListN.{length, getD};
 ghost use Rattle.model.specs.Star.{Star, star};
 ghost use Rattle.model.specs.Mesh.{storeLength, fillTo};
 ghost use Rattle.cells.specs.Kinds.{Ready};
+ghost use Rattle.cells.specs.Buffers.{layEdges};
 ghost use Rattle.cells.specs.Puts.{Room, ReadSoFar, CellPut, Adds, Few};
 ghost use Rattle.cells.specs.SheetCells.{cellAt, allOf, caseAt, sheetOf, sheetCell, classArray, cellArray, codeArray, Tables, codesOf, rowOf, turnedOf, awayFromLow};
 use crate::CellIndex;
@@ -96,6 +97,7 @@ pub fn write_sheet_cell(
     store: &mut [u32],
     vertices: &mut [f32],
     triangles: &mut [u32],
+    edges: &mut [u32],
 ) -> Progress
     requires { ⌜ Tables sheet (now classes) (now cells) (now codes) ⌝ }
     requires { ⌜ Ready (star header (now centre) (now neighbours)) (now fractions) (cellAt sheet u v) ⌝ }
@@ -104,6 +106,7 @@ pub fn write_sheet_cell(
     requires { ⌜ Room 6 (counts .vertices + length (fillTo (sheetCell (star header (now centre) (now neighbours)) sheet u v) (counts .vertices) (now store) (sheetCell (star header (now centre) (now neighbours)) sheet u v .vertices) .made)) (now vertices) ⌝ }
     requires { ⌜ Room 3 (counts .triangles + sheetCell (star header (now centre) (now neighbours)) sheet u v .triangles) (now triangles) × ReadSoFar counts ⌝ }
     ensures { λ r. ⌜ CellPut (sheetCell (star header (now (centre .entry)) (now (neighbours .entry))) sheet u v) (counts .vertices) (counts .triangles) (now (vertices .entry)) (now (triangles .entry)) (now (store .entry)) (r .vertices) (r .triangles) (r .reads) (now (vertices .exit)) (now (triangles .exit)) (now (store .exit)) ⌝ }
+    ensures edges { λ r. ⌜ now (edges .exit) ≡ layEdges (now (edges .entry)) (counts .vertices) (fillTo (sheetCell (star header (now (centre .entry)) (now (neighbours .entry))) sheet u v) (counts .vertices) (now (store .entry)) (sheetCell (star header (now (centre .entry)) (now (neighbours .entry))) sheet u v .vertices) .made) ⌝ }
 {
     write_cell(
         header,
@@ -118,6 +121,7 @@ pub fn write_sheet_cell(
         store,
         vertices,
         triangles,
+        edges,
     )
 }
 

@@ -68,7 +68,7 @@ fn place(n: usize, at: CellIndex, r: usize) -> usize
     }
 }
 
-fn corner_point(at: Xyz, k: usize) -> Xyz
+pub fn corner_point(at: Xyz, k: usize) -> Xyz
     requires { ⌜ InBlock mostSubdivisions (at .x) (at .y) (at .z) ⌝ }
     ensures { λ r. ⌜ r ≡ cornerPoint (at .x) (at .y) (at .z) k ⌝ }
 {

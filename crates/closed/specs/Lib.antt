@@ -10,6 +10,8 @@ pub mod Counted
 pub mod Outer
 pub mod NoHole
 pub mod Front
+pub mod Marks
+pub mod Renamed
 pub mod SideCells
 pub mod Indices
 pub mod Wrong

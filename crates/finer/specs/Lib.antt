@@ -21,6 +21,8 @@ pub mod Borders
 pub mod Faces
 pub mod CoarseFaces
 pub mod Planes
+-- and of a mesh whose vertices are named anew
+pub mod Renamed
 -- what it rules out
 pub mod Wrong
 pub mod Refuted

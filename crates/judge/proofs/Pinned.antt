@@ -7,6 +7,7 @@ use Rattle.judge.proofs.unless.Reads as unless
 use Rattle.judge.proofs.judge_subdivisions.Reads as judge-subdivisions
 use Rattle.judge.proofs.judge_mask.Reads as judge-mask
 use Rattle.judge.proofs.judge_buffer.Reads as judge-buffer
+use Rattle.judge.proofs.judge_edges.Reads as judge-edges
 use Rattle.judge.proofs.judge_room.Reads as judge-room
 use Rattle.judge.proofs.judge_store.Reads as judge-store
 use Rattle.judge.proofs.is_usable.Reads as is-usable
@@ -14,6 +15,7 @@ use Rattle.judge.proofs.judge_lent.Reads as judge-lent
 use Rattle.judge.proofs.judge_star.Reads as judge-star
 use Rattle.judge.proofs.faces.judge_faces.Reads as judge-faces
 use Rattle.judge.proofs.point_read.answered.Reads as answered
+use Rattle.judge.proofs.corners.judge_named.Reads as judge-named
 use Rattle.judge.proofs.point_read.read_point.Reads as read-point
 
 pub numbers-of-pinned : (κs : Lfts 0) (a : _) (r r′ : _) (e e′ : _) → numbers-of.Learnt κs a r e → numbers-of.Learnt κs a r′ e′ → r ≡ r′
@@ -30,6 +32,9 @@ judge-mask-pinned κs a r r′ e e′ h k = pinned h k
 
 pub judge-buffer-pinned : (κs : Lfts 0) (a : _) (r r′ : _) (e e′ : _) → judge-buffer.Learnt κs a r e → judge-buffer.Learnt κs a r′ e′ → r ≡ r′
 judge-buffer-pinned κs a r r′ e e′ h k = pinned h k
+
+pub judge-edges-pinned : (κs : Lfts 0) (a : _) (r r′ : _) (e e′ : _) → judge-edges.Learnt κs a r e → judge-edges.Learnt κs a r′ e′ → r ≡ r′
+judge-edges-pinned κs a r r′ e e′ h k = pinned h k
 
 pub judge-room-pinned : (κs : Lfts 0) (a : _) (r r′ : _) (e e′ : _) → judge-room.Learnt κs a r e → judge-room.Learnt κs a r′ e′ → r ≡ r′
 judge-room-pinned κs a r r′ e e′ h k = pinned h k
@@ -51,6 +56,9 @@ judge-faces-pinned κs a r r′ e e′ h k = pinned h k
 
 pub answered-pinned : (κs : Lfts 0) (a : _) (r r′ : _) (e e′ : _) → answered.Learnt κs a r e → answered.Learnt κs a r′ e′ → r ≡ r′
 answered-pinned κs a r r′ e e′ h k = pinned h k
+
+pub judge-named-pinned : (κs : Lfts 1) (a : _) (r r′ : _) (e e′ : _) → judge-named.Learnt κs a r e → judge-named.Learnt κs a r′ e′ → r ≡ r′
+judge-named-pinned κs a r r′ e e′ h k = pinned h k
 
 pub read-point-pinned : (κs : Lfts 1) (a : _) (r r′ : _) (e e′ : _) → read-point.Learnt κs a r e → read-point.Learnt κs a r′ e′ → r ≡ r′
 read-point-pinned κs a r r′ e e′ h k = pinned h k

@@ -6,3 +6,4 @@ pub mod Lengths
 pub mod Passing
 pub mod PointReads
 pub mod Faces
+pub mod Corners

@@ -4,9 +4,11 @@ ghost use Prim.Native.Nat.{_≤_};
 ghost use Rattle.model.specs.Limits.{mostSubdivisions};
 ghost use Rattle.model.specs.Refusals.{numbers, numbersOf, unless, orElse};
 ghost use Rattle.model.specs.Judging.{usable, usableSize, judgeSubdivisions, judgeMask, judgeMeasures, judgeBuffer, judgeRoom, judgeStore, judgeLent, judgeStar};
+ghost use Rattle.model.specs.Edges.{judgeEdges};
 ghost use Rattle.model.specs.Star.{star};
 ghost use Rattle.judge.specs.Parts.{judgeBase};
 
+pub mod corners;
 pub mod faces;
 mod lengths;
 pub mod point_read;
@@ -67,6 +69,7 @@ pub fn numbers_of(refusal: Refusal) -> Numbers
         Refusal::VolumeSize => numbers(20, 0, 0, 0),
         Refusal::VolumeLength => numbers(21, 0, 0, 0),
         Refusal::FirstPoint => numbers(22, 0, 0, 0),
+        Refusal::EdgesTooShort(wanted) => numbers(23, wanted, 0, 0),
     }
 }
 
@@ -141,6 +144,13 @@ pub fn judge_buffer(wanted: usize, held: usize) -> Verdict
     ensures { λ r. ⌜ r ≡ judgeBuffer wanted held ⌝ }
 {
     unless(wanted <= held, Refusal::BufferTooShort(wanted))
+}
+
+// 23, of extraction's further list and of the weld.
+pub fn judge_edges(wanted: usize, held: usize) -> Verdict
+    ensures { λ r. ⌜ r ≡ judgeEdges wanted held ⌝ }
+{
+    unless(wanted <= held, Refusal::EdgesTooShort(wanted))
 }
 
 pub fn judge_room(wanted: Counts, vertices: usize, triangles: usize) -> Verdict

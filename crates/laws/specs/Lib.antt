@@ -7,6 +7,7 @@ pub mod Laying
 pub mod Filled
 pub mod Gathered
 pub mod Rounds
+pub mod LaidBuffers
 pub mod Sums
 pub mod Squares
 -- tests as Bools, and counting what passes one
@@ -15,3 +16,5 @@ pub mod Below
 pub mod Counting
 -- what tests and sums over a range come to
 pub mod Ranges
+-- bits of a number
+pub mod Bits

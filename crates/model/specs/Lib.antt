@@ -11,7 +11,9 @@ pub mod OverCells
 pub mod Adding
 pub mod Reads
 pub mod Judging
+pub mod Corners
 pub mod Extraction
+pub mod Edges
 pub mod Words
 pub mod Record
 pub mod Blank

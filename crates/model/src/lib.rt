@@ -1,6 +1,9 @@
 // What a reader must believe: the plain types here, and in specs/ the definition of everything that the other crates
 // are proved against, in document 01's words. Those marked repr(C) pass between this code and its callers in C and Rust.
 
+// What stands for a transition vertex's grid edge, which it has not.
+pub const NO_EDGE: u32 = 4294967295;
+
 // Three whole numbers, one for each axis: a grid point, a cell, an origin, the sizes of a volume.
 #[repr(C)]
 pub struct Xyz {
@@ -109,6 +112,7 @@ pub enum Refusal {
     VolumeSize,
     VolumeLength,
     FirstPoint,
+    EdgesTooShort(usize),
 }
 
 // A refusal as document 01 gives it out.

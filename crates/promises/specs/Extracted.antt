@@ -35,7 +35,7 @@ module _ (m : Mesh) (lent : Lent) where
   abbrev meshed : Counts
   meshed = record { vertices = length (m .made); triangles = length (m .triangles) }
 
-  mesh-answered : (v : Verdict) (c : Counts) → came v .answer ≡ Extraction.Mesh c → (v ≡ Passed) × (c ≡ meshed)
+  pub mesh-answered : (v : Verdict) (c : Counts) → came v .answer ≡ Extraction.Mesh c → (v ≡ Passed) × (c ≡ meshed)
   unfolding outcome
   mesh-answered Passed c e = (refl, cc)
   mesh-answered (Refused q) c e = (cc, cc)

@@ -176,7 +176,7 @@ lent-numbered block mask threshold centre neighbours =
     subdivisions-number n & mask-number mask & measures-number block threshold & centre-number n centre & missing-number n mask neighbours &
     by-unless (leb neighbours long) (NeighboursTooLong long) & tt
 
-block-numbered : (s : Star) → Numbered (blockJudges s)
+pub block-numbered : (s : Star) → Numbered (blockJudges s)
 block-numbered s =
     numbered-append (take 6 (blockJudges s)) (drop 6 (blockJudges s))
     (lent-numbered (s .block) (s .mask) (s .threshold) (length (s .centre)) (length (s .neighbours)))

@@ -20,6 +20,7 @@ use Rattle.promises.specs.VolumeKept.{volume-kept}
 use Rattle.promises.specs.LargerKept.{larger-kept}
 use Rattle.promises.specs.SheetKept.{sheet-kept}
 use Rattle.promises.specs.RepairKept.{repair-kept}
+use Rattle.promises.specs.WeldKept.{weld-kept}
 use Rattle.promises.specs.Views.{point, packed-record, subdivisions-apart, blank-apart, viewer-sample}
 
 pub kept : Promises
@@ -53,5 +54,6 @@ kept =
       larger = larger-kept;
       sheet = sheet-kept;
       repair = repair-kept;
+      weld = weld-kept;
       starred = figures-agree;
     }

@@ -1,6 +1,7 @@
 -- what is promised, and the words that it is said in
 pub mod Promises
 pub mod Stl
+pub mod Weld
 pub mod Nesting
 pub mod PlaceKinds
 pub mod Blank
@@ -27,6 +28,10 @@ pub mod Records
 pub mod Room
 pub mod Views
 pub mod StlKept
+pub mod WeldExtracted
+pub mod WeldRenamed
+pub mod WeldFinerKept
+pub mod WeldKept
 pub mod NestingKept
 pub mod PlaceKindsKept
 pub mod BlankKept

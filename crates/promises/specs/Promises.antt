@@ -44,6 +44,7 @@ use Rattle.promises.specs.Volume.{VolumePromises}
 use Rattle.promises.specs.Larger.{LargerPromises}
 use Rattle.promises.specs.Sheet.{SheetPromises}
 use Rattle.promises.specs.Repair.{RepairPromises}
+use Rattle.promises.specs.Weld.{WeldPromises}
 
 -- ---- 1. every call is answered
 
@@ -158,5 +159,6 @@ pub record Promises : Type 0 where
   pub larger : LargerPromises
   pub sheet : SheetPromises
   pub repair : RepairPromises
+  pub weld : WeldPromises
   -- what the definitions work out is what document 01 states
   pub starred : map (λ (f : Figure). f .worked) figures ≡ map (λ (f : Figure). f .stated) figures

@@ -17,7 +17,8 @@ use Rattle.words.specs.Orders.{Bytes}
 use Rattle.words.specs.Floats.{Fit}
 use Rattle.stl.specs.declared.StlWritten.the-variants as StlWritten
 use Rattle.stl.specs.declared.StlRead.the-variants as StlRead
-use Rattle.stl.specs.Definition.{vertexCount, triangleCount, cornerOf, fileOf, fileLength, judgeMany, judgeNamed, writeStl, countIn, floatCount, positionsIn, judgeFile, readStl}
+use Rattle.model.specs.Corners.{triangleCount, cornerOf, judgeNamed}
+use Rattle.stl.specs.Definition.{vertexCount, fileOf, fileLength, judgeMany, writeStl, countIn, floatCount, positionsIn, judgeFile, readStl}
 use Rattle.stl.specs.Files.{Plain, SameCorners, ThreeEach, NumbersIn}
 use Rattle.promises.specs.Left.{Laid, Lent, answered, left}
 use Rattle.promises.specs.Orders.{Judge, judge, Judged}

@@ -30,7 +30,8 @@ use Rattle.closed.specs.Clauses.{noTriangle, triangleAt}
 use Rattle.closed.specs.Indices.{names-vertices}
 use Rattle.stl.specs.declared.StlWritten.the-variants as StlWritten
 use Rattle.stl.specs.declared.StlRead.the-variants as StlRead
-use Rattle.stl.specs.Definition.{vertexCount, triangleCount, fileOf, startLength, fileLength, mostTriangles, judgeMany, named, judgeNamed, judgeWriting, writeAnswer, writeStl, countIn, floatCount, positionsIn, judgeFile, judgeReading, ReadOutcome, readAnswer, readStl}
+use Rattle.model.specs.Corners.{triangleCount, named, judgeNamed}
+use Rattle.stl.specs.Definition.{vertexCount, fileOf, startLength, fileLength, mostTriangles, judgeMany, judgeWriting, writeAnswer, writeStl, countIn, floatCount, positionsIn, judgeFile, judgeReading, ReadOutcome, readAnswer, readStl}
 use Rattle.stl.specs.Named.{AllName, all-name-passes}
 use Rattle.stl.specs.Parts.{length-file}
 use Rattle.stl.specs.Read.{was-read, length-positions, same-read}

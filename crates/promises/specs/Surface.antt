@@ -23,7 +23,7 @@ use Rattle.promises.specs.Left.{Lent, numberIn, cornerIn, vertexIn, tria
 -- place j of item k of what is laid into a buffer
 module _ {A B : Type 0} (f : A → List B) (w : ℕ) (wide : (a : A) → length (f a) ≡ w) (l : List A) (before after : List B)
     (left : after ≡ laid (each f l) before) where
-  laid-at : (k j : ℕ) (d : A) (e : B) → k < length l → j < w → getD after (w * k + j) e ≡ getD (f (getD l k d)) j e
+  pub laid-at : (k j : ℕ) (d : A) (e : B) → k < length l → j < w → getD after (w * k + j) e ≡ getD (f (getD l k d)) j e
   laid-at k j d e h small =
       ap (λ (b : List B). getD b (w * k + j) e) left
       ∙ List·getD-append (each f l) _ e (w * k + j) (rw (length-each f w l wide) (omega (arith, mul-le-mul-left w h, mul-suc w k)))
@@ -36,7 +36,7 @@ begun-at {A} all first more d k e h =
     (rw (e, length-append) (omega arith), ap (λ (l : List A). getD l k d) e ∙ List·getD-append first more d k h)
 
 -- a surface is its vertices and its triangles, whatever its store and its reads
-as-surface : (s : Star) (m : Mesh) (made : List Made) (triangles : List Triangle) (store : List ℕ) → m .made ≡ made → m .triangles ≡ triangles
+pub as-surface : (s : Star) (m : Mesh) (made : List Made) (triangles : List Triangle) (store : List ℕ) → m .made ≡ made → m .triangles ≡ triangles
     → NoHole s m → NoHole s (record { made = made; triangles = triangles; store = store; reads = 0 })
 unfolding runs sides
 as-surface s m made triangles store e f h =
@@ -56,7 +56,7 @@ as-surface s m made triangles store e f h =
 module _ (s : Star) (b : Lent) (vertices : List Float) (triangles : List ℕ)
     (vertices-left : b .vertices ≡ laid (each vertexFloats (meshOf s .made)) vertices)
     (triangles-left : b .triangles ≡ laid (each triangleIndices (meshOf s .triangles)) triangles) where
-  number-is : (i k : ℕ) → i < length (meshOf s .made) → k < 6 → numberIn b i k ≡ getD (vertexFloats (getD (meshOf s .made) i noVertex)) k nan
+  pub number-is : (i k : ℕ) → i < length (meshOf s .made) → k < 6 → numberIn b i k ≡ getD (vertexFloats (getD (meshOf s .made) i noVertex)) k nan
   number-is i k h small = laid-at vertexFloats 6 (λ m. refl) (meshOf s .made) vertices (b .vertices) vertices-left i k noVertex nan h small
 
   pub vertex-is : (i : ℕ) → i < length (meshOf s .made)

@@ -5,12 +5,14 @@ use contract.Lifetimes.{Lfts}
 use denote.Ref.{now}
 use Rattle.model.specs.Pinned.{pinned}
 use Rattle.sirveshan.proofs.sirveshan_extract.Reads as extract
+use Rattle.sirveshan.proofs.sirveshan_extract_whole.Reads as extract-whole
 use Rattle.sirveshan.proofs.sirveshan_read.Reads as read
 use Rattle.sirveshan.proofs.sirveshan_write.Reads as write
 use Rattle.sirveshan.proofs.sirveshan_write_stl.Reads as write-stl
 use Rattle.sirveshan.proofs.sirveshan_read_stl.Reads as read-stl
 use Rattle.sirveshan.proofs.sirveshan_repair.Reads as repair
 use Rattle.sirveshan.proofs.sirveshan_cut.Reads as cut
+use Rattle.sirveshan.proofs.sirveshan_weld.Reads as weld
 use Rattle.sirveshan.proofs.sirveshan_subdivisions.Reads as subdivisions
 use Rattle.sirveshan.proofs.sirveshan_blank.Reads as blank
 use Rattle.sirveshan.proofs.sirveshan_sample.Reads as sample
@@ -24,6 +26,16 @@ pub sirveshan-extract-pinned : (κs : Lfts 5) (a : _) (r r′ : _) (e e′ : _) 
     × ((now (e .1 .1 .1 .1 .0) ≡ now (e′ .1 .1 .1 .1 .0)) × (now (e .1 .1 .1 .1 .1 .0) ≡ now (e′ .1 .1 .1 .1 .1 .0))))
 sirveshan-extract-pinned κs a r r′ e e′ h k =
     (λ i. pinned h k i .answer, (λ i. pinned h k i .store, (λ i. pinned h k i .vertices, λ i. pinned h k i .triangles)))
+
+pub sirveshan-extract-whole-pinned : (κs : Lfts 6) (a : _) (r r′ : _) (e e′ : _) → extract-whole.Learnt κs a r e → extract-whole.Learnt κs a r′ e′
+    → (r ≡ r′)
+    × ((now (e .1 .1 .1 .0) ≡ now (e′ .1 .1 .1 .0))
+    × ((now (e .1 .1 .1 .1 .0) ≡ now (e′ .1 .1 .1 .1 .0))
+    × ((now (e .1 .1 .1 .1 .1 .0) ≡ now (e′ .1 .1 .1 .1 .1 .0)) × (now (e .1 .1 .1 .1 .1 .1 .0) ≡ now (e′ .1 .1 .1 .1 .1 .1 .0)))))
+sirveshan-extract-whole-pinned κs a r r′ e e′ h k = (
+  λ i. pinned h k i .answer,
+  (λ i. pinned h k i .store, (λ i. pinned h k i .vertices, (λ i. pinned h k i .triangles, λ i. pinned h k i .edges))),
+)
 
 pub sirveshan-read-pinned : (κs : Lfts 2) (a : _) (r r′ : _) (e e′ : _) → read.Learnt κs a r e → read.Learnt κs a r′ e′
     → (r ≡ r′) × (now (e .1 .0) ≡ now (e′ .1 .0))
@@ -50,6 +62,11 @@ sirveshan-repair-pinned κs a r r′ e e′ h k =
 pub sirveshan-cut-pinned : (κs : Lfts 2) (a : _) (r r′ : _) (e e′ : _) → cut.Learnt κs a r e → cut.Learnt κs a r′ e′
     → (r ≡ r′) × (now (e .1 .1 .1 .1 .0) ≡ now (e′ .1 .1 .1 .1 .0))
 sirveshan-cut-pinned κs a r r′ e e′ h k = (λ i. pinned h k i .answer, λ i. pinned h k i .samples)
+
+pub sirveshan-weld-pinned : (κs : Lfts 3) (a : _) (r r′ : _) (e e′ : _) → weld.Learnt κs a r e → weld.Learnt κs a r′ e′
+    → (r ≡ r′) × ((now (e .1 .1 .0) ≡ now (e′ .1 .1 .0)) × ((now (e .1 .1 .1 .0) ≡ now (e′ .1 .1 .1 .0)) × (now (e .1 .1 .1 .1 .0) ≡ now (e′ .1 .1 .1 .1 .0))))
+sirveshan-weld-pinned κs a r r′ e e′ h k =
+    (λ i. pinned h k i .answer, (λ i. pinned h k i .vertices, (λ i. pinned h k i .triangles, λ i. pinned h k i .edges)))
 
 pub sirveshan-subdivisions-pinned : (κs : Lfts 1) (a : _) (r r′ : _) (e e′ : _) → subdivisions.Learnt κs a r e → subdivisions.Learnt κs a r′ e′ → r ≡ r′
 sirveshan-subdivisions-pinned κs a r r′ e e′ h k = pinned h k

@@ -29,15 +29,19 @@ use Rattle.sheet.specs.declared.SheetLine.{SheetLine}
 use Rattle.sheet.specs.declared.SheetLine.the-variants as SheetLine
 use Rattle.sheet.specs.declared.SheetTotal.{SheetTotal}
 use Rattle.sheet.specs.declared.SheetTotal.the-variants as SheetTotal
+use Rattle.weld.specs.declared.Welded.{Welded}
+use Rattle.weld.specs.declared.Welded.the-variants as Welded
 use Rattle.model.specs.Limits.{sideCount}
 use Rattle.model.specs.Formulas.{vector}
 use Rattle.model.specs.Refusals.{numbers, numbersOf}
 use Rattle.model.specs.Extraction.{Outcome}
+use Rattle.model.specs.Edges.{WholeOutcome}
 use Rattle.model.specs.Record.{ReadOutcome, WriteOutcome}
 use Rattle.stl.specs.Definition as Stl
 use Rattle.repair.specs.Definition.{RepairOutcome}
 use Rattle.volume.specs.Definition.{CutOutcome}
 use Rattle.sheet.specs.Definition as Sheet
+use Rattle.weld.specs.Definition as Weld
 use Rattle.sirveshan.specs.declared.Extracted.{Extracted}
 use Rattle.sirveshan.specs.declared.HeaderRead.{HeaderRead}
 use Rattle.sirveshan.specs.declared.Written.{Written}
@@ -47,6 +51,7 @@ use Rattle.sirveshan.specs.declared.SamplesCut.{SamplesCut}
 use Rattle.sirveshan.specs.declared.Sampled.{Sampled}
 use Rattle.sirveshan.specs.declared.LineTold.{LineTold}
 use Rattle.sirveshan.specs.declared.TotalTold.{TotalTold}
+use Rattle.sirveshan.specs.declared.WeldedCounts.{WeldedCounts}
 
 abbrev pub notRefused : Numbers
 notRefused = numbers 0 0 0 0
@@ -115,6 +120,10 @@ abbrev pub asTotalTold : SheetTotal → TotalTold
 asTotalTold (SheetTotal.Total figures) = record { refused = notRefused; figures = figures }
 asTotalTold (SheetTotal.Refused r) = record { refused = numbersOf r; figures = Sheet.none }
 
+abbrev pub asWeldedCounts : Welded → WeldedCounts
+asWeldedCounts (Welded.Mesh counts) = record { refused = notRefused; counts = counts }
+asWeldedCounts (Welded.Refused r) = record { refused = numbersOf r; counts = record { vertices = 0; triangles = 0 } }
+
 -- ---- the answer, and every buffer that is lent to be written
 
 pub record ExtractCall : Type 0 where
@@ -125,6 +134,18 @@ pub record ExtractCall : Type 0 where
 
 abbrev pub extractCall : Outcome → ExtractCall
 extractCall o = record { answer = asExtracted (o .answer) (o .reads); store = o .store; vertices = o .vertices; triangles = o .triangles }
+
+pub record ExtractWholeCall : Type 0 where
+  pub answer : Extracted
+  pub store : List ℕ
+  pub vertices : List Float
+  pub triangles : List ℕ
+  pub edges : List ℕ
+
+abbrev pub extractWholeCall : WholeOutcome → ExtractWholeCall
+extractWholeCall w =
+    let o = w .mesh in
+    record { answer = asExtracted (o .answer) (o .reads); store = o .store; vertices = o .vertices; triangles = o .triangles; edges = w .edges }
 
 pub record ReadCall : Type 0 where
   pub answer : HeaderRead
@@ -165,3 +186,12 @@ pub record CutCall : Type 0 where
 
 abbrev pub cutCall : CutOutcome → CutCall
 cutCall o = record { answer = asSamplesCut (o .answer); samples = o .samples }
+
+pub record WeldCall : Type 0 where
+  pub answer : WeldedCounts
+  pub vertices : List Float
+  pub triangles : List ℕ
+  pub edges : List ℕ
+
+abbrev pub weldCall : Weld.Outcome → WeldCall
+weldCall o = record { answer = asWeldedCounts (o .answer); vertices = o .vertices; triangles = o .triangles; edges = o .edges }

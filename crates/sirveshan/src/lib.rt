@@ -3,14 +3,16 @@
 ghost use mathlib.Core.Path.{_≡_};
 ghost use Rattle.model.specs.Star.{star};
 ghost use Rattle.model.specs.Extraction.{extract};
+ghost use Rattle.model.specs.Edges.{extractWhole};
 ghost use Rattle.model.specs.Record.{readRecord, writeRecord};
 ghost use Rattle.model.specs.Viewer.{subdivisionsAnswer, blankAnswer, sampleAnswer, recordPoint};
 ghost use Rattle.stl.specs.Definition.{writeStl, readStl};
 ghost use Rattle.repair.specs.Definition.{delivery, repair};
 ghost use Rattle.volume.specs.Definition.{cutBlock};
 ghost use Rattle.sheet.specs.Definition.{sheetLine, sheetTotal};
-ghost use Rattle.sirveshan.specs.Calls.{asExtracted, asHeaderRead, asWritten, asStlWritten, asTrianglesRead, asMended, asSamplesCut, kindNumber, asSampled};
-ghost use Rattle.sirveshan.specs.Calls.{extractCall, readCall, writeCall, writeStlCall, readStlCall, repairCall, cutCall};
+ghost use Rattle.weld.specs.Definition.{weld};
+ghost use Rattle.sirveshan.specs.Calls.{asExtracted, asHeaderRead, asWritten, asStlWritten, asTrianglesRead, asMended, asSamplesCut, kindNumber, asSampled, asWeldedCounts};
+ghost use Rattle.sirveshan.specs.Calls.{extractCall, extractWholeCall, readCall, writeCall, writeStlCall, readStlCall, repairCall, cutCall, weldCall};
 ghost use Rattle.sirveshan.specs.Calls.{lineTold, asLineTold, asTotalTold};
 use grid::transition_sides::SIDES;
 use judge::numbers_of;
@@ -40,6 +42,7 @@ use stl::reader::read_stl;
 use stl::writer::write_stl;
 use volume::BlockCut;
 use volume::cut_block;
+use weld::Welded;
 
 // In each answer the refusal's number is 0 where nothing is refused, and what stands beside it is 0 where something is.
 #[repr(C)]
@@ -86,6 +89,12 @@ pub struct Sampled {
     pub kind: usize,
 }
 
+#[repr(C)]
+pub struct WeldedCounts {
+    pub refused: Numbers,
+    pub counts: Counts,
+}
+
 // The number of the kind in-block; a face has its own.
 const IN_BLOCK: usize = SIDES;
 
@@ -108,6 +117,11 @@ const NOT_REFUSED: Numbers = Numbers {
     first: 0,
     second: 0,
     third: 0,
+};
+
+const NO_COUNTS: Counts = Counts {
+    vertices: 0,
+    triangles: 0,
 };
 
 const NO_HEADER: Header = Header {
@@ -137,10 +151,7 @@ fn as_extracted(report: Report) -> Extracted
         },
         Extraction::Refused(refusal) => Extracted {
             refused: numbers_of(refusal),
-            counts: Counts {
-                vertices: 0,
-                triangles: 0,
-            },
+            counts: NO_COUNTS,
             reads,
         },
     }
@@ -315,6 +326,21 @@ fn as_total_told(answer: SheetTotal) -> TotalTold
     }
 }
 
+fn as_welded_counts(answer: Welded) -> WeldedCounts
+    ensures { λ r. ⌜ r ≡ asWeldedCounts answer ⌝ }
+{
+    match answer {
+        Welded::Mesh(counts) => WeldedCounts {
+            refused: NOT_REFUSED,
+            counts,
+        },
+        Welded::Refused(refusal) => WeldedCounts {
+            refused: numbers_of(refusal),
+            counts: NO_COUNTS,
+        },
+    }
+}
+
 // The mesh of a block and its finer neighbours.
 #[no_mangle]
 pub extern "C" fn sirveshan_extract(
@@ -329,6 +355,31 @@ pub extern "C" fn sirveshan_extract(
         ≡ extractCall (extract (star header (now (centre .entry)) (now (neighbours .entry))) (now (store .entry)) (now (vertices .entry)) (now (triangles .entry))) ⌝ }
 {
     as_extracted(algorithm::extract(header, centre, neighbours, store, vertices, triangles))
+}
+
+// The same, and the number of each vertex's grid edge in a further list.
+#[no_mangle]
+pub extern "C" fn sirveshan_extract_whole(
+    header: Header,
+    centre: &[f32],
+    neighbours: &[f32],
+    store: &mut [u32],
+    vertices: &mut [f32],
+    triangles: &mut [u32],
+    edges: &mut [u32],
+) -> Extracted
+    ensures { λ r. ⌜ record { answer = r; store = now (store .exit); vertices = now (vertices .exit); triangles = now (triangles .exit); edges = now (edges .exit) }
+        ≡ extractWholeCall (extractWhole (star header (now (centre .entry)) (now (neighbours .entry))) (now (store .entry)) (now (vertices .entry)) (now (triangles .entry)) (now (edges .entry))) ⌝ }
+{
+    as_extracted(algorithm::extract_whole(
+        header,
+        centre,
+        neighbours,
+        store,
+        vertices,
+        triangles,
+        edges,
+    ))
 }
 
 // The block that a record tells, and its samples, the centre's and then the neighbours', in the first places of a lent list.
@@ -400,6 +451,21 @@ pub extern "C" fn sirveshan_cut(
     ensures { λ r. ⌜ record { answer = r; samples = now (samples .exit) } ≡ cutCall (cutBlock (now (src .entry)) sizes n first (now (samples .entry))) ⌝ }
 {
     as_samples_cut(cut_block(src, sizes, n, first, samples))
+}
+
+// A mesh's lists once the vertices made on one grid edge are welded.
+#[no_mangle]
+pub extern "C" fn sirveshan_weld(
+    v: u32,
+    t: u32,
+    vertices: &mut [f32],
+    triangles: &mut [u32],
+    edges: &mut [u32],
+) -> WeldedCounts
+    ensures { λ r. ⌜ record { answer = r; vertices = now (vertices .exit); triangles = now (triangles .exit); edges = now (edges .exit) }
+        ≡ weldCall (weld v t (now (vertices .entry)) (now (triangles .entry)) (now (edges .entry))) ⌝ }
+{
+    as_welded_counts(weld::weld(v, t, vertices, triangles, edges))
 }
 
 // The viewer's calls.

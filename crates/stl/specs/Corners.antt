@@ -8,7 +8,8 @@ use lib.ListN.{length, getD}
 use Rattle.laws.specs.Steps.{listed}
 use Rattle.laws.specs.Lists.{getD-listed}
 use Rattle.words.specs.Floats.{Fit}
-use Rattle.stl.specs.Definition.{floatCount, cornerOf, cornersOf}
+use Rattle.model.specs.Corners.{cornerOf}
+use Rattle.stl.specs.Definition.{floatCount, cornersOf}
 
 module _ (vertices : List Float) (triangles : List ℕ) (t : ℕ) where
   pub nine : length (cornersOf vertices triangles t) ≡ floatCount

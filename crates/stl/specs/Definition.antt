@@ -1,36 +1,29 @@
 -- Document 02, [1]: binary STL. The bytes of a mesh's file, what writing and reading refuse and when, and what they leave. All numbers of
 -- a file are little-endian; a NaN is written as 0x7fc00000. Definitions only.
 use Prim.Native.Nat.{ℕ, _+_, _*_, _/_}
-use mathlib.Core.Bool.{Bool, _&&_}
 use mathlib.Core.List.{List, _++_}
-use lib.Dec.{eqb, leb, ltb}
+use lib.Dec.{eqb, leb}
 use lib.Ieee.{Float, nan}
 use lib.ListN.{length, getD, replicate}
 use Rattle.laws.specs.Steps.{listed, each, laid}
 use Rattle.laws.specs.Counting.{gather}
-use Rattle.model.specs.declared.Refusal.the-variants.{StlLength, NoVertex}
+use Rattle.model.specs.declared.Refusal.the-variants.{StlLength}
 use Rattle.model.specs.declared.Verdict.{Verdict}
 use Rattle.model.specs.declared.Verdict.the-variants as Verdict
 use Rattle.model.specs.Words.{littleAt, littleBytes, littleFloatAt, littleFloatBytes}
-use Rattle.model.specs.Refusals.{unless, orElse, first}
+use Rattle.model.specs.Refusals.{unless, orElse}
 use Rattle.model.specs.Judging.{judgeBuffer}
+use Rattle.model.specs.Corners.{triangleCount, cornerOf, judgeNamed}
 use Rattle.stl.specs.declared.StlWritten.{StlWritten}
 use Rattle.stl.specs.declared.StlWritten.the-variants as StlWritten
 use Rattle.stl.specs.declared.StlRead.{StlRead}
 use Rattle.stl.specs.declared.StlRead.the-variants as StlRead
 
--- ---- the lists of a mesh: six f32 a vertex, the first three its position; three indices a triangle. A last part vertex or triangle is
--- not read.
+-- ---- the lists of a mesh: six f32 a vertex, the first three its position; three indices a triangle (model's Corners). A last part vertex
+-- or triangle is not read.
 
 abbrev pub vertexCount : List Float → ℕ
 vertexCount vertices = length vertices / 6
-
-abbrev pub triangleCount : List ℕ → ℕ
-triangleCount triangles = length triangles / 3
-
--- the vertex that corner 0, 1 or 2 of a triangle names
-abbrev pub cornerOf : List ℕ → ℕ → ℕ → ℕ
-cornerOf triangles t corner = getD triangles (3 * t + corner) 0
 
 abbrev pub positionOf : List Float → ℕ → List Float
 positionOf vertices v = listed (λ axis. getD vertices (6 * v + axis) nan) 3
@@ -86,14 +79,6 @@ mostTriangles = 4294967295
 
 abbrev pub judgeMany : ℕ → Verdict
 judgeMany count = unless (leb count mostTriangles) (StlLength 0)
-
--- 17: the first triangle one of whose corners is not below the count of vertices
-abbrev pub named : ℕ → List ℕ → ℕ → Bool
-named held triangles t =
-    ltb (cornerOf triangles t 0) held && ltb (cornerOf triangles t 1) held && ltb (cornerOf triangles t 2) held
-
-unfoldable pub judgeNamed : ℕ → List ℕ → Verdict
-judgeNamed held triangles = first (λ t. unless (named held triangles t) (NoVertex t)) (triangleCount triangles)
 
 -- 16, 17, 14
 unfoldable pub judgeWriting : ℕ → List ℕ → ℕ → Verdict

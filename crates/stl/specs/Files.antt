@@ -8,7 +8,8 @@ use lib.Dec.{T}
 use lib.Ieee.{Float, nan, isNan}
 use lib.ListN.{length, getD}
 use Rattle.model.specs.Words.{littleFloatAt}
-use Rattle.stl.specs.Definition.{vertexCount, triangleCount, headerLength, normalLength, cornersLength, attributeLength, fileLength, countIn, cornersFrom, floatCount}
+use Rattle.model.specs.Corners.{triangleCount}
+use Rattle.stl.specs.Definition.{vertexCount, headerLength, normalLength, cornersLength, attributeLength, fileLength, countIn, cornersFrom, floatCount}
 
 -- where the attribute of a triangle begins
 abbrev pub attributeFrom : ℕ → ℕ

@@ -13,7 +13,8 @@ use Rattle.laws.specs.Lists.{sets-append, sets-first}
 use Rattle.laws.specs.Gathered.{length-gather, sets-three}
 use Rattle.model.specs.Words.{littleBytes}
 use Rattle.stl.specs.declared.writer.Corner.{Corner}
-use Rattle.stl.specs.Definition.{triangleCount, cornersOf, headerLength, startLength, normalLength, cornerLength, cornersLength, attributeLength, triangleLength, zeros, triangleBytes, fileOf, fileLength}
+use Rattle.model.specs.Corners.{triangleCount}
+use Rattle.stl.specs.Definition.{cornersOf, headerLength, startLength, normalLength, cornerLength, cornersLength, attributeLength, triangleLength, zeros, triangleBytes, fileOf, fileLength}
 
 -- ---- zeros
 

@@ -7,7 +7,8 @@ use lib.Ieee.{Float}
 use lib.ListN.{length}
 use Rattle.model.specs.declared.Verdict.the-variants.{Passed}
 use Rattle.judge.specs.First.{both-passed, unless-passed}
-use Rattle.stl.specs.Definition.{vertexCount, triangleCount, startLength, fileLength, mostTriangles, judgeNamed, judgeWriting, countIn, floatCount, judgeFile, judgeReading}
+use Rattle.model.specs.Corners.{triangleCount, judgeNamed}
+use Rattle.stl.specs.Definition.{vertexCount, startLength, fileLength, mostTriangles, judgeWriting, countIn, floatCount, judgeFile, judgeReading}
 use Rattle.stl.specs.Named.{AllName, names, all-name-passes}
 
 -- ---- writing

@@ -18,7 +18,8 @@ use Rattle.model.specs.Words.{littleAt, littleBytes, littleFloatAt, littleFloat
 use Rattle.words.specs.Orders.{little}
 use Rattle.words.specs.Floats.{Fit, floats-after}
 use Rattle.stl.specs.declared.StlWritten.the-variants as StlWritten
-use Rattle.stl.specs.Definition.{vertexCount, triangleCount, cornersOf, headerLength, normalLength, cornersLength, attributeLength, triangleLength, zeros, triangleBytes, fileOf, fileLength, mostTriangles, judgeWriting, writeAnswer, writeStl, countIn, cornersFrom, cornersIn, positionsIn}
+use Rattle.model.specs.Corners.{triangleCount}
+use Rattle.stl.specs.Definition.{vertexCount, cornersOf, headerLength, normalLength, cornersLength, attributeLength, triangleLength, zeros, triangleBytes, fileOf, fileLength, mostTriangles, judgeWriting, writeAnswer, writeStl, countIn, cornersFrom, cornersIn, positionsIn}
 use Rattle.stl.specs.Parts.{startOf, length-zeros, zero-at, length-start, facetOf, length-facet, file-parts, length-file}
 use Rattle.stl.specs.Passing.{Writable, writable}
 use Rattle.stl.specs.Corners.{nine, fit-corners}

@@ -2,7 +2,6 @@
 // triangle. specs/Definition says what is written, read and refused.
 use model::Refusal;
 
-mod corners;
 mod layout;
 pub mod reader;
 pub mod writer;

@@ -21,15 +21,15 @@ use Rattle.algorithm.proofs.writing.write_named_sides.Statement.{statem
 use Rattle.algorithm.proofs.writing.write_named_sides.Tie as tie
 
 abbrev Inv-loop : tie.InvT-loop
-Inv-loop header fractions centre neighbours store₀ vertices₀ triangles₀ mask classes cells codes cases₀ marks₀ counts₀ reads₀ side₀ none store vertices triangles cases marks counts reads side =
+Inv-loop header fractions centre neighbours store₀ vertices₀ triangles₀ edges₀ mask classes cells codes cases₀ marks₀ counts₀ reads₀ side₀ none store vertices triangles edges cases marks counts reads side =
     ((side ≤ sideCount) × (side < sideCount → named mask side ≡ true))
     × (((length cases ≡ sheetPlaces) × (length marks ≡ sheetPlaces))
-    × (SameLengths vertices₀ vertices triangles₀ triangles store₀ store
-    × (Holds (transitionTo (star header centre neighbours) side 0 0) counts vertices triangles store
+    × (SameLengths vertices₀ vertices triangles₀ triangles store₀ store edges₀ edges
+    × (Holds (transitionTo (star header centre neighbours) side 0 0) counts vertices triangles store edges
     × ReadTo (transitionTo (star header centre neighbours) side 0 0) (mostSubdivisions + side) reads)))
 
 abbrev μ-loop : tie.MeasureT-loop
-μ-loop header fractions centre neighbours store₀ vertices₀ triangles₀ mask classes cells codes cases₀ marks₀ counts₀ reads₀ side₀ none store vertices triangles cases marks counts reads side =
+μ-loop header fractions centre neighbours store₀ vertices₀ triangles₀ edges₀ mask classes cells codes cases₀ marks₀ counts₀ reads₀ side₀ none store vertices triangles edges cases marks counts reads side =
     sideCount - side
 
 -- the entry, from a turn of the loop
@@ -37,7 +37,7 @@ abbrev Entry : Type 0
 Entry = tie.Start Inv-loop μ-loop
 
 abbrev start : tie.In-loop Inv-loop μ-loop → Entry
-start c = c .before .before .before .before .before .before .before .before .before .before .before .before
+start c = c .before .before .before .before .before .before .before .before .before .before .before .before .before
 
 abbrev starOf : Entry → Star
 starOf b = star (b .args .header) (b .args .centre .now) (b .args .neighbours .now)
@@ -77,17 +77,17 @@ transition-vertex-data-requires c κs = search needs
 
 next-side-requires : tie.Need-next-side-requires Inv-loop μ-loop
 next-side-requires c κs =
-    (c .before .before .before .before .before .before .before .before .before .pre .0 .0 .sides, omega arith)
+    (c .before .before .before .before .before .before .before .before .before .before .pre .0 .0 .sides, omega arith)
 
 loop-holds : tie.Need-loop-holds Inv-loop μ-loop
 loop-holds c =
-    let b = c .before .before .before .before .before .before .before .before .before .before in
+    let b = c .before .before .before .before .before .before .before .before .before .before .before in
     let next = c .next-side .ensures in (
       (next .le-six, next .is-named),
       (
         (length-replicate {A = ℕ} sheetPlaces 0, length-replicate {A = ℕ} sheetPlaces 0),
         (
-          record { vertices-same = refl; triangles-same = refl; store-same = refl },
+          record { vertices-same = refl; triangles-same = refl; store-same = refl; edges-same = refl },
           (rw (← transition-skip (starOf b) 0 _ next, transition-start) (b .pre .1 .1 .0), read-first (starOf b) _ _ next (b .pre .1 .1 .1)),
         ),
       ),
@@ -134,7 +134,7 @@ slice-aggregate-write-sheet-6 c = sym (still-long (c .before .before .before .be
 
 write-sheet-requires : tie.Need-write-sheet-requires Inv-loop μ-loop
 write-sheet-requires c κs =
-    let filled = c .before .before .before .before .before .before .before .before .before .before .before in
+    let filled = c .before .before .before .before .before .before .before .before .before .before .before .before in
     let here = turn filled in
     let long = still-long filled in
     let codes = here .before .before .before .before in
@@ -151,20 +151,20 @@ write-sheet-requires c κs =
     )
 
 add-next-side : tie.Need-add-next-side Inv-loop μ-loop
-add-next-side c = omega (arith, turn (c .before .before .before .before .before .before .before .before .before .before .before .before .before .before .before .before .before .before) .loop-test .taken)
+add-next-side c = omega (arith, turn (c .before .before .before .before .before .before .before .before .before .before .before .before .before .before .before .before .before .before .before .before .before) .loop-test .taken)
 
 next-side-requires-2 : tie.Need-next-side-requires-2 Inv-loop μ-loop
 next-side-requires-2 c κs =
-    let here = turn (c .before .before .before .before .before .before .before .before .before .before .before .before .before .before .before .before .before .before) in
+    let here = turn (c .before .before .before .before .before .before .before .before .before .before .before .before .before .before .before .before .before .before .before .before .before) in
     (start here .pre .0 .0 .sides, omega (arith, here .loop-test .taken))
 
 loop-less : tie.Need-loop-less Inv-loop μ-loop
-loop-less c = omega (arith, c .next-side2 .ensures .from-le, turn (c .before .before .before .before .before .before .before .before .before .before .before .before .before .before .before .before .before .before .before) .loop-test .taken)
+loop-less c = omega (arith, c .next-side2 .ensures .from-le, turn (c .before .before .before .before .before .before .before .before .before .before .before .before .before .before .before .before .before .before .before .before .before .before) .loop-test .taken)
 
 loop-again : tie.Need-loop-again Inv-loop μ-loop
 loop-again c =
-    let put = c .before .before .before .before .before .before .before in
-    let filled = put .before .before .before .before .before .before .before .before .before .before .before .before in
+    let put = c .before .before .before .before .before .before .before .before .before in
+    let filled = put .before .before .before .before .before .before .before .before .before .before .before .before .before in
     let here = turn filled in
     let l = here .before .loop in
     let s = starOf (start here) in
@@ -176,7 +176,7 @@ loop-again c =
         still-long filled,
         (
           same-then (l .inv .1 .1 .0)
-              record { vertices-same = omega (arith, w .kept); triangles-same = omega (arith, w .kept); store-same = omega (arith, w .kept) },
+              record { vertices-same = omega (arith, w .kept); triangles-same = omega (arith, w .kept); store-same = omega (arith, w .kept); edges-same = omega (arith, w .kept) },
           (
             rw (← transition-skip s (l .side + 1) _ next) (w .ensures),
             read-side s (l .side) _ (l .reads) _ (l .inv .0 .1 (below here)) next (told .0) (told .1) (l .inv .1 .1 .1 .1),
@@ -194,9 +194,12 @@ same-length-2 c = c .before .loop .inv .1 .1 .0 .vertices-same
 same-length-3 : tie.Need-same-length-3 Inv-loop μ-loop
 same-length-3 c = c .before .loop .inv .1 .1 .0 .triangles-same
 
+same-length-4 : tie.Need-same-length-4 Inv-loop μ-loop
+same-length-4 c = c .before .loop .inv .1 .1 .0 .edges-same
+
 returns : tie.Need-returns Inv-loop μ-loop
 returns c =
-    let b = c .before .before .before .before .before .before .before .before .before .before .before .before in
+    let b = c .before .before .before .before .before .before .before .before .before .before .before .before .before in
     let l = c .before .loop in
     let end : l .side ≡ sideCount = omega arith in
     (rw (← transition-end (starOf b) (l .side) end) (l .inv .1 .1 .1 .0), read-sides (starOf b) (l .side) (l .reads) end (l .inv .1 .1 .1 .1))
@@ -230,4 +233,5 @@ write-named-sides-spec =
     same-length
     same-length-2
     same-length-3
+    same-length-4
     returns)

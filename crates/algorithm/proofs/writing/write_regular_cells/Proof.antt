@@ -18,22 +18,22 @@ use Rattle.algorithm.proofs.writing.write_regular_cells.Statement.{stat
 use Rattle.algorithm.proofs.writing.write_regular_cells.Tie as tie
 
 abbrev Inv-loop : tie.InvT-loop
-Inv-loop header fractions centre neighbours store₀ vertices₀ triangles₀ n classes cells codes cases₀ marks₀ counts₀ reads₀ x₀ none store vertices triangles cases marks counts reads x =
+Inv-loop header fractions centre neighbours store₀ vertices₀ triangles₀ edges₀ n classes cells codes cases₀ marks₀ counts₀ reads₀ x₀ none store vertices triangles edges cases marks counts reads x =
     (x ≤ n)
     × (((length cases ≡ sheetPlaces) × (length marks ≡ sheetPlaces))
-    × (SameLengths vertices₀ vertices triangles₀ triangles store₀ store
-    × (Holds (regularTo (star header centre neighbours) x 0 0) counts vertices triangles store
+    × (SameLengths vertices₀ vertices triangles₀ triangles store₀ store edges₀ edges
+    × (Holds (regularTo (star header centre neighbours) x 0 0) counts vertices triangles store edges
     × ReadTo (regularTo (star header centre neighbours) x 0 0) x reads)))
 
 abbrev μ-loop : tie.MeasureT-loop
-μ-loop header fractions centre neighbours store₀ vertices₀ triangles₀ n classes cells codes cases₀ marks₀ counts₀ reads₀ x₀ none store vertices triangles cases marks counts reads x = n - x
+μ-loop header fractions centre neighbours store₀ vertices₀ triangles₀ edges₀ n classes cells codes cases₀ marks₀ counts₀ reads₀ x₀ none store vertices triangles edges cases marks counts reads x = n - x
 
 -- the entry, from a turn of the loop
 abbrev Entry : Type 0
 Entry = tie.Start Inv-loop μ-loop
 
 abbrev start : tie.In-loop Inv-loop μ-loop → Entry
-start c = c .before .before .before .before .before .before .before .before .before .before
+start c = c .before .before .before .before .before .before .before .before .before .before .before
 
 abbrev starOf : Entry → Star
 starOf b = star (b .args .header) (b .args .centre .now) (b .args .neighbours .now)
@@ -69,15 +69,15 @@ regular-vertex-data-requires c κs = search needs
 
 loop-holds : tie.Need-loop-holds Inv-loop μ-loop
 loop-holds c =
-    let b = c .before .before .before .before .before .before .before .before in
+    let b = c .before .before .before .before .before .before .before .before .before in
     let a = b .args in (
       omega arith,
       (
         (length-replicate {A = ℕ} sheetPlaces 0, length-replicate {A = ℕ} sheetPlaces 0),
         (
-          record { vertices-same = refl; triangles-same = refl; store-same = refl },
+          record { vertices-same = refl; triangles-same = refl; store-same = refl; edges-same = refl },
           (
-            rw (regular-start (starOf b), b .pre .1 .1) (holds-none (a .header .block .subdivisions) (a .vertices .now) (a .triangles .now)),
+            rw (regular-start (starOf b), b .pre .1 .1) (holds-none (a .header .block .subdivisions) (a .vertices .now) (a .triangles .now) (a .edges .now)),
             read-none (starOf b),
           ),
         ),
@@ -122,7 +122,7 @@ slice-aggregate-write-sheet-6 c = sym (still-long (c .before .before .before .be
 
 write-sheet-requires : tie.Need-write-sheet-requires Inv-loop μ-loop
 write-sheet-requires c κs =
-    let filled = c .before .before .before .before .before .before .before .before .before .before .before in
+    let filled = c .before .before .before .before .before .before .before .before .before .before .before .before in
     let here = turn filled in
     let long = still-long filled in
     let codes = here .before .before in
@@ -140,16 +140,16 @@ write-sheet-requires c κs =
 
 add-x : tie.Need-add-x Inv-loop μ-loop
 add-x c =
-    let here = turn (c .before .before .before .before .before .before .before .before .before .before .before .before .before .before .before .before .before .before) in
+    let here = turn (c .before .before .before .before .before .before .before .before .before .before .before .before .before .before .before .before .before .before .before .before .before) in
     omega (arith, here .loop-test .taken, start here .pre .0 .0 .few)
 
 loop-less : tie.Need-loop-less Inv-loop μ-loop
-loop-less c = omega (arith, turn (c .before .before .before .before .before .before .before .before .before .before .before .before .before .before .before .before .before .before) .loop-test .taken)
+loop-less c = omega (arith, turn (c .before .before .before .before .before .before .before .before .before .before .before .before .before .before .before .before .before .before .before .before .before) .loop-test .taken)
 
 loop-again : tie.Need-loop-again Inv-loop μ-loop
 loop-again c =
-    let put = c .before .before .before .before .before .before in
-    let filled = put .before .before .before .before .before .before .before .before .before .before .before .before in
+    let put = c .before .before .before .before .before .before .before .before in
+    let filled = put .before .before .before .before .before .before .before .before .before .before .before .before .before in
     let here = turn filled in
     let l = here .before .loop in
     let told = filled .layer-cases .ensures .1 .1 in
@@ -159,7 +159,7 @@ loop-again c =
         still-long filled,
         (
           same-then (l .inv .1 .1 .0)
-              record { vertices-same = omega (arith, w .kept); triangles-same = omega (arith, w .kept); store-same = omega (arith, w .kept) },
+              record { vertices-same = omega (arith, w .kept); triangles-same = omega (arith, w .kept); store-same = omega (arith, w .kept); edges-same = omega (arith, w .kept) },
           (w .ensures, read-layer (starOf (start here)) (l .x) (l .reads) _ (told .0) (told .1) (l .inv .1 .1 .1 .1)),
         ),
       ),
@@ -174,9 +174,12 @@ same-length-2 c = c .before .loop .inv .1 .1 .0 .vertices-same
 same-length-3 : tie.Need-same-length-3 Inv-loop μ-loop
 same-length-3 c = c .before .loop .inv .1 .1 .0 .triangles-same
 
+same-length-4 : tie.Need-same-length-4 Inv-loop μ-loop
+same-length-4 c = c .before .loop .inv .1 .1 .0 .edges-same
+
 returns : tie.Need-returns Inv-loop μ-loop
 returns c =
-    let b = c .before .before .before .before .before .before .before .before .before .before in
+    let b = c .before .before .before .before .before .before .before .before .before .before .before in
     let l = c .before .loop in
     let end : l .x ≡ b .args .header .block .subdivisions = omega arith in (
       rw (← regular-end (starOf b) (l .x) end) (l .inv .1 .1 .1 .0),
@@ -210,4 +213,5 @@ write-regular-cells-spec =
     same-length
     same-length-2
     same-length-3
+    same-length-4
     returns)

@@ -14,28 +14,28 @@ use Rattle.algorithm.proofs.writing.write_row.Statement.{statement}
 use Rattle.algorithm.proofs.writing.write_row.Tie as tie
 
 abbrev Inv-loop : tie.InvT-loop
-Inv-loop header fractions centre neighbours sheet classes cells codes layer side marks u counts₀ store₀ vertices₀ triangles₀ n start v₀ counts store vertices triangles v =
+Inv-loop header fractions centre neighbours sheet classes cells codes layer side marks u counts₀ store₀ vertices₀ triangles₀ edges₀ n start v₀ counts store vertices triangles edges v =
     let s = star header centre neighbours in
     (v ≤ n)
-    × (SameLengths vertices₀ vertices triangles₀ triangles store₀ store × Holds (rowTo (sheetCell s sheet u) v (rowBefore s sheet u)) counts vertices triangles store)
+    × (SameLengths vertices₀ vertices triangles₀ triangles store₀ store edges₀ edges × Holds (rowTo (sheetCell s sheet u) v (rowBefore s sheet u)) counts vertices triangles store edges)
 
 abbrev μ-loop : tie.MeasureT-loop
-μ-loop header fractions centre neighbours sheet classes cells codes layer side marks u counts₀ store₀ vertices₀ triangles₀ n start v₀ counts store vertices triangles v =
+μ-loop header fractions centre neighbours sheet classes cells codes layer side marks u counts₀ store₀ vertices₀ triangles₀ edges₀ n start v₀ counts store vertices triangles edges v =
     n - v
 
 -- the entry, from the place before the first scan, and from a turn of the loop
 abbrev Entry : Type 0
 Entry = tie.Start Inv-loop μ-loop
 
-abbrev entry : tie.After-slice-known3 Inv-loop μ-loop → Entry
-entry c = c .before .before .before .before .before .before .before .before .before .before .before
+abbrev entry : tie.After-slice-known4 Inv-loop μ-loop → Entry
+entry c = c .before .before .before .before .before .before .before .before .before .before .before .before
 
 abbrev start : tie.In-loop Inv-loop μ-loop → Entry
 start c = entry (c .before .before .before)
 
 -- the turn of the loop, from the place where its cell is written
-abbrev turn : tie.After-slice-known6 Inv-loop μ-loop → tie.In-loop Inv-loop μ-loop
-turn c = c .before .before .before .before .before .before .before .before .before .before .before
+abbrev turn : tie.After-slice-known8 Inv-loop μ-loop → tie.In-loop Inv-loop μ-loop
+turn c = c .before .before .before .before .before .before .before .before .before .before .before .before .before .before
 
 abbrev starOf : Entry → Star
 starOf b = star (b .args .header) (b .args .centre .now) (b .args .neighbours .now)
@@ -49,7 +49,7 @@ below : (c : tie.In-loop Inv-loop μ-loop) → c .before .loop .v < start c .arg
 below c = omega (arith, c .loop-test .taken, start c .pre .1 .0 .0 .some)
 
 ready : (c : tie.In-loop Inv-loop μ-loop) → let b = start c in let l = c .before .loop in let s = starOf b in
-    Ready s (sheetCell s (b .args .sheet) (b .args .u) (l .v)) (rowTo (sheetCell s (b .args .sheet) (b .args .u)) (l .v) (rowBefore s (b .args .sheet) (b .args .u))) (l .counts) (l .vertices) (l .triangles) (l .store)
+    Ready s (sheetCell s (b .args .sheet) (b .args .u) (l .v)) (rowTo (sheetCell s (b .args .sheet) (b .args .u)) (l .v) (rowBefore s (b .args .sheet) (b .args .u))) (l .counts) (l .vertices) (l .triangles) (l .store) (l .edges)
 ready c =
     let b = start c in
     let l = c .before .loop in
@@ -75,7 +75,7 @@ loop-holds c =
     let row = b .pre .1 .1 .1 .1 .1 in (
       next .within,
       (
-        record { vertices-same = refl; triangles-same = refl; store-same = refl },
+        record { vertices-same = refl; triangles-same = refl; store-same = refl; edges-same = refl },
         holds-skip (starOf b) (b .args .sheet) (b .args .u) (row .0) (b .pre .1 .1 .0 .1) 0 _ next (row .1),
       ),
     )
@@ -88,7 +88,7 @@ number-at-requires c κs = omega (arith, fits (start c), below c, start c .pre .
 
 write-sheet-cell-requires : tie.Need-write-sheet-cell-requires Inv-loop μ-loop
 write-sheet-cell-requires c κs =
-    let numbered = c .before .before .before in
+    let numbered = c .before .before .before .before in
     let here = numbered .before in
     let b = start here in
     let v = here .before .loop .v in
@@ -126,13 +126,13 @@ loop-again c =
     let here = turn (c .before) in
     let b = start here in
     let l = here .before .loop in
-    let written = c .before .before .before .before .before .before .before .write-sheet-cell in
+    let written = c .before .before .before .before .before .before .before .before .before .write-sheet-cell in
     let next = c .next-marked2 .ensures in (
       next .within,
       (
         same-then (l .inv .1 .0)
-            record { vertices-same = omega (arith, written .kept); triangles-same = omega (arith, written .kept); store-same = omega (arith, written .kept) },
-        holds-on (starOf b) (b .args .sheet) (b .args .u) (b .pre .1 .1 .1 .1 .1 .0) (b .pre .1 .1 .0 .1) (l .v) _ next (holds-more (ready here) _ _ _ _ (written .ensures)),
+            record { vertices-same = omega (arith, written .kept); triangles-same = omega (arith, written .kept); store-same = omega (arith, written .kept); edges-same = omega (arith, written .kept) },
+        holds-on (starOf b) (b .args .sheet) (b .args .u) (b .pre .1 .1 .1 .1 .1 .0) (b .pre .1 .1 .0 .1) (l .v) _ next (holds-more (ready here) _ _ _ _ _ (written .ensures .0) (written .ensures .1)),
       ),
     )
 
@@ -144,6 +144,9 @@ same-length-2 c = c .before .loop .inv .1 .0 .vertices-same
 
 same-length-3 : tie.Need-same-length-3 Inv-loop μ-loop
 same-length-3 c = c .before .loop .inv .1 .0 .triangles-same
+
+same-length-4 : tie.Need-same-length-4 Inv-loop μ-loop
+same-length-4 c = c .before .loop .inv .1 .0 .edges-same
 
 returns : tie.Need-returns Inv-loop μ-loop
 returns c =
@@ -171,4 +174,5 @@ write-row-spec =
     same-length
     same-length-2
     same-length-3
+    same-length-4
     returns)

@@ -10,27 +10,27 @@ use Rattle.algorithm.proofs.writing.write_sheet.Statement.{statement}
 use Rattle.algorithm.proofs.writing.write_sheet.Tie as tie
 
 abbrev Inv-loop : tie.InvT-loop
-Inv-loop header fractions centre neighbours sheet classes cells codes layer side marks counts₀ store₀ vertices₀ triangles₀ n u₀ counts store vertices triangles u =
+Inv-loop header fractions centre neighbours sheet classes cells codes layer side marks counts₀ store₀ vertices₀ triangles₀ edges₀ n u₀ counts store vertices triangles edges u =
     (u ≤ n)
-    × (SameLengths vertices₀ vertices triangles₀ triangles store₀ store
-    × Holds (rowBefore (star header centre neighbours) sheet u) counts vertices triangles store)
+    × (SameLengths vertices₀ vertices triangles₀ triangles store₀ store edges₀ edges
+    × Holds (rowBefore (star header centre neighbours) sheet u) counts vertices triangles store edges)
 
 abbrev μ-loop : tie.MeasureT-loop
-μ-loop header fractions centre neighbours sheet classes cells codes layer side marks counts₀ store₀ vertices₀ triangles₀ n u₀ counts store vertices triangles u =
+μ-loop header fractions centre neighbours sheet classes cells codes layer side marks counts₀ store₀ vertices₀ triangles₀ edges₀ n u₀ counts store vertices triangles edges u =
     n - u
 
 -- the entry, from the loop's test
 abbrev entry : tie.At-loop Inv-loop μ-loop → tie.Start Inv-loop μ-loop
-entry c = c .before .before .before .before .before .before .before .before .before .before .before .before
+entry c = c .before .before .before .before .before .before .before .before .before .before .before .before .before
 
 loop-holds : tie.Need-loop-holds Inv-loop μ-loop
 loop-holds c =
-    let b = c .before .before .before .before .before .before .before .before .before .before .before in
-    (omega arith, (record { vertices-same = refl; triangles-same = refl; store-same = refl }, b .pre .1 .1 .1 .1 .1))
+    let b = c .before .before .before .before .before .before .before .before .before .before .before .before in
+    (omega arith, (record { vertices-same = refl; triangles-same = refl; store-same = refl; edges-same = refl }, b .pre .1 .1 .1 .1 .1))
 
 write-row-requires : tie.Need-write-row-requires Inv-loop μ-loop
 write-row-requires c κs =
-    let here = c .before .before .before in
+    let here = c .before .before .before .before in
     let l = here .before .loop in
     let p = entry (here .before) .pre in
     let room = p .1 .1 .1 .1 .0 in
@@ -38,20 +38,20 @@ write-row-requires c κs =
 
 add-u : tie.Need-add-u Inv-loop μ-loop
 add-u c =
-    let here = c .before .before .before .before .before .before .before .before .before .before in
+    let here = c .before .before .before .before .before .before .before .before .before .before .before .before .before in
     omega (arith, here .loop-test .taken, entry (here .before) .pre .1 .0 .0 .few)
 
 loop-less : tie.Need-loop-less Inv-loop μ-loop
-loop-less c = omega (arith, c .before .before .before .before .before .before .before .before .before .before .loop-test .taken)
+loop-less c = omega (arith, c .before .before .before .before .before .before .before .before .before .before .before .before .before .loop-test .taken)
 
 loop-again : tie.Need-loop-again Inv-loop μ-loop
 loop-again c =
-    let written = c .before .before .before .before .before .before .write-row in
-    let here = c .before .before .before .before .before .before .before .before .before .before in (
+    let written = c .before .before .before .before .before .before .before .before .write-row in
+    let here = c .before .before .before .before .before .before .before .before .before .before .before .before .before in (
       omega (arith, here .loop-test .taken),
       (
         same-then (here .before .loop .inv .1 .0)
-            record { vertices-same = omega (arith, written .kept); triangles-same = omega (arith, written .kept); store-same = omega (arith, written .kept) },
+            record { vertices-same = omega (arith, written .kept); triangles-same = omega (arith, written .kept); store-same = omega (arith, written .kept); edges-same = omega (arith, written .kept) },
         written .ensures,
       ),
     )
@@ -64,6 +64,9 @@ same-length-2 c = c .before .loop .inv .1 .0 .vertices-same
 
 same-length-3 : tie.Need-same-length-3 Inv-loop μ-loop
 same-length-3 c = c .before .loop .inv .1 .0 .triangles-same
+
+same-length-4 : tie.Need-same-length-4 Inv-loop μ-loop
+same-length-4 c = c .before .loop .inv .1 .0 .edges-same
 
 returns : tie.Need-returns Inv-loop μ-loop
 returns c =
@@ -88,4 +91,5 @@ write-sheet-spec =
     same-length
     same-length-2
     same-length-3
+    same-length-4
     returns)

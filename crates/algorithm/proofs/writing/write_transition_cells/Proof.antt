@@ -10,7 +10,7 @@ use Rattle.algorithm.proofs.writing.write_transition_cells.Tie as tie
 returns : tie.Need-returns
 unfolding meshOf
 returns c =
-    let b = c .before .before .before .before .before .before .before in
+    let b = c .before .before .before .before .before .before .before .before in
     let s = star (b .args .header) (b .args .centre .now) (b .args .neighbours .now) in
     (rw (no-sides s (c .if1 .taken) (regularMesh s)) (b .pre .1 .1 .0), read-unnamed s (c .if1 .taken) _ (b .pre .1 .1 .1))
 
@@ -26,9 +26,12 @@ same-length-2 c = search needs
 same-length-3 : tie.Need-same-length-3
 same-length-3 c = search needs
 
+same-length-4 : tie.Need-same-length-4
+same-length-4 c = search needs
+
 returns-2 : tie.Need-returns-2
 returns-2 c = search needs
 
 pub write-transition-cells-spec : {M : Type 1} → statement M
 write-transition-cells-spec =
-    tie.close (tie.spec returns write-named-sides-requires same-length same-length-2 same-length-3 returns-2)
+    tie.close (tie.spec returns write-named-sides-requires same-length same-length-2 same-length-3 same-length-4 returns-2)

@@ -1,5 +1,6 @@
 -- `cell::write_cell` meets its contract: the vertices and then the triangles make the cell. The winding plays no part in the
 -- vertices. Assumes nothing.
+use mathlib.Core.Path.{refl}
 use native.Mathlib.Omega.{arith}
 use borrow.Author.Needs.{needs}
 use Rattle.model.specs.Mesh.{fillTo, triangleOf}
@@ -13,20 +14,28 @@ use Rattle.cells.proofs.cell.write_cell.Tie as tie
 fill-cell-requires : tie.Need-fill-cell-requires
 unfolding fillTo
 fill-cell-requires c κs =
-    let p = c .before .before .before .before .before .before .before .before .before .pre in
+    let p = c .before .before .before .before .before .before .before .before .before .before .pre in
     (p .0, ((omega (arith, p .1 .0 .1), (p .1 .0 .1 .few-vertices, p .1 .0 .0)), (p .1 .1 .0, p .1 .1 .1 .0)))
+
+put-edges-requires : tie.Need-put-edges-requires
+put-edges-requires c κs =
+    let p = c .before .before .before .before .before .before .before .before .before .before .before .before .before .before .before .before .before .pre in
+    ((p .0 .centred .parts .few, (p .0 .placed, omega (arith, p .1 .1 .1 .0 .short))), (omega (arith, p .1 .0 .1), (p .1 .0 .1 .few-vertices, p .1 .0 .0)))
 
 put-triangles-requires : tie.Need-put-triangles-requires
 put-triangles-requires c κs =
-    let p = c .before .before .before .before .before .before .before .before .before .before .before .before .before .before .before .before .before .before .pre in
+    let p = c .before .before .before .before .before .before .before .before .before .before .before .before .before .before .before .before .before .before .before .before .before .before .before .pre in
     (p .1 .0 .1, p .1 .1 .1 .1 .0)
 
--- the entry, and the place where the vertices are put, from that where all is
-abbrev start : tie.After-struct-known2 → tie.Start
-start c = c .before .before .before .before .before .before .before .before .before .before .before .before .before .before .before .before .before .before .before .before .before .before .before
+-- the places where the edges are put and where the vertices are, and the entry, from that where all is
+abbrev numbered : tie.After-struct-known2 → tie.After-put-edges
+numbered c = c .before .before .before .before .before .before .before .before .before .before
 
 abbrev filled : tie.After-struct-known2 → tie.After-fill-cell
-filled c = c .before .before .before .before .before .before .before .before .before .before .before .before .before
+filled c = numbered c .before .before .before .before .before .before .before
+
+abbrev start : tie.After-struct-known2 → tie.Start
+start c = filled c .before .before .before .before .before .before .before .before .before .before .before
 
 add-reads : tie.Need-add-reads
 unfolding fillTo
@@ -44,23 +53,32 @@ same-length-2 c = search needs
 same-length-3 : tie.Need-same-length-3
 same-length-3 c = search needs
 
+same-length-4 : tie.Need-same-length-4
+same-length-4 c = search needs
+
 returns : tie.Need-returns
 unfolding fillTo triangleOf rowTriangle
 returns c =
     let b = start c in
     let a = b .args in
     let put = c .before .before .before .before .put-triangles .ensures in
-    cell-put (cellOf (star (a .header) (a .centre .now) (a .neighbours .now)) (a .at) (a .codes .now) (a .row .now) (a .turned)) (a .counts .vertices) (a .counts .triangles)
-    (a .vertices .now) (a .triangles .now) (a .store .now) _ _ _ _ _ _ _ _ _ (b .pre .1 .1 .1 .1 .1) (filled c .fill-cell .ensures) (put .0) (put .1)
+    let s = star (a .header) (a .centre .now) (a .neighbours .now) in
+    let cell = cellOf s (a .at) (a .codes .now) (a .row .now) (a .turned) in (
+      cell-put cell (a .counts .vertices) (a .counts .triangles) (a .vertices .now) (a .triangles .now) (a .store .now) _ _ _ _ _ _ _ _ _ (b .pre .1 .1 .1 .1 .1)
+          (filled c .fill-cell .ensures) (put .0) (put .1),
+      numbered c .put-edges .ensures s (a .turned) (a .store .now) refl,
+    )
 
 pub write-cell-spec : {M : Type 1} → statement M
 write-cell-spec =
     tie.close
     (tie.spec
     fill-cell-requires
+    put-edges-requires
     put-triangles-requires
     add-reads
     same-length
     same-length-2
     same-length-3
+    same-length-4
     returns)

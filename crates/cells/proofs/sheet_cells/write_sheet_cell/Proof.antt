@@ -7,7 +7,7 @@ use Rattle.model.specs.Star.{Star, star}
 use Rattle.cells.specs.Kinds.{cellOf}
 use Rattle.cells.specs.SheetCells.{allOf, sheetCell}
 use Rattle.cells.specs.SheetNumbers.{case-small}
-use Rattle.cells.proofs.ByCase.{vertex-room, triangle-room, put-as, sheet-coded, sheet-followed, sheet-is}
+use Rattle.cells.proofs.ByCase.{vertex-room, triangle-room, put-as, edges-as, sheet-coded, sheet-followed, sheet-is}
 use Rattle.cells.proofs.sheet_cells.write_sheet_cell.Statement.{statement}
 use Rattle.cells.proofs.sheet_cells.write_sheet_cell.Tie as tie
 
@@ -22,7 +22,7 @@ small b =
 
 -- the entry, from the place where the rows are lent
 abbrev start : tie.After-turned → tie.Start
-start r = r .before .before .before .before .before .before .before .before .before .before .before .before
+start r = r .before .before .before .before .before .before .before .before .before .before .before .before .before
 
 -- the rows that are lent describe the cell
 same : (r : tie.After-turned) → let b = start r in let a = b .args in
@@ -39,22 +39,22 @@ cell-at-requires c κs = search needs
 
 case-codes-requires : tie.Need-case-codes-requires
 case-codes-requires c κs =
-    let b = c .before .before .before .before .before .before .before .before .before in
+    let b = c .before .before .before .before .before .before .before .before .before .before in
     (b .pre .0 .codes-are, small b)
 
 case-cell-requires : tie.Need-case-cell-requires
 case-cell-requires c κs =
-    let b = c .before .before .before .before .before .before .before .before .before .before in
+    let b = c .before .before .before .before .before .before .before .before .before .before .before in
     (b .pre .0 .classes-are, (b .pre .0 .cells-are, small b))
 
 turned-requires : tie.Need-turned-requires
 turned-requires c κs =
-    let b = c .before .before .before .before .before .before .before .before .before .before .before in
+    let b = c .before .before .before .before .before .before .before .before .before .before .before .before in
     (b .pre .0 .classes-are, small b)
 
 write-cell-requires : tie.Need-write-cell-requires
 write-cell-requires c κs =
-    let r = c .before .before .before in
+    let r = c .before .before .before .before in
     let b = start r in
     let a = b .args in
     let room = b .pre .1 .1 .1 .1 in
@@ -83,12 +83,17 @@ same-length-2 c = search needs
 same-length-3 : tie.Need-same-length-3
 same-length-3 c = search needs
 
+same-length-4 : tie.Need-same-length-4
+same-length-4 c = search needs
+
 returns : tie.Need-returns
 returns c =
-    let put = c .before .before .before .before .before .before in
-    let r = put .before .before .before .before in
-    let a = start r .args in
-    put-as (same r) (a .counts .vertices) (a .counts .triangles) (a .vertices .now) (a .triangles .now) (a .store .now) _ _ _ _ _ _ (put .write-cell .ensures)
+    let put = c .before .before .before .before .before .before .before .before in
+    let r = put .before .before .before .before .before in
+    let a = start r .args in (
+      put-as (same r) (a .counts .vertices) (a .counts .triangles) (a .vertices .now) (a .triangles .now) (a .store .now) _ _ _ _ _ _ (put .write-cell .ensures .0),
+      edges-as (same r) (a .counts .vertices) (a .edges .now) (a .store .now) _ (put .write-cell .ensures .1),
+    )
 
 pub write-sheet-cell-spec : {M : Type 1} → statement M
 write-sheet-cell-spec =
@@ -102,4 +107,5 @@ write-sheet-cell-spec =
     same-length
     same-length-2
     same-length-3
+    same-length-4
     returns)

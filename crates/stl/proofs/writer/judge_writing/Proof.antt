@@ -6,7 +6,8 @@ use borrow.Author.Needs.{needs}
 use borrow.Author.Tests.{leb-true}
 use Rattle.model.specs.Judging.{judgeBuffer}
 use Rattle.judge.specs.First.{unless-passed}
-use Rattle.stl.specs.Definition.{triangleCount, mostTriangles, judgeWriting}
+use Rattle.model.specs.Corners.{triangleCount}
+use Rattle.stl.specs.Definition.{mostTriangles, judgeWriting}
 use Rattle.stl.proofs.writer.judge_writing.Statement.{statement}
 use Rattle.stl.proofs.writer.judge_writing.Tie as tie
 

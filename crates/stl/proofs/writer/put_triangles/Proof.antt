@@ -7,7 +7,8 @@ use lib.ListN.{length}
 use lib.Seq.{sets, length-sets}
 use Rattle.laws.specs.Counting.{gather}
 use Rattle.laws.specs.Gathered.{sets-gather}
-use Rattle.stl.specs.Definition.{triangleCount, startLength, triangleLength}
+use Rattle.model.specs.Corners.{triangleCount}
+use Rattle.stl.specs.Definition.{startLength, triangleLength}
 use Rattle.stl.specs.Parts.{facetOf, length-facet}
 use Rattle.stl.proofs.writer.put_triangles.Statement.{statement}
 use Rattle.stl.proofs.writer.put_triangles.Tie as tie

@@ -10,7 +10,8 @@ use lib.Seq.{sets}
 use Rattle.laws.specs.Counting.{gather}
 use Rattle.model.specs.declared.Verdict.the-variants.{Passed}
 use Rattle.stl.specs.declared.StlWritten.the-variants as StlWritten
-use Rattle.stl.specs.Definition.{vertexCount, triangleCount, startLength, judgeWriting, writeAnswer, writeStl}
+use Rattle.model.specs.Corners.{triangleCount}
+use Rattle.stl.specs.Definition.{vertexCount, startLength, judgeWriting, writeAnswer, writeStl}
 use Rattle.stl.specs.Parts.{facetOf, file-laid}
 use Rattle.stl.specs.Passing.{Writable, writable}
 use Rattle.stl.proofs.writer.write_stl.Statement.{statement}

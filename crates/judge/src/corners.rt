@@ -1,9 +1,9 @@
-// Refusal 17: the first triangle one of whose corners names no vertex.
+// Refusal 17: the first triangle one of whose corners names no vertex, judged by whatever takes a list of triangles.
 ghost use mathlib.Core.Path.{_≡_};
 ghost use Prim.Native.Nat.{_*_};
 ghost use lib.Dec.{ltb};
-ghost use Rattle.stl.specs.Definition.{triangleCount, judgeNamed};
-ghost use Rattle.stl.specs.Named.{allNamed};
+ghost use Rattle.model.specs.Corners.{triangleCount, judgeNamed};
+ghost use Rattle.judge.specs.Corners.{allNamed};
 use model::Refusal;
 use model::Verdict;
 

@@ -10,11 +10,11 @@ use Rattle.model.specs.declared.Verdict.{Verdict}
 use Rattle.model.specs.declared.Verdict.the-variants.{Passed}
 use Rattle.model.specs.Refusals.{unless, first}
 use Rattle.model.specs.declared.Refusal.the-variants.{NoVertex}
 use Rattle.judge.specs.First.{not-yet, hit}
-use Rattle.stl.specs.Definition.{triangleCount, judgeNamed}
-use Rattle.stl.specs.Named.{namedSpot, spot-is}
-use Rattle.stl.proofs.corners.first_unnamed.Statement.{statement}
-use Rattle.stl.proofs.corners.first_unnamed.Tie as tie
+use Rattle.model.specs.Corners.{triangleCount, judgeNamed}
+use Rattle.judge.specs.Corners.{namedSpot, spot-is}
+use Rattle.judge.proofs.corners.first_unnamed.Statement.{statement}
+use Rattle.judge.proofs.corners.first_unnamed.Tie as tie
 
 abbrev Inv-loop : tie.InvT-loop
 Inv-loop held triangles t₀ t-end t = (t ≤ triangleCount triangles) × (first (namedSpot held triangles) t ≡ Passed)

@@ -1,9 +1,9 @@
 -- `judge_named` meets its contract: where every corner names a vertex none is refused, otherwise the first is looked for.
 use mathlib.Core.Path.{sym, _∙_}
 use borrow.Author.Needs.{needs}
-use Rattle.stl.specs.Named.{all-named}
-use Rattle.stl.proofs.corners.judge_named.Statement.{statement}
-use Rattle.stl.proofs.corners.judge_named.Tie as tie
+use Rattle.judge.specs.Corners.{all-named}
+use Rattle.judge.proofs.corners.judge_named.Statement.{statement}
+use Rattle.judge.proofs.corners.judge_named.Tie as tie
 
 cast-all-named : tie.Need-cast-all-named
 cast-all-named c = search needs

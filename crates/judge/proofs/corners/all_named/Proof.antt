@@ -3,10 +3,10 @@ use Prim.Native.Nat.{_-_, _*_, _≤_}
 use native.Mathlib.Numerals.{add-one}
 use native.Mathlib.Omega.{arith}
 use mathlib.Core.Path.{_≡_, refl}
-use Rattle.stl.specs.Definition.{triangleCount}
-use Rattle.stl.specs.Named.{allNamed}
-use Rattle.stl.proofs.corners.all_named.Statement.{statement}
-use Rattle.stl.proofs.corners.all_named.Tie as tie
+use Rattle.model.specs.Corners.{triangleCount}
+use Rattle.judge.specs.Corners.{allNamed}
+use Rattle.judge.proofs.corners.all_named.Statement.{statement}
+use Rattle.judge.proofs.corners.all_named.Tie as tie
 
 abbrev Inv-loop : tie.InvT-loop
 Inv-loop held triangles named₀ place₀ place-end named place = (place ≤ place-end) × (named ≡ allNamed held triangles place)
