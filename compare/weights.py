@@ -29,8 +29,8 @@ class Watched(reference.Mesher):
 
     made = []
 
-    def new_vertex(self, a, b):
-        index = super().new_vertex(a, b)
+    def new_vertex(self, a, b, edge):
+        index = super().new_vertex(a, b, edge)
         Watched.made.append((a, b, reference.values(self.vertices[index][:3])))
         return index
 

@@ -48,7 +48,7 @@
  * - Each pointer goes with the number of elements that it points to. NULL is allowed where that number is 0.
  * - float and uint32_t buffers are aligned as C aligns these types; bytes need no alignment.
  * - A buffer that is written overlaps with no other buffer of the call, and no one else touches the buffers meanwhile.
- * - The stack has room: at most SIRVESHAN_STACK bytes for any call.
+ * - The stack has room: at most SIRVESHAN_STACK bytes for any call but the weld, and SIRVESHAN_WELD_STACK for that.
  *
  * Nothing is allocated, kept or locked, and there is no state: calls may run on several threads at once, each with its own
  * buffers that are written. What is lent as const may be shared.
@@ -82,6 +82,7 @@
  *   20  volume size 0 or above 1,024
  *   21  volume length not four times its sizes' product
  *   22  first point not in the volume
+ *   23  edge list too short                                 places wanted
  * [end of refusals]
  *
  * The u and v of 8 run 0 to n over the face's grid points. The point is, by side: 0 (0, v, n-u), 1 (n, v, u), 2 (u, 0, n-v),
@@ -120,6 +121,14 @@
  * to 1,024 each, are told beside it. The sample of its point (x, y, z) is number
  *
  *     x + size x * (y + size y * z)
+ *
+ *
+ * DOUBLED VERTICES
+ *
+ * At the low faces of a block several cells make a vertex on the same grid edge, bit for bit the same. Extraction tells the grid
+ * edge of each vertex in a further list (sirveshan_extract_whole), and the weld (sirveshan_weld) keeps of the vertices with one
+ * edge only the first. An edge's number is 3 times the place of its lower end, SIRVESHAN_PLACE, plus 0, 1, 2 for x, y, z.
+ * SIRVESHAN_NO_EDGE marks the vertex of a transition cell, which has no grid edge and is always kept.
  */
 #ifndef SIRVESHAN_H
 #define SIRVESHAN_H
@@ -141,10 +150,11 @@ extern "C" {
 #define SIRVESHAN_HIGH_Z 32
 
 /*
- * Bytes of stack that are enough for any call, at n = 64 as at n = 1: 59,984 bytes were measured (bindings/c/stack.c; the sheet
- * takes the most), and this is rounded up.
+ * Bytes of stack that are enough for any call but the weld, at n = 64 as at n = 1: 59,984 bytes were measured (bindings/c/stack.c; the
+ * sheet takes the most), and this is rounded up. The weld keeps its tables there: about 448 KiB were measured, for few vertices as for many.
  */
 #define SIRVESHAN_STACK 65536
+#define SIRVESHAN_WELD_STACK 491520
 
 /*
  * Lengths and places by n, 1 to 64, and mask, 0 to 63. Each is a constant expression of type size_t for constant arguments; an
@@ -195,6 +205,9 @@ extern "C" {
 #define SIRVESHAN_MOST_READS(n, mask)                                                                                            \
     ((size_t)(n) * (size_t)(n) * (8 * (size_t)(n) + 9 * SIRVESHAN_SIDES(mask)) + 14 * SIRVESHAN_MOST_VERTICES(n, mask))
 
+/* What stands for the grid edge of a vertex that has none. */
+#define SIRVESHAN_NO_EDGE UINT32_C(4294967295)
+
 /* A block, which of its neighbours are finer, and where inside begins. */
 typedef struct sirveshan_header {
     float x, y, z;       /* its lowest point, the base: each finite and at most 1,048,576 in size */
@@ -238,6 +251,38 @@ typedef struct sirveshan_extracted {
 sirveshan_extracted sirveshan_extract(sirveshan_header header, const float *centre, size_t centre_length,
                                       const float *neighbours, size_t neighbours_length, uint32_t *store, size_t store_length,
                                       float *vertices, size_t vertices_length, uint32_t *triangles, size_t triangles_length);
+
+/*
+ * The same, and the number of each vertex's grid edge in edges: on a mesh its first places, one for each vertex, are written, and
+ * all beyond stays as it was. All else is answered and left as by sirveshan_extract. Judged are 1 to 9, then 23 where edges has
+ * fewer places than the mesh has vertices, then 10.
+ */
+sirveshan_extracted sirveshan_extract_whole(sirveshan_header header, const float *centre, size_t centre_length,
+                                            const float *neighbours, size_t neighbours_length, uint32_t *store,
+                                            size_t store_length, float *vertices, size_t vertices_length, uint32_t *triangles,
+                                            size_t triangles_length, uint32_t *edges, size_t edges_length);
+
+/*
+ * Welds a mesh, in its own lists: of the vertices with one number in edges only the first is kept, the kept close up in their
+ * order in vertices and edges, and each corner of the triangles gets the new index of its vertex or of the one kept for it. For
+ * any lists, not only extraction's: equal numbers mean one edge, and a vertex with SIRVESHAN_NO_EDGE is always kept. Each corner
+ * names the same edge as before; of extraction's mesh it keeps its six floats, bit for bit. A second pass moves nothing.
+ *
+ * vertex_count vertices and triangle_count triangles are looked at; lengths count floats, indices and numbers. The new counts
+ * are answered. All beyond them stays as it was: vertices that moved down are still found at their old places past the new
+ * count. Judged are 14 (vertices, then triangles: the places wanted), 23 (edges) and 17, in that order. On a refusal both counts
+ * are 0 and no lent place is altered.
+ *
+ * The time is close to linear in the vertices and triangles for lists whose equal numbers lie close together, as extraction's
+ * do; it may grow faster for lists with many equal numbers that lie far apart.
+ */
+typedef struct sirveshan_welded {
+    sirveshan_refusal refused;
+    size_t vertices, triangles;
+} sirveshan_welded;
+
+sirveshan_welded sirveshan_weld(uint32_t vertex_count, uint32_t triangle_count, float *vertices, size_t vertices_length,
+                                uint32_t *triangles, size_t triangles_length, uint32_t *edges, size_t edges_length);
 
 /*
  * Reads a record: its header is answered, and its samples fill the first places of samples, the centre's first and then those of

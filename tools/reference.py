@@ -13,6 +13,7 @@ As a command, one record on standard input:
 
     python3 tools/reference.py listing           what the listing program prints
     python3 tools/reference.py mesh              the same with room for any mesh
+    python3 tools/reference.py welded            the same, welded
     python3 tools/reference.py store             the index store, a place a line
     python3 tools/reference.py viewer [X Y Z]    subdivisions, blank, sample
     python3 tools/reference.py stl               the mesh as an STL file
@@ -47,6 +48,8 @@ NAN = 0x7FC00000
 
 SHEET_BYTES = 1073741824
 
+NO_EDGE = 4294967295
+
 LISTING_BYTES = 65536
 LISTING_STORE = 15552
 LISTING_SAMPLES = 16377
@@ -65,10 +68,10 @@ class Refusal(NamedTuple):
 
 
 class Counts(NamedTuple):
-    """Extraction's answer when nothing is refused."""
+    """Extraction's answer when nothing is refused, and the weld's, which reads no samples."""
     vertices: int
     triangles: int
-    reads: int
+    reads: int = 0
 
 
 class Block(NamedTuple):
@@ -83,11 +86,13 @@ class Block(NamedTuple):
 
 
 class Mesh(NamedTuple):
-    """Six f32 bit patterns a vertex, three indices a triangle, the index store; the sample reads that it took."""
+    """Six f32 bit patterns a vertex, three indices a triangle, the index store; the sample reads that it took; a number for each
+    vertex's grid edge."""
     vertices: list
     triangles: list
     store: list
     reads: int
+    edges: list = ()
 
 
 # f32
@@ -354,6 +359,10 @@ def refuse_buffer(length, wanted):
     return Refusal(14, wanted) if length < wanted else None
 
 
+def refuse_edges(length, wanted):
+    return Refusal(23, wanted) if length < wanted else None
+
+
 def refuse_lent(block):
     """1 to 6: all but the samples themselves."""
     return (refuse_subdivisions(block.n)
@@ -513,6 +522,12 @@ def edge_of(code):
     return code >> 4 & 0x0F, code & 0x0F
 
 
+def grid_edge(n, a, b):
+    """The number of the grid edge between two neighbouring points of the block: document 02, [10]."""
+    axis = [a[k] != b[k] for k in range(3)].index(True)
+    return 3 * sample_place(n, min(a, b)) + axis
+
+
 class Mesher:
     """The mesh as it grows, cell by cell."""
 
@@ -521,9 +536,11 @@ class Mesher:
         self.vertices = []
         self.triangles = []
         self.store = [0] * store_length(block.n)
+        self.edges = []
 
-    def new_vertex(self, a, b):
+    def new_vertex(self, a, b, edge):
         self.vertices.append(vertex_between(a, b, self.field.threshold))
+        self.edges.append(edge)
         return len(self.vertices) - 1
 
     def regular_vertex(self, cell, code):
@@ -533,8 +550,8 @@ class Mesher:
         a, b = edge_of(code)
 
         def make():
-            return self.new_vertex(self.field.regular_point(corner_point(cell, a)),
-                                   self.field.regular_point(corner_point(cell, b)))
+            ends = corner_point(cell, a), corner_point(cell, b)
+            return self.new_vertex(*map(self.field.regular_point, ends), grid_edge(n, *ends))
 
         if high & 0x80:
             vertex = make()
@@ -553,7 +570,7 @@ class Mesher:
 
         def make():
             return self.new_vertex(self.field.transition_point(side, u, v, a),
-                                   self.field.transition_point(side, u, v, b))
+                                   self.field.transition_point(side, u, v, b), NO_EDGE)
 
         if high & 0x80:
             vertex = make()
@@ -592,13 +609,14 @@ def mesh_of(block, mesher=Mesher):
         for u in steps:
             for v in steps:
                 mesher.transition_cell(side, u, v)
-    return Mesh(mesher.vertices, mesher.triangles, mesher.store, mesher.field.reads)
+    return Mesh(mesher.vertices, mesher.triangles, mesher.store, mesher.field.reads, mesher.edges)
 
 
 # Extraction
 
-def extract(block, vertices, triangles, store):
-    """Counts or a refusal, 1 to 10; fills the three lent lists when nothing is refused.
+def extract(block, vertices, triangles, store, edges=None):
+    """Counts or a refusal, 1 to 10; fills the three lent lists when nothing is refused.  With the further list of document 02, [10],
+    23 comes before 10, and that list is filled too.
 
     A refusal reports no reads: they are those made once every check has passed."""
     refusal = (refuse_block(block)
@@ -607,13 +625,21 @@ def extract(block, vertices, triangles, store):
     if refusal:
         return refusal
     mesh = mesh_of(block)
-    refusal = refuse_room(mesh, len(vertices), len(triangles))
+    refusal = (edges is not None and refuse_edges(len(edges), len(mesh.vertices))
+               or refuse_room(mesh, len(vertices), len(triangles)))
     if refusal:
         return refusal
-    lay(vertices, [number for vertex in mesh.vertices for number in vertex])
-    lay(triangles, [index for triangle in mesh.triangles for index in triangle])
+    lay(vertices, flat(mesh.vertices))
+    lay(triangles, flat(mesh.triangles))
     lay(store, mesh.store)
+    if edges is not None:
+        lay(edges, mesh.edges)
     return Counts(len(mesh.vertices), len(mesh.triangles), mesh.reads)
+
+
+def flat(parts):
+    """The numbers of a mesh's vertices or triangles, end to end."""
+    return [number for part in parts for number in part]
 
 
 def lay(lent, numbers):
@@ -707,15 +733,20 @@ def stl_of(vertices, triangles):
     return struct.pack("<80xI", len(positions)) + b"".join(facets)
 
 
+def refuse_stray(triangles, count, held):
+    """17: the first of so many triangles that does not name three of so many vertices."""
+    for t in range(count):
+        if max(triangles[3 * t:3 * t + 3]) >= held:
+            return Refusal(17, t)
+    return None
+
+
 def refuse_stl_writing(vertices, triangles):
     """16, 17."""
     count, held = len(triangles) // 3, len(vertices) // 6
     if count > STL_MOST_TRIANGLES:
         return Refusal(16, 0)
-    for t in range(count):
-        if max(triangles[3 * t:3 * t + 3]) >= held:
-            return Refusal(17, t)
-    return None
+    return refuse_stray(triangles, count, held)
 
 
 def write_stl(vertices, triangles, buffer):
@@ -750,8 +781,43 @@ def read_stl(file, positions):
 
 
 def mesh_stl(mesh):
-    return stl_of([number for vertex in mesh.vertices for number in vertex],
-                  [index for triangle in mesh.triangles for index in triangle])
+    return stl_of(flat(mesh.vertices), flat(mesh.triangles))
+
+
+# The weld: document 02, [10].  Flat lists as for STL, and a number for each vertex
+
+def refuse_weld(counts, vertices, triangles, edges):
+    """14, 14, 23, 17."""
+    return (refuse_buffer(len(vertices), 6 * counts.vertices)
+            or refuse_buffer(len(triangles), 3 * counts.triangles)
+            or refuse_edges(len(edges), counts.vertices)
+            or refuse_stray(triangles, counts.triangles, counts.vertices))
+
+
+def weld(counts, vertices, triangles, edges):
+    """The new counts or a refusal; changes the three lent lists."""
+    refusal = refuse_weld(counts, vertices, triangles, edges)
+    if refusal:
+        return refusal
+    first, new, kept = {}, [], []
+    for vertex, edge in enumerate(edges[:counts.vertices]):
+        if edge == NO_EDGE or edge not in first:
+            first[edge] = len(kept)
+            kept.append(vertex)
+        new.append(first[edge])
+    lay(vertices, [number for vertex in kept for number in vertices[6 * vertex:6 * vertex + 6]])
+    lay(edges, [edges[vertex] for vertex in kept])
+    lay(triangles, [new[corner] for corner in triangles[:3 * counts.triangles]])
+    return Counts(len(kept), counts.triangles)
+
+
+def welded(mesh):
+    """The mesh once its vertices are welded."""
+    vertices, triangles, edges = flat(mesh.vertices), flat(mesh.triangles), list(mesh.edges)
+    counts = weld(Counts(len(mesh.vertices), len(mesh.triangles)), vertices, triangles, edges)
+    return mesh._replace(vertices=[tuple(vertices[6 * k:6 * k + 6]) for k in range(counts.vertices)],
+                         triangles=[tuple(triangles[3 * k:3 * k + 3]) for k in range(counts.triangles)],
+                         edges=edges[:counts.vertices])
 
 
 # Repair: document 02, [5]
@@ -1031,9 +1097,7 @@ def accepted_mesh(record):
 def mesh_lines(mesh):
     if isinstance(mesh, Refusal):
         return listing_text(mesh, [], [])
-    return listing_text(Counts(len(mesh.vertices), len(mesh.triangles), mesh.reads),
-                        [number for vertex in mesh.vertices for number in vertex],
-                        [index for triangle in mesh.triangles for index in triangle])
+    return listing_text(Counts(len(mesh.vertices), len(mesh.triangles), mesh.reads), flat(mesh.vertices), flat(mesh.triangles))
 
 
 def store_lines(mesh):
@@ -1045,6 +1109,12 @@ def store_lines(mesh):
 def mesh_text(record):
     """The listing without the listing program's limits."""
     return mesh_lines(accepted_mesh(record))
+
+
+def welded_text(record):
+    """The listing of the welded mesh."""
+    mesh = accepted_mesh(record)
+    return mesh_lines(mesh if isinstance(mesh, Refusal) else welded(mesh))
 
 
 def store_text(record):
@@ -1102,7 +1172,7 @@ def put_repaired(record, filler):
 
 
 def main(arguments):
-    texts = {"listing": listing, "mesh": mesh_text, "store": store_text, "sheet": sheet_text}
+    texts = {"listing": listing, "mesh": mesh_text, "welded": welded_text, "store": store_text, "sheet": sheet_text}
     command, *point = arguments or [""]
     if arguments == ["stl"]:
         put_stl(sys.stdin.buffer.read())

@@ -1,5 +1,6 @@
 #!/usr/bin/env python3
-"""Document 01's figures, case A and refusals, document 02's STL, blank, reads, repair, cut blocks and the sheet, asked of tools/reference.py; the example records.
+"""Document 01's figures, case A and refusals, document 02's STL, blank, reads, repair, cut blocks, the sheet and the weld, asked of
+tools/reference.py; the example records.
 
     python3 tools/test_reference.py
 """
@@ -444,6 +445,46 @@ class Sheet(unittest.TestCase):
     def test_eight_after_the_reader(self):
         apart = flat_block(mask=1)._replace(neighbours=[ONE] * reference.neighbours_length(1, 1))
         self.assertEqual(reference.sheet(reference.record_of(apart)), [Refusal(8, 0, 0, 0)])
+
+
+class Weld(unittest.TestCase):
+    # Five vertices, two of them on edge 4 and two transition vertices; a part of one more; two triangles and a part of one more.
+    VERTICES = list(range(100, 100 + 6 * 5 + 4))
+    EDGES = [4, reference.NO_EDGE, 4, reference.NO_EDGE, 9, 4]
+    TRIANGLES = [0, 1, 2, 4, 3, 2, 5, 5]
+    COUNTS = Counts(5, 2)
+
+    def refused(self, refusal, counts=COUNTS, vertices=VERTICES, triangles=TRIANGLES, edges=EDGES):
+        lists = list(vertices), list(triangles), list(edges)
+        self.assertEqual(reference.weld(counts, *lists), refusal)
+        self.assertEqual(lists, (list(vertices), list(triangles), list(edges)))
+
+    def test_welded(self):
+        vertices, triangles, edges = list(self.VERTICES), list(self.TRIANGLES), list(self.EDGES)
+        self.assertEqual(reference.weld(self.COUNTS, vertices, triangles, edges), Counts(4, 2))
+        self.assertEqual(edges, [4, reference.NO_EDGE, reference.NO_EDGE, 9, 9, 4])
+        self.assertEqual(triangles, [0, 1, 0, 3, 2, 0, 5, 5])
+        self.assertEqual(vertices, self.VERTICES[:12] + self.VERTICES[18:30] + self.VERTICES[24:])
+        again = list(vertices), list(triangles), list(edges)
+        self.assertEqual(reference.weld(Counts(4, 2), *again), Counts(4, 2))
+        self.assertEqual(again, (vertices, triangles, edges))
+
+    def test_refuses(self):
+        self.refused(Refusal(14, 36), Counts(6, 3), triangles=[9], edges=[])
+        self.refused(Refusal(14, 9), Counts(5, 3), edges=[])
+        self.refused(Refusal(23, 5), edges=[4, 4, 4, 4], triangles=[9] * 6)
+        self.refused(Refusal(17, 1), Counts(4, 2))
+
+    def test_low_faces(self):
+        """Of a block with a surface at its low faces: each crossed edge once, each corner with its six numbers."""
+        block = records.sampled_block(records.depth_in_rock, 6, 0)
+        mesh = reference.mesh_of(block)
+        welded = reference.welded(mesh)
+        self.assertLess(len(welded.vertices), len(mesh.vertices))
+        self.assertEqual(len(welded.vertices), len(set(mesh.edges)))
+        self.assertEqual(sorted(welded.edges), sorted(set(mesh.edges)))
+        corners = [[mesh.vertices[corner] for corner in triangle] for triangle in mesh.triangles]
+        self.assertEqual([[welded.vertices[corner] for corner in triangle] for triangle in welded.triangles], corners)
 
 
 class Viewer(unittest.TestCase):

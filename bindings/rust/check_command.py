@@ -176,7 +176,7 @@ def check_bad_usage():
     record = EXAMPLES / "case-a.record"
     for words in ([], ["draw", record], ["--mesh"], ["mesh"], ["mesh", record, record], ["mesh", record, "--plain"],
                   ["mesh", record, "--jobs"], ["mesh", record, "--jobs", "0"], ["mesh", record, "--jobs", "many"],
-                  ["mesh", record, "--jobs=257"], ["info"], ["info", record, "--jobs", 2], ["sample", record],
+                  ["mesh", record, "--jobs=257"], ["mesh", record, "--weld=2"], ["info", record, "--weld"], ["info"], ["info", record, "--jobs", 2], ["sample", record],
                   ["sheet"], ["sheet", record, record], ["sheet", record, "--plain"], ["sheet", record, "--jobs", "0"],
                   ["sample", record, 0, 0], ["sample", record, 0, 0, "up"], ["sample", record, 0, 0, 2 ** 31],
                   ["sample", record, 0, 0, 0, 0]):
@@ -317,8 +317,8 @@ def figures(record):
     return mesh, area, volume, opened, box
 
 
-def summary_lines(record):
-    done = run("mesh", "-", "--summary", given=record)
+def summary_lines(record, *words):
+    done = run("mesh", "-", "--summary", *words, given=record)
     same("status", (done.returncode, done.stderr), (0, b""))
     return dict(line.split(" ", 1) for line in done.stdout.decode().splitlines())
 
@@ -391,7 +391,7 @@ def check_summary_of_open_meshes():
 def check_summary_of_nothing():
     record = reference.record_of(noise(random.Random(6), 3, 0, pick=(1.0,)))
     lines = summary_lines(record)
-    same("lines", lines, {"vertices": "0", "triangles": "0", "box": "none", "area": "0", "volume": "none: there is no surface", "reads": "216"})
+    same("lines", lines, {"vertices": "0", "triangles": "0", "box": "none", "area": "0", "volume": "none: there is no surface", "reads": str(8 * 3 ** 3)})
 
 
 def check_summaries_of_a_run():
@@ -400,6 +400,44 @@ def check_summaries_of_a_run():
     same("status", done.returncode, 1)
     one = run("mesh", "-", "--summary", given=good).stdout
     same("output", done.stdout, b"record 1\n" + one + b"record 2\nrefused 8 0 1 0\nrecord 3\n" + one)
+
+
+# Welded meshes
+
+def doubled_records():
+    """The examples, noise with and without finer sides, and a face where a surface meets all low faces."""
+    chance = random.Random(12)
+    blocks = [noise(chance, 4, 0), noise(chance, 3, 0b010101), noise(chance, 2, 63), sphere(5, 0, 7.0, middle=0.0), sphere(16, 0, 3.2)]
+    return [path.read_bytes() for path in sorted(EXAMPLES.glob("*.record"))] + [reference.record_of(block) for block in blocks]
+
+
+def check_welded():
+    doubled = 0
+    for record in doubled_records():
+        plain, mesh = reference.accepted_mesh(record), reference.welded(reference.accepted_mesh(record))
+        accepted(run("mesh", "-", "--weld", given=record), reference.welded_text(record))
+        lines, wanted = summary_lines(record, "--weld"), summary_lines(record)
+        same("doubled", int(lines.pop("doubled")), len(plain.vertices) - len(mesh.vertices))
+        same("vertices", (int(lines.pop("vertices")), int(wanted.pop("vertices"))), (len(mesh.vertices), len(plain.vertices)))
+        same("all else", lines, wanted)
+        doubled += len(plain.vertices) - len(mesh.vertices)
+    assert doubled > 100, doubled
+
+
+def check_welded_run():
+    parts = [*doubled_records(), mismatch(), reference.record_of(records.case_a())]
+    for jobs in (1, 3):
+        done = run("mesh", "-", "--weld", "--jobs", jobs, given=b"".join(parts))
+        same("status", done.returncode, 1)
+        same("answers", done.stdout.decode(), "".join(map(reference.welded_text, parts)))
+
+
+def check_welded_stl():
+    """The facets are the same."""
+    parts = doubled_records()
+    same("file", run("stl", "-", "-o", "-", "--weld", given=b"".join(parts)).stdout, stl_of(*parts))
+    for record in parts:
+        same("file", run("stl", "-", "-o", "-", "--weld", given=record).stdout, run("stl", "-", "-o", "-", given=record).stdout)
 
 
 # Info and samples

@@ -45,6 +45,44 @@ pub fn extract(
             triangles.len(),
         )
     };
+    counts_of(answer)
+}
+
+/// The same, and the number of each vertex's grid edge in the first places of a further list, which
+/// [`weld`](crate::weld()) takes: 3 times the [`sample_place`](crate::sample_place) of the edge's
+/// lower end, plus 0, 1, 2 for x, y, z; [`NO_EDGE`](crate::NO_EDGE) for the vertex of a transition
+/// cell. Refusal 23 where the list has fewer places than the mesh has vertices.
+pub fn extract_whole(
+    header: &Header,
+    centre: &[f32],
+    neighbours: &[f32],
+    store: &mut [u32],
+    vertices: &mut [f32],
+    triangles: &mut [u32],
+    edges: &mut [u32],
+) -> Result<Counts, Refusal> {
+    // SAFETY: as in `extract`.
+    let answer = unsafe {
+        linked::sirveshan_extract_whole(
+            header.into(),
+            centre.as_ptr(),
+            centre.len(),
+            neighbours.as_ptr(),
+            neighbours.len(),
+            store.as_mut_ptr(),
+            store.len(),
+            vertices.as_mut_ptr(),
+            vertices.len(),
+            triangles.as_mut_ptr(),
+            triangles.len(),
+            edges.as_mut_ptr(),
+            edges.len(),
+        )
+    };
+    counts_of(answer)
+}
+
+fn counts_of(answer: linked::Extracted) -> Result<Counts, Refusal> {
     answer.refused.check()?;
     let linked::Extracted { vertices, triangles, reads, .. } = answer;
     Ok(Counts { vertices, triangles, reads })

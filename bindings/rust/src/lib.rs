@@ -6,7 +6,8 @@
 //! written to the bytes of a block record. [`viewer`] has the calls over record bytes alone. [`Stl`]
 //! writes a mesh as an STL file and reads one. [`Volume`] cuts blocks from a raw volume.
 //! [`sheet()`] tells the figures of each record of a run. [`repair()`] mends a damaged delivery and
-//! lists what it changed.
+//! lists what it changed. [`weld()`] takes out the vertices that were made twice, by the grid edges
+//! that [`extract_whole`] tells; [`Mesher::welded`] does both.
 //!
 //! What is proved is the library below: this crate hands its slices over and names its answers.
 //!
@@ -42,9 +43,10 @@ mod sheet;
 mod stl;
 pub mod viewer;
 mod volume;
+mod weld;
 
 pub use block::{Block, Header, Side};
-pub use extract::{extract, Counts};
+pub use extract::{extract, extract_whole, Counts};
 pub use lengths::{
     most_reads, most_triangles, most_vertices, neighbours_length, record_length, sample_length,
     sample_place, sample_point, stl_length, store_length, volume_length, MOST_ACROSS, MOST_RUN,
@@ -57,6 +59,7 @@ pub use repair::{repair, Change};
 pub use sheet::{sheet, sheet_line, sheet_total, Figures, SheetLine, SheetLines};
 pub use stl::{read_stl, write_stl, Facet, Stl};
 pub use volume::{cut_block, Volume};
+pub use weld::{weld, NO_EDGE};
 
 /// The examples of docs/API.md are tests too.
 #[cfg(doctest)]

@@ -89,6 +89,13 @@ pub struct TotalTold {
     pub figures: CFigures,
 }
 
+#[repr(C)]
+pub struct Welded {
+    pub refused: CRefusal,
+    pub vertices: usize,
+    pub triangles: usize,
+}
+
 extern "C" {
     pub fn sirveshan_subdivisions(src: *const u8, length: usize) -> u64;
     pub fn sirveshan_blank(src: *const u8, length: usize) -> u64;
@@ -106,6 +113,21 @@ extern "C" {
         vertices_length: usize,
         triangles: *mut u32,
         triangles_length: usize,
+    ) -> Extracted;
+    pub fn sirveshan_extract_whole(
+        header: CHeader,
+        centre: *const f32,
+        centre_length: usize,
+        neighbours: *const f32,
+        neighbours_length: usize,
+        store: *mut u32,
+        store_length: usize,
+        vertices: *mut f32,
+        vertices_length: usize,
+        triangles: *mut u32,
+        triangles_length: usize,
+        edges: *mut u32,
+        edges_length: usize,
     ) -> Extracted;
     pub fn sirveshan_read(
         src: *const u8,
@@ -157,6 +179,16 @@ extern "C" {
     ) -> SamplesCut;
     pub fn sirveshan_sheet_line(run: *const u8, length: usize, at: usize) -> LineTold;
     pub fn sirveshan_sheet_total(run: *const u8, length: usize) -> TotalTold;
+    pub fn sirveshan_weld(
+        vertex_count: u32,
+        triangle_count: u32,
+        vertices: *mut f32,
+        vertices_length: usize,
+        triangles: *mut u32,
+        triangles_length: usize,
+        edges: *mut u32,
+        edges_length: usize,
+    ) -> Welded;
 }
 
 impl From<[usize; 3]> for CPoint {

@@ -1,6 +1,6 @@
 //! Extraction with buffers that are kept.
 
-use crate::{extract, Counts, Header, Record, Refusal};
+use crate::{extract, extract_whole, weld, Counts, Header, Record, Refusal};
 
 /// A mesh that a [`Mesher`] lends out.
 #[derive(Clone, Copy, Debug, PartialEq)]
@@ -11,6 +11,8 @@ pub struct Mesh<'a> {
     pub triangles: &'a [[u32; 3]],
     /// The sample reads that it took, as [`Counts`] tells them.
     pub reads: u64,
+    /// How many vertices were doubled, and are no more: 0 where nothing was welded.
+    pub doubled: usize,
 }
 
 /// Buffers that grow to what the blocks need and are used again for the next block.
@@ -19,6 +21,8 @@ pub struct Mesher {
     store: Vec<u32>,
     vertices: Vec<[f32; 6]>,
     triangles: Vec<[u32; 3]>,
+    edges: Vec<u32>,
+    welds: bool,
 }
 
 impl Mesher {
@@ -27,12 +31,30 @@ impl Mesher {
         Mesher::default()
     }
 
+    /// The same, and each mesh is welded: of the vertices made on one grid edge only the first
+    /// stays. The surface is the same, corner by corner and bit for bit.
+    ///
+    /// ```
+    /// use sirveshan::{sample_length, Block, Header, Mesher};
+    ///
+    /// // A level surface that nine grid edges cross; two of them were given a vertex twice.
+    /// let centre: Vec<f32> = (0..sample_length(2)).map(|place| (place % 3) as f32).collect();
+    /// let block = Block { base: [0.0; 3], size: 1.0, subdivisions: 2 };
+    /// let header = Header { block, mask: 0, threshold: 0.5 };
+    /// let mut mesher = Mesher::new().welded();
+    /// let mesh = mesher.extract(&header, &centre, &[]).unwrap();
+    /// assert_eq!((mesh.vertices.len(), mesh.doubled, mesh.triangles.len()), (9, 2, 8));
+    /// ```
+    pub fn welded(self) -> Mesher {
+        Mesher { welds: true, ..self }
+    }
+
     /// Meshes the block of a record.
     pub fn mesh(&mut self, record: &Record) -> Result<Mesh<'_>, Refusal> {
         self.extract(&record.header, &record.centre, &record.neighbours)
     }
 
-    /// Meshes a block. Never answers refusal 9 or 10: where room is short, it is made.
+    /// Meshes a block. Never answers refusal 9, 10 or 23: where room is short, it is made.
     pub fn extract(
         &mut self,
         header: &Header,
@@ -42,16 +64,19 @@ impl Mesher {
         let counts = loop {
             match self.try_extract(header, centre, neighbours) {
                 Err(Refusal { number: 9, values: [places, ..] }) => self.store.resize(places, 0),
+                Err(Refusal { number: 23, values: [places, ..] }) => self.edges.resize(places, 0),
                 Err(Refusal { number: 10, values: [vertices, triangles, _] }) => {
                     self.make_room(vertices, triangles)
                 }
                 answer => break answer?,
             }
         };
+        let kept = if self.welds { self.weld(counts)? } else { counts };
         Ok(Mesh {
-            vertices: &self.vertices[..counts.vertices],
-            triangles: &self.triangles[..counts.triangles],
+            vertices: &self.vertices[..kept.vertices],
+            triangles: &self.triangles[..kept.triangles],
             reads: counts.reads,
+            doubled: counts.vertices - kept.vertices,
         })
     }
 
@@ -61,13 +86,22 @@ impl Mesher {
         centre: &[f32],
         neighbours: &[f32],
     ) -> Result<Counts, Refusal> {
-        extract(
-            header,
-            centre,
-            neighbours,
-            &mut self.store,
+        let Mesher { store, vertices, triangles, edges, welds } = self;
+        let (vertices, triangles) = (vertices.as_flattened_mut(), triangles.as_flattened_mut());
+        if *welds {
+            return extract_whole(header, centre, neighbours, store, vertices, triangles, edges);
+        }
+        extract(header, centre, neighbours, store, vertices, triangles)
+    }
+
+    /// A mesh of a block is never refused here: its counts fit 32 bits and its corners name vertices.
+    fn weld(&mut self, Counts { vertices, triangles, .. }: Counts) -> Result<Counts, Refusal> {
+        weld(
+            vertices as u32,
+            triangles as u32,
             self.vertices.as_flattened_mut(),
             self.triangles.as_flattened_mut(),
+            &mut self.edges,
         )
     }
 

@@ -34,6 +34,7 @@ pub(crate) fn words(number: u32, [first, second, third]: [usize; 3]) -> Option<S
         20 => "a size of the volume is 0 or above 1,024".to_string(),
         21 => "the volume's bytes are not four times its sizes' product".to_string(),
         22 => "the first point is not in the volume".to_string(),
+        23 => format!("the list of edges needs {first} places"),
         _ => return None,
     })
 }

@@ -48,7 +48,7 @@ pub fn read_stl(bytes: &[u8], positions: &mut [f32]) -> Result<usize, Refusal> {
 /// use sirveshan::{Mesh, Stl};
 ///
 /// let vertices = [[0.0; 6], [1.0, 0.0, 0.0, 0.0, 0.0, 0.0], [0.0, 1.0, 0.0, 0.0, 0.0, 0.0]];
-/// let mesh = Mesh { vertices: &vertices, triangles: &[[0, 1, 2]], reads: 0 };
+/// let mesh = Mesh { vertices: &vertices, triangles: &[[0, 1, 2]], reads: 0, doubled: 0 };
 /// let (mut written, mut read) = (Stl::new(), Stl::new());
 /// let file = written.write(&mesh).unwrap();
 /// assert_eq!(file.len(), 134);

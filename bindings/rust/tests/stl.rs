@@ -94,7 +94,7 @@ fn buffers_grow_and_are_used_again() {
     let (mut mesher, mut written, mut read) = (Mesher::new(), Stl::new(), Stl::new());
     let mesh = mesher.extract(&header, &centre, &[]).unwrap();
     let case_a = [[[0.5, 0.0, 0.0], [0.0, 0.5, 0.0], [0.0, 0.0, 0.5]]];
-    let empty = Mesh { vertices: &[], triangles: &[], reads: 0 };
+    let empty = Mesh { vertices: &[], triangles: &[], reads: 0, doubled: 0 };
     for _ in 0..2 {
         assert_eq!(read.read(written.write(&mesh).unwrap()).unwrap(), case_a);
         assert_eq!(written.write(&empty).unwrap(), [0; 84]);

@@ -7,6 +7,7 @@ mod ours;
 mod sheet;
 mod stl;
 mod volume;
+mod weld;
 
 use faces::{block, NOISY, SMOOTH, WAVY};
 use oracle::record::Block;
@@ -25,6 +26,7 @@ bench stl                                 STL files: writing and reading against
 bench blank                               the viewer's question whether a block is blank
 bench volume [SIZE]                       a raw volume of SIZE samples a side (512) cut whole, against reading its file once
 bench sheet                               the sheet of a run against extraction of the same blocks
+bench weld                                the weld beside extraction of the same block
 bench ours|before|rust TIMES N MASK FACE  meshes one block that often and prints nothing
                                           (FACE: smooth, wavy, noisy); compare/instructions counts it";
 const SIZES: [usize; 3] = [4, 8, 16];
@@ -194,6 +196,7 @@ fn run(words: &[&str]) -> Outcome {
         ["volume"] => volume::table(512),
         ["volume", size] => volume::table(number(size)?),
         ["sheet"] => sheet::table(),
+        ["weld"] => weld::table(),
         ["parts"] => parts(16),
         ["parts", n] => parts(number(n)?),
         ["ours" | "before" | "rust", times, n, mask, face @ ("smooth" | "wavy" | "noisy")] => {

@@ -47,18 +47,20 @@ impl Buffers {
     }
 }
 
+/// The block as our calls take it.
+pub fn header(block: &Block) -> sirveshan::Header {
+    let Block { base, size, n, mask, threshold, .. } = *block;
+    let block = sirveshan::Block { base, size, subdivisions: n };
+    sirveshan::Header { block, mask, threshold }
+}
+
 pub fn extract(
     block: &Block,
     store: &mut [u32],
     vertices: &mut [f32],
     triangles: &mut [u32],
 ) -> Answer {
-    let Block { base, size, n, mask, threshold, .. } = *block;
-    let header = sirveshan::Header {
-        block: sirveshan::Block { base, size, subdivisions: n },
-        mask,
-        threshold,
-    };
+    let header = header(block);
     sirveshan::extract(&header, &block.centre, &block.neighbours, store, vertices, triangles)
         .map(|counts| (counts.vertices, counts.triangles))
         .map_err(|refusal| refusal.to_string())

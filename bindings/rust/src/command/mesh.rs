@@ -10,7 +10,7 @@ use sirveshan::{Mesh, Mesher, Record, Refusal};
 
 pub const COMMAND: Command = Command {
     name: "mesh",
-    usage: "mesh RECORD|- [--summary] [--jobs N]",
+    usage: "mesh RECORD|- [--weld] [--summary] [--jobs N]",
     about: "\
 prints the mesh of a record: its listing, or --summary
 
@@ -22,8 +22,10 @@ RECORD may be a run: records laid end to end. Each is meshed by itself, and the 
 A refused record of a run has a line `refused N A B C` in its place, and the run goes on; each
 summary of a run begins with a line `record K`.
 
+    --weld      of the vertices made on one grid edge keep only the first; the surface is the same
     --summary   counts, bounding box, surface area and, of a closed mesh, the enclosed volume; last the
-                sample reads that it took once every check had passed
+                sample reads that it took once every check had passed. With --weld also how many
+                vertices were doubled
     --jobs N    mesh the records of a run on N threads (1 to 256)
 ",
     run,
@@ -31,12 +33,17 @@ summary of a run begins with a line `record K`.
 
 fn run(mut arguments: Arguments) -> Result<(), Failure> {
     let summary = arguments.flag("--summary");
-    let text = if summary { summary::summary } else { listing::listing };
+    let weld = arguments.flag("--weld");
+    let text = match (summary, weld) {
+        (false, _) => listing::listing,
+        (true, false) => summary::summary,
+        (true, true) => summary::welded_summary,
+    };
     let jobs = arguments.jobs()?.unwrap_or(1);
     let [path] = arguments.by_place(["RECORD"])?;
     let mut answers = Answers { numbered: summary, progress: Progress::new(), refused: false };
     let pieces = Run::open(&path)?;
-    in_order(jobs, pieces, || worker(text), |answer| answers.put(answer))?;
+    in_order(jobs, pieces, || worker(weld, text), |answer| answers.put(answer))?;
     answers.progress.erase();
     if answers.refused {
         return Err(Failure::SomeRefused);
@@ -51,9 +58,18 @@ struct Answer {
     text: Result<Vec<u8>, Refusal>,
 }
 
+/// A mesher, of welded meshes where they are asked for.
+pub fn mesher(weld: bool) -> Mesher {
+    if weld {
+        Mesher::new().welded()
+    } else {
+        Mesher::new()
+    }
+}
+
 /// Meshes record after record with the same buffers.
-fn worker(text: fn(&Mesh) -> Vec<u8>) -> impl FnMut(Piece) -> Answer {
-    let mut mesher = Mesher::new();
+fn worker(weld: bool, text: fn(&Mesh) -> Vec<u8>) -> impl FnMut(Piece) -> Answer {
+    let mut mesher = mesher(weld);
     move |Piece { number, alone, bytes }| {
         let read = Record::read(&bytes);
         let meshed = read.and_then(|record| mesher.mesh(&record).map(|mesh| text(&mesh)));

@@ -4,16 +4,17 @@ use crate::arguments::{missing, Arguments};
 use crate::failure::{tell_refusal, Failure};
 use crate::input::{Piece, Run};
 use crate::jobs::in_order;
+use crate::mesh::mesher;
 use crate::progress::Progress;
 use crate::stl_check::check;
 use crate::whole_file::WholeFile;
 use crate::{output, Command};
-use sirveshan::{Mesher, Record, Refusal, Stl, STL_HEADER, STL_TRIANGLE};
+use sirveshan::{Record, Refusal, Stl, STL_HEADER, STL_TRIANGLE};
 use std::ffi::OsStr;
 
 pub const COMMAND: Command = Command {
     name: "stl",
-    usage: "stl RECORD|- -o FILE|- [--force] [--skip-refused] [--jobs N], or stl --check FILE|-",
+    usage: "stl RECORD|- -o FILE|- [--weld] [--force] [--skip-refused] [--jobs N], or stl --check FILE|-",
     about: "\
 writes the mesh of a record as a binary STL file, or tells what such a file holds
 
@@ -22,6 +23,7 @@ shared between triangles, so none between records. A refused record is told of o
 then nothing is written. FILE stands there whole or not at all.
 
     -o FILE         the file to write, - for standard output
+    --weld          weld each mesh before it is written: the facets are the same, bit for bit
     --force         overwrite FILE if it is there
     --skip-refused  write the records of a run that are not refused; the exit status is 1 all the same
     --jobs N        mesh the records of a run on N threads (1 to 256)
@@ -38,13 +40,14 @@ fn run(mut arguments: Arguments) -> Result<(), Failure> {
         return check(&path);
     }
     let (overwrite, skip) = (arguments.flag("--force"), arguments.flag("--skip-refused"));
+    let weld = arguments.flag("--weld");
     let jobs = arguments.jobs()?.unwrap_or(1);
     let file = arguments.option("-o")?;
     let [path] = arguments.by_place(["RECORD"])?;
     let file = file.ok_or_else(|| missing("-o FILE"))?;
     let pieces = Run::open(&path)?;
     let mut facets = Facets::new(Target::open(&file, overwrite)?);
-    in_order(jobs, pieces, worker, |answer| facets.put(answer))?;
+    in_order(jobs, pieces, || worker(weld), |answer| facets.put(answer))?;
     facets.finish(skip)
 }
 
@@ -56,8 +59,8 @@ struct Answer {
 }
 
 /// Meshes record after record with the same buffers.
-fn worker() -> impl FnMut(Piece) -> Answer {
-    let (mut mesher, mut stl) = (Mesher::new(), Stl::new());
+fn worker(weld: bool) -> impl FnMut(Piece) -> Answer {
+    let (mut mesher, mut stl) = (mesher(weld), Stl::new());
     move |Piece { number, alone, bytes }| {
         let facets = Record::read(&bytes).and_then(|record| {
             let file = stl.write(&mesher.mesh(&record)?)?;

@@ -4,13 +4,28 @@ use crate::figures::{bounding_box, enclosed_volume, open_sides, surface_area, Bo
 use sirveshan::Mesh;
 
 pub fn summary(mesh: &Mesh) -> Vec<u8> {
-    let mut text =
-        format!("vertices {}\ntriangles {}\n", mesh.vertices.len(), mesh.triangles.len());
-    text += &box_line(bounding_box(mesh));
+    let mut text = counts(mesh);
+    text += &figures(mesh);
+    text.into_bytes()
+}
+
+/// The same of a welded mesh, with how many vertices were doubled.
+pub fn welded_summary(mesh: &Mesh) -> Vec<u8> {
+    let mut text = counts(mesh);
+    text += &format!("doubled {}\n", mesh.doubled);
+    text += &figures(mesh);
+    text.into_bytes()
+}
+
+fn counts(mesh: &Mesh) -> String {
+    format!("vertices {}\ntriangles {}\n", mesh.vertices.len(), mesh.triangles.len())
+}
+
+fn figures(mesh: &Mesh) -> String {
+    let mut text = box_line(bounding_box(mesh));
     text += &format!("area {}\n", figure(surface_area(mesh)));
     text += &volume_line(mesh);
-    text += &format!("reads {}\n", mesh.reads);
-    text.into_bytes()
+    text + &format!("reads {}\n", mesh.reads)
 }
 
 pub fn box_line(bounds: Option<Bounds>) -> String {
