@@ -23,9 +23,13 @@ same-length-3 c = search needs
 same-length-4 : tie.Need-same-length-4
 same-length-4 c = search needs
 
+-- where extraction ended, from where store, vertices and triangles are given back
+abbrev ended : tie.After-triangles → tie.After-extract-whole
+ended c = c .before .before .before .before .before
+
 returns : tie.Need-returns
 returns c =
-    let made = c .before .before .before .before .before .before .before .before .before .extract-whole .ensures in
+    let made = ended (c .before .before .before .before) .extract-whole .ensures in
     λ i. record {
       answer = (c .as-extracted .ensures ∙ ap₂ asExtracted (made .0) (made .1 .1 .1 .1 .0)) i;
       store = made .1 .0 i;

@@ -21,9 +21,13 @@ same-length-2 c = search needs
 same-length-3 : tie.Need-same-length-3
 same-length-3 c = search needs
 
+-- where the pass ended, from where the lists are given back
+abbrev ended : tie.After-edges → tie.After-weld
+ended c = c .before .before .before .before .before
+
 returns : tie.Need-returns
 returns c =
-    let left = c .before .before .before .before .before .before .before .weld .ensures in
+    let left = ended (c .before .before) .weld .ensures in
     λ i. record {
       answer = (c .as-welded-counts .ensures ∙ ap (λ (o : Outcome). asWeldedCounts (o .answer)) left) i;
       vertices = left i .vertices;

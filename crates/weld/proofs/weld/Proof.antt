@@ -8,9 +8,17 @@ use Rattle.weld.specs.Welded.{Whole, whole, all-passed}
 use Rattle.weld.proofs.weld.Statement.{statement}
 use Rattle.weld.proofs.weld.Tie as tie
 
--- the entry, from the place where the lists are judged
+-- the entry, from where the lists are known
+abbrev began : tie.After-slice-known3 → tie.Start
+began c = c .before .before .before
+
+-- and from where they are judged
 abbrev start : tie.After-judge-weld → tie.Start
-start c = c .before .before .before .before .before .before .before
+start c = began (c .before .before .before .before)
+
+-- where the pass ended, from where the lists are given back
+abbrev passed : tie.After-edges → tie.After-pass
+passed c = c .before .before .before .before .before
 
 -- all judges have passed
 lists : (c : tie.After-enum-told) → let a = start (c .before .before) .args in Whole (a .v) (a .t) (a .vertices .now) (a .triangles .now) (a .edges .now)
@@ -67,9 +75,10 @@ same-length-6 c = search needs
 
 returns-2 : tie.Need-returns-2
 returns-2 c =
-    let told = c .before .before .before .before .before .before .before .before .before .before in
+    let ended = passed (c .before) in
+    let told = ended .before .before .before .before in
     let a = start (told .before .before) .args in
-    let pass = c .before .before .before .before .before .before .pass in
+    let pass = ended .pass in
     let last = pass .last .1 in
     all-passed (a .v) (a .t) (a .vertices .now) (a .triangles .now) (a .edges .now) (lists told) (pass .result) (last .0) (last .1 .0) (last .1 .1 .0) (pass .ensures)
 

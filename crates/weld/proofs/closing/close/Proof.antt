@@ -17,12 +17,23 @@ Inv-loop start end first vertices₀ edges₀ seen₀ hints₀ table₀ k₀ i�
 abbrev μ-loop : tie.MeasureT-loop
 μ-loop start end first vertices₀ edges₀ seen₀ hints₀ table₀ k₀ i₀ vertices edges seen hints table k i = end - i
 
--- the turn of the loop, and the entry
-abbrev turn : tie.After-slice-known9 Inv-loop μ-loop → tie.In-loop Inv-loop μ-loop
-turn c = c .before .before .before .before .before .before .before .before .before .before .before .before .before .before .before .before
+-- the entry, from where the lists are known
+abbrev began : tie.After-slice-known5 Inv-loop μ-loop → tie.Start Inv-loop μ-loop
+began c = c .before .before .before .before .before
 
+-- and from a turn of the loop
 abbrev start : tie.In-loop Inv-loop μ-loop → tie.Start Inv-loop μ-loop
-start c = c .before .before .before .before .before .before .before
+start c = began (c .before .before)
+
+-- the turn, from where the vertex's place is found; that, from where the vertex is kept; and that, from where the lists are given back
+abbrev turn : tie.After-place-of Inv-loop μ-loop → tie.In-loop Inv-loop μ-loop
+turn c = c .before .before .before .before .before
+
+abbrev found : tie.After-keep Inv-loop μ-loop → tie.After-place-of Inv-loop μ-loop
+found c = c .before .before .before .before .before
+
+abbrev kept : tie.After-seen Inv-loop μ-loop → tie.After-keep Inv-loop μ-loop
+kept c = c .before .before .before .before .before
 
 -- vertex i has room in the lists and the table
 module _ (c : tie.In-loop Inv-loop μ-loop) where
@@ -50,7 +61,7 @@ module _ (c : tie.In-loop Inv-loop μ-loop) where
 
 loop-holds : tie.Need-loop-holds Inv-loop μ-loop
 loop-holds c =
-    let b = c .before .before .before .before .before in
+    let b = began c in
     let a = b .args in (
       (omega arith, b .pre .0 .0 .ordered),
       (
@@ -73,17 +84,17 @@ place-of-requires c κs =
 
 cast-table : tie.Need-cast-table Inv-loop μ-loop
 cast-table c =
-    let here = c .before .before .before .before .before in
+    let here = turn c in
     omega (arith, c .place-of .ensures .within, here .before .loop .inv .1 .1 .within, here .loop-test .taken, start here .pre .0 .0 .short)
 
 sub-table : tie.Need-sub-table Inv-loop μ-loop
 sub-table c = search needs
 
 mul-table : tie.Need-mul-table Inv-loop μ-loop
-mul-table c = omega (arith, in-table (c .before .before .before .before .before))
+mul-table c = omega (arith, in-table (turn c))
 
 slice-write-table : tie.Need-slice-write-table Inv-loop μ-loop
-slice-write-table c = in-table (c .before .before .before .before .before)
+slice-write-table c = in-table (turn c)
 
 cast-slot : tie.Need-cast-slot Inv-loop μ-loop
 cast-slot c =
@@ -91,11 +102,11 @@ cast-slot c =
     omega (arith, read .slice-known6 .given (read .before .before .loop .i))
 
 slot-requires : tie.Need-slot-requires Inv-loop μ-loop
-slot-requires c κs = tables (c .before .before .before .before .before) .slots
+slot-requires c κs = tables (turn c) .slots
 
 cast-hints : tie.Need-cast-hints Inv-loop μ-loop
 cast-hints c =
-    let here = c .before .before .before .before .before .before in
+    let here = turn (c .before) in
     omega (arith, c .before .place-of .ensures .within, here .before .loop .inv .1 .1 .within, here .loop-test .taken, start here .pre .0 .0 .short)
 
 mul-hints : tie.Need-mul-hints Inv-loop μ-loop
@@ -106,32 +117,32 @@ slice-write-hints c = c .slot .ensures .1
 
 keep-requires : tie.Need-keep-requires Inv-loop μ-loop
 keep-requires c κs =
-    let here = c .before .before .before .before .before .before .before .before .before in
+    let here = turn (c .before .before .before .before) in
     ((here .before .loop .inv .1 .1 .within, in-edges here), (in-vertices here, tables here .words))
 
 add-i : tie.Need-add-i Inv-loop μ-loop
-add-i c = omega (arith, in-edges (turn c))
+add-i c = omega (arith, in-edges (turn (found (kept (c .before)))))
 
 loop-less : tie.Need-loop-less Inv-loop μ-loop
-loop-less c = omega (arith, turn c .loop-test .taken)
+loop-less c = omega (arith, turn (found (kept (c .before))) .loop-test .taken)
 
 loop-again : tie.Need-loop-again Inv-loop μ-loop
 loop-again c =
-    let here = turn c in
-    let b = start here in
-    let a = b .args in
+    let put = kept (c .before) in
+    let here = turn (found put) in
+    let a = start here .args in
     let l = here .before .loop in
-    let place = c .before .before .before .before .before .before .before .before .before .before .before .place-of in
-    let keep = c .before .before .before .before .before .before .keep in
+    let place = found put .place-of in
+    let keep = put .keep in
     let as-long = l .inv .1 .0 in
-    let kept = keep .kept .1 .1 .1 .1 in
+    let still = keep .kept .1 .1 .1 .1 in
     let last = keep .last .1 .1 .1 .1 in (
       (omega (arith, l .inv .0 .0), omega (arith, here .loop-test .taken)),
       (
         record {
-          vertices-same = kept .0 ∙ as-long .vertices-same;
-          edges-same = kept .1 .0 ∙ as-long .edges-same;
-          seen-same = kept .1 .1 .0 ∙ as-long .seen-same;
+          vertices-same = still .0 ∙ as-long .vertices-same;
+          edges-same = still .1 .0 ∙ as-long .edges-same;
+          seen-same = still .1 .1 .0 ∙ as-long .seen-same;
           hints-same = simp length-set (as-long .hints-same);
           table-same = simp length-set (as-long .table-same);
         },
@@ -159,8 +170,7 @@ same-length-5 c = c .before .loop .inv .1 .0 .table-same
 returns : tie.Need-returns Inv-loop μ-loop
 returns c =
     let l = c .before .loop in
-    let b = c .before .before .before .before .before .before .before in
-    let all : l .i ≡ b .args .end = omega (arith, l .inv .0 .1) in
+    let all : l .i ≡ began (c .before .before) .args .end = omega (arith, l .inv .0 .1) in
     rw all at (l .inv .1 .1)
 
 pub close-spec : {M : Type 1} → statement M

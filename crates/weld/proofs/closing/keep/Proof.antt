@@ -38,10 +38,11 @@ same-length-3 c = search needs
 
 returns-2 : tie.Need-returns-2
 returns-2 c =
-    let put = c .before .before .before .before .before .before in
+    let noted = c .before .before in
+    let put = noted .before .before .before .before in
     let new = put .before .before in
     let a = new .before .before .before .before .args in
-    let note = c .before .before .note in
+    let note = noted .note in
     let f = le-ltb (a .at) (a .k) (new .if1 .left) in
     record {
       count-is = rw f;

@@ -23,6 +23,14 @@ Inv-loop table start end triangles₀ p₀ p-end triangles p = (p ≤ p-end) × 
 abbrev μ-loop : tie.MeasureT-loop
 μ-loop table start end triangles₀ p₀ p-end triangles p = p-end - p
 
+-- the entry, from the loop's head
+abbrev began : tie.At-loop Inv-loop μ-loop → tie.Start Inv-loop μ-loop
+began c = c .before .before .before
+
+-- how a corner is renumbered there
+abbrev by : tie.At-loop Inv-loop μ-loop → ℕ → ℕ
+by c = let a = began c .args in cornerBy (a .table .now) (a .start) (a .end)
+
 loop-holds : tie.Need-loop-holds Inv-loop μ-loop
 loop-holds c = search needs
 
@@ -49,20 +57,20 @@ loop-less c = search needs
 
 loop-again : tie.Need-loop-again Inv-loop μ-loop
 loop-again c =
-    let a = c .before .before .before .before .before .before .args in
-    let l = c .before .before .before .loop in
-    let f = cornerBy (a .table .now) (a .start) (a .end) in
-    (omega arith, (simp length-set (l .inv .1 .0), renumbered f (a .triangles .now) (l .triangles) (l .p) (c .corner .result) (omega arith) (l .inv .1 .1) (c .corner .ensures)))
+    let head = c .before .before .before in
+    let l = head .loop in
+    (omega arith, (simp length-set (l .inv .1 .0), renumbered (by head) (began head .args .triangles .now) (l .triangles) (l .p) (c .corner .result) (omega arith) (l .inv .1 .1) (c .corner .ensures)))
 
 same-length : tie.Need-same-length Inv-loop μ-loop
 same-length c = search needs
 
 returns : tie.Need-returns Inv-loop μ-loop
 returns c =
-    let a = c .before .before .before .before .args in
-    let l = c .before .loop in
-    let all : l .p ≡ length (a .triangles .now) = omega arith in
-    rw all at (l .inv .1 .1) ∙ all-done (cornerBy (a .table .now) (a .start) (a .end)) (a .triangles .now)
+    let head = c .before in
+    let l = head .loop in
+    let triangles = began head .args .triangles .now in
+    let all : l .p ≡ length triangles = omega arith in
+    rw all at (l .inv .1 .1) ∙ all-done (by head) triangles
 
 pub renumber-spec : {M : Type 1} → statement M
 renumber-spec =

@@ -19,9 +19,26 @@ Inv-loop v vertices₀ triangles₀ edges₀ seen₀ hints₀ table₀ places k�
 abbrev μ-loop : tie.MeasureT-loop
 μ-loop v vertices₀ triangles₀ edges₀ seen₀ hints₀ table₀ places k₀ start₀ vertices triangles edges seen hints table k start = v - start
 
--- the entry
+-- the entry, from where the mesh's three lists are known, from where the three tables are known too, and from a turn
+abbrev began : tie.After-slice-known3 Inv-loop μ-loop → tie.Start Inv-loop μ-loop
+began c = c .before .before .before
+
+abbrev lent : tie.After-slice-known6 Inv-loop μ-loop → tie.Start Inv-loop μ-loop
+lent c = began (c .before .before .before)
+
 abbrev start : tie.In-loop Inv-loop μ-loop → tie.Start Inv-loop μ-loop
-start c = c .before .before .before .before .before .before .before .before
+start c = lent (c .before .before)
+
+-- where the window's end is known, from where the lists are lent to close it
+abbrev ended : tie.After-close-arg5 Inv-loop μ-loop → tie.After-window-end Inv-loop μ-loop
+ended c = c .before .before .before .before .before
+
+-- where it is closed, from where the mesh's lists and the numbers seen are given back, and from where all five lists are
+abbrev just-closed : tie.After-seen Inv-loop μ-loop → tie.After-close Inv-loop μ-loop
+just-closed c = c .before .before .before .before .before
+
+abbrev closed : tie.After-slice-known11 Inv-loop μ-loop → tie.After-close Inv-loop μ-loop
+closed c = just-closed (c .before .before .before .before .before)
 
 tables : (c : tie.In-loop Inv-loop μ-loop) → let l = c .before .loop in Tables (l .seen) (l .hints)
 tables c =
@@ -48,7 +65,7 @@ room c =
 
 loop-holds : tie.Need-loop-holds Inv-loop μ-loop
 loop-holds c =
-    let a = c .before .before .before .before .before .before .args in (
+    let a = lent c .args in (
       (omega arith, (omega arith, (refl, refl))),
       (
         record { vertices-same = refl; edges-same = refl; seen-same = refl; hints-same = refl; table-same = refl },
@@ -61,30 +78,28 @@ window-end-requires c κs = (c .loop-test .taken, omega (arith, start c .pre .1 
 
 close-requires : tie.Need-close-requires Inv-loop μ-loop
 close-requires c κs =
-    let ended = c .before .before .before .before .before in
-    ((room ended, tables (ended .before)), ended .before .before .loop .inv .1 .1 .0)
+    let window = ended c in
+    ((room window, tables (window .before)), window .before .before .loop .inv .1 .1 .0)
 
 renumber-requires : tie.Need-renumber-requires Inv-loop μ-loop
 renumber-requires c κs =
-    let closed = c .before .before .before .before .before .before .before .before .before .before .before .before in
-    let ended = closed .before .before .before .before .before .before in
-    omega (arith, room ended .in-table, closed .close .kept .1 .1 .1 .1 .1 .1 .1 .0)
+    let done = closed (c .before .before) in
+    omega (arith, room (ended (done .before)) .in-table, done .close .kept .1 .1 .1 .1 .1 .1 .1 .0)
 
 loop-less : tie.Need-loop-less Inv-loop μ-loop
 loop-less c =
-    let ended = c .before .before .before .before .before .before .before .before .before .before .before .before .before .before .before .before .before .before .before .before .before in
-    omega (arith, ended .window-end .ensures, ended .before .loop-test .taken)
+    let window = ended (closed (c .before .before .before .before .before) .before) in
+    omega (arith, window .window-end .ensures, window .before .loop-test .taken)
 
 loop-again : tie.Need-loop-again Inv-loop μ-loop
 loop-again c =
-    let ended = c .before .before .before .before .before .before .before .before .before .before .before .before .before .before .before .before .before .before .before .before .before in
-    let closed = c .before .before .before .before .before .before .before .before .before .before .before .before .before .before .before in
     let renumbered = c .before .before in
-    let b = start (ended .before) in
-    let a = b .args in
-    let l = ended .before .before .loop in
-    let end = ended .window-end in
-    let close = closed .close in
+    let done = closed (renumbered .before .before .before) in
+    let window = ended (done .before) in
+    let a = start (window .before) .args in
+    let l = window .before .before .loop in
+    let end = window .window-end in
+    let close = done .close in
     let renumber = renumbered .renumber in
     let as-long = l .inv .1 .0 in
     let kept = close .kept .1 .1 .1 in
@@ -101,7 +116,7 @@ loop-again c =
         (
           close .ensures .noted,
           all-welded-more (l .start) (end .result) (a .vertices .now) (a .triangles .now) (a .edges .now) (l .k) (l .vertices) (l .triangles) (l .edges)
-              (room ended .ordered) (as-long .edges-same) (as-long .vertices-same) (l .inv .1 .1 .1)
+              (room window .ordered) (as-long .edges-same) (as-long .vertices-same) (l .inv .1 .1 .1)
               (close .result) (last .0) (renumber .last .1 .1 .1 .0) (last .1 .0) (last .1 .1 .0) (last .1 .1 .1 .1 .0) (close .ensures) (renumber .ensures),
         ),
       ),
@@ -128,7 +143,7 @@ same-length-6 c = c .before .loop .inv .1 .0 .table-same
 returns : tie.Need-returns Inv-loop μ-loop
 returns c =
     let l = c .before .loop in
-    let all : l .start ≡ c .before .before .before .before .before .before .before .before .args .v = omega (arith, l .inv .0 .0) in
+    let all : l .start ≡ lent (c .before .before) .args .v = omega (arith, l .inv .0 .0) in
     rw all at (l .inv .1 .1 .1)
 
 pub windows-spec : {M : Type 1} → statement M

@@ -13,13 +13,14 @@ is-new-requires c κs = search needs
 
 returns-2 : tie.Need-returns-2
 returns-2 c =
-    let b = c .before .before .before .before .before .before in
+    let asked = c .before in
+    let b = asked .before .before .before .before .before in
     let a = b .args in
     record {
       within = omega arith;
       has = λ l. absurd (omega arith);
       regular = λ l. absurd (omega arith);
-      new = λ _ _. not-noted (a .seen .now) (a .edges .now) (a .k) (a .number) (b .pre .1) (c .before .is-new .ensures (c .if2 .taken));
+      new = λ _ _. not-noted (a .seen .now) (a .edges .now) (a .k) (a .number) (b .pre .1) (asked .is-new .ensures (c .if2 .taken));
     }
 
 slot-requires : tie.Need-slot-requires
