@@ -18,7 +18,7 @@ use Rattle.words.specs.Floats.{Fit, floats-back}
 use Rattle.stl.specs.declared.StlWritten.the-variants as StlWritten
 use Rattle.stl.specs.declared.StlRead.the-variants as StlRead
 use Rattle.model.specs.Corners.{triangleCount, cornerOf}
-use Rattle.stl.specs.Definition.{vertexCount, cornersOf, headerLength, startLength, normalLength, cornersLength, attributeLength, triangleLength, zeros, triangleBytes, fileOf, fileLength, writeAnswer, writeStl, countIn, floatCount, cornersFrom, cornersIn, positionsIn, judgeReading, ReadOutcome, readAnswer, readStl}
+use Rattle.stl.specs.Definition.{vertexCount, cornersOf, headerLength, startLength, normalLength, cornersLength, attributeLength, triangleLength, zeros, triangleBytes, fileOf, fileLength, writeAnswer, writeStl, countIn, floatCount, cornersFrom, cornersIn, positionsIn, ReadOutcome, readAnswer, readStl}
 use Rattle.stl.specs.Parts.{length-zeros, zero-at, startOf, facetOf, file-parts, length-file}
 use Rattle.stl.specs.Passing.{Writable, writing-passes, Readable, reading-passes}
 use Rattle.stl.specs.Corners.{nine, corners-by, corner-at}

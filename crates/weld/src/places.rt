@@ -1,5 +1,4 @@
 // Where a vertex with a number goes: to the kept vertex that has it, or after all of them.
-ghost use mathlib.Core.Path.{_≡_};
 ghost use Prim.Native.Nat.{_≤_};
 ghost use lib.ListN.{length};
 ghost use Rattle.weld.specs.Leaves.{Noted, Tables, Found, Placed};
