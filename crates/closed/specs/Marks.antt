@@ -1,5 +1,5 @@
--- Which vertices of a block's mesh have a grid edge: those of the regular cells, which come first, have one, and its number is below that which
--- marks the others; those of the transition cells have none. Assumes nothing.
+-- Which vertices of a block's mesh have the number of a grid edge: those of the regular cells, which come first, have one, and it is below that
+-- which marks the others; those of the transition cells are given none. Assumes nothing.
 use Prim.Native.Nat.{ℕ, zero, suc, _+_, _-_, _*_, _≤_, _<_}
 use native.Mathlib.Nat.{mul-le-mul, not-suc-le-zero, le-of-suc-le-suc}
 use native.Mathlib.Omega.{arith}

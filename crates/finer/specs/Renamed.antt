@@ -1,15 +1,15 @@
 -- A mesh whose vertices are named anew, as closed's Renamed says: what is said of the triangles at a named side, is said of the mesh with the new
--- names; and what is said of a vertex, of the one that its name stands for. Assumes nothing.
+-- names. Assumes nothing.
 use Prim.Native.Nat.{ℕ, _<_}
 use native.Mathlib.Omega.{arith}
 use mathlib.Core.Path.{_≡_, sym, ap, _∙_, subst}
-use lib.ListN.{length, getD}
+use lib.ListN.{length}
 use Rattle.model.specs.declared.Triangle.{Triangle}
 use Rattle.model.specs.Star.{Star}
 use Rattle.model.specs.Mesh.{Mesh}
-use Rattle.closed.specs.Clauses.{number, noVertex, NamesVertices, runs}
+use Rattle.closed.specs.Clauses.{number, NamesVertices, runs}
 use Rattle.closed.specs.Renamed.{Renamed, runs-same, names-anew}
-use Rattle.finer.specs.Clauses.{IsSide, CoarseClosed, borderLabel, BorderClosed, OwnSideVertex, SideCorners, MadeBySide, OnSide, NoGap}
+use Rattle.finer.specs.Clauses.{IsSide, CoarseClosed, borderLabel, BorderClosed, OwnSideVertex, SideCorners, NoGap}
 
 module _ (s : Star) (m m′ : Mesh) (name : ℕ → ℕ) (r : Renamed m m′ name) (named : (t : ℕ) → t < length (m .triangles) → NamesVertices m t) (h : NoGap s m) where
   both-same : (g k : ℕ) → runs m g k ≡ runs m k g → runs m′ g k ≡ runs m′ k g
@@ -41,8 +41,3 @@ module _ (s : Star) (m m′ : Mesh) (name : ℕ → ℕ) (r : Renamed m m′ nam
         b = own (o .side) (o .u) (o .v) _ _ (ap (λ (q : Triangle). q .b) e) (o .b);
         c = own (o .side) (o .u) (o .v) _ _ (ap (λ (q : Triangle). q .c) e) (o .c);
       }
-
-  pub lying-renamed : (side i : ℕ) → i < length (m .made) → MadeBySide s side i → OnSide s side (getD (m′ .made) (name i) noVertex)
-  lying-renamed side i l by =
-      let same : getD (m′ .made) (name i) noVertex ≡ getD (m .made) i noVertex = λ q. record { vertex = r .vertex-is i l q; edge = r .edge-is i l q } in
-      subst (OnSide s side) (sym same) (h .lying side i by)

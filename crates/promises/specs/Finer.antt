@@ -17,7 +17,7 @@ use Rattle.promises.specs.Left.{Lent, left, meshIn}
 
 -- what all cells have left in the buffers, each vertex with its label: its grid edge, or the fine edge of its side
 abbrev pub labelledPart : Star → Lent → Mesh
-labelledPart s b = meshIn b (labelledMesh s .made) (length (meshOf s .made)) (length (meshOf s .triangles))
+labelledPart s b = meshIn b (edgeAt (labelledMesh s .made)) (length (meshOf s .made)) (length (meshOf s .triangles))
 
 -- a regular vertex and one of a side on one grid edge, whichever way the side runs along it: their positions are near each other
 abbrev pub NearBy : Star → List Made → Type 0

@@ -15,7 +15,7 @@ use Rattle.model.specs.Samples.{sampleLength}
 use Rattle.model.specs.Sides.{neighboursLength}
 use Rattle.model.specs.Formulas.{vector}
 use Rattle.model.specs.Star.{Star}
-use Rattle.model.specs.Mesh.{Made, Mesh, regularMesh, meshOf}
+use Rattle.model.specs.Mesh.{Mesh, regularMesh, meshOf}
 use Rattle.model.specs.Extraction.{extract}
 use Rattle.closed.specs.Clauses.{edgeAt}
 
@@ -61,20 +61,20 @@ vertexIn b i =
 abbrev pub triangleIn : Lent → ℕ → Triangle
 triangleIn b t = record { a = cornerIn b t 0; b = cornerIn b t 1; c = cornerIn b t 2 }
 
--- the first vertices and triangles in the buffers, so many of each, as a mesh. A buffer does not tell a vertex's grid edge; it is that of the vertex
--- with this index in a list from the definition. Its store and its reads play no part in what is said of it
-abbrev pub meshIn : Lent → List Made → ℕ → ℕ → Mesh
-meshIn b defined vertices triangles =
+-- the first vertices and triangles in the buffers, so many of each, as a mesh. These buffers do not tell a vertex's grid edge; it is told beside them,
+-- by the vertex's index. Its store and its reads play no part in what is said of it
+abbrev pub meshIn : Lent → (ℕ → ℕ) → ℕ → ℕ → Mesh
+meshIn b edge vertices triangles =
     record {
-      made = listed (λ i. record { vertex = vertexIn b i; edge = edgeAt defined i }) vertices;
+      made = listed (λ i. record { vertex = vertexIn b i; edge = edge i }) vertices;
       triangles = listed (triangleIn b) triangles;
       store = b .store;
       reads = 0;
     }
 
--- what the regular cells have left in the buffers: they come first
+-- what the regular cells have left in the buffers, each vertex with the edge of the definition's: they come first
 abbrev pub regularPart : Star → Lent → Mesh
-regularPart s b = meshIn b (meshOf s .made) (length (regularMesh s .made)) (length (regularMesh s .triangles))
+regularPart s b = meshIn b (edgeAt (meshOf s .made)) (length (regularMesh s .made)) (length (regularMesh s .triangles))
 
 -- the centre's samples and the neighbours', in a list that was read
 abbrev pub centreOf : Header → List Float → List Float

@@ -1,29 +1,30 @@
--- The labels of what extraction leaves close up as the vertices do; so the labelled mesh is named anew by the weld, and no gap is at a finer face after
--- it.
-use Prim.Native.Nat.{ℕ, suc, _+_, _*_, _<_}
+-- The labels of what extraction leaves close up as the vertices do; so the labelled mesh is named anew by the weld, no gap is at a finer face after it,
+-- and each vertex there is what it was.
+use Prim.Native.Nat.{ℕ, _+_, _*_, _<_}
 use native.Mathlib.Nat.{le-refl}
 use native.Mathlib.Omega.{arith}
 use mathlib.Core.Path.{_≡_, refl, sym, ap, _∙_, subst}
 use mathlib.Core.List.{List, [], _∷_}
 use lib.ListN.{length, getD}
 use Rattle.laws.specs.Lists.{length-listed}
+use Rattle.laws.specs.Gathered.{listed-same-below}
 use Rattle.model.specs.declared.Counts.{Counts}
 use Rattle.model.specs.declared.Extraction.the-variants as Extraction
 use Rattle.model.specs.Star.{Star}
 use Rattle.model.specs.Mesh.{Made, Mesh, noEdge, regularMesh}
+use Rattle.closed.specs.Clauses.{noVertex}
 use Rattle.closed.specs.Renamed.{Renamed}
-use Rattle.finer.specs.Clauses.{MadeBySide, NoGap}
-use Rattle.finer.specs.InStep.{as-many}
+use Rattle.finer.specs.Clauses.{RegularLying, SideLying, NoGap, SameBits}
 use Rattle.finer.specs.SideWhole.{labelled-sound}
-use Rattle.finer.specs.Renamed.{coarse-renamed, borders-renamed, corners-renamed, lying-renamed}
+use Rattle.finer.specs.Renamed.{coarse-renamed, borders-renamed, corners-renamed}
 use Rattle.weld.specs.Definition.{keptBefore, keeper, newIndex, closedUp}
 use Rattle.weld.specs.Kept.{keeper-keeps, closed-at}
-use Rattle.promises.specs.Left.{Lent}
-use Rattle.promises.specs.Finer.{labelledPart}
+use Rattle.promises.specs.Left.{Lent, left, meshIn}
+use Rattle.promises.specs.Finer.{labelledPart, NearBy}
 use Rattle.promises.specs.FinerKept.{no-gap-is-left}
 use Rattle.promises.specs.Extracted.{equal-mesh}
-use Rattle.promises.specs.Weld.{LentWhole, answeredWhole, leftWhole, meshIn, edgeIn, labelBefore, labelAfter, labelledAfter, NoGapAfter}
-use Rattle.promises.specs.WeldRenamed.{alone, mesh-is, all-made, edge-regular, by-kind, named-anew, names-vertices}
+use Rattle.promises.specs.Weld.{LentWhole, answeredWhole, leftWhole, edgeIn, labelBefore, labelAfter, labelledAfter, labelledAnew, NoGapAfter}
+use Rattle.promises.specs.WeldRenamed.{made-at, alone, mesh-is, edge-regular, by-kind, named-anew, names-vertices}
 
 module _ (s : Star) (lent : LentWhole) (c : Counts) (e : answeredWhole s lent ≡ Extraction.Mesh c) where
   abbrev lists : LentWhole
@@ -49,28 +50,39 @@ module _ (s : Star) (lent : LentWhole) (c : Counts) (e : answeredWhole s lent �
       ∙ by-kind s lent c e (λ f j. label f ≡ label j) i h (λ f hf hi same. label-regular f hf ∙ same ∙ sym (label-regular i hi)) refl
 
   abbrev before : Mesh
-  before = meshIn lists label (c .vertices) (c .triangles)
+  before = meshIn (lists .mesh) label (c .vertices) (c .triangles)
 
-  no-gap-before : NoGap s before
-  no-gap-before =
-      subst (λ (k : Counts). NoGap s (meshIn lists label (k .vertices) (k .triangles))) (sym (equal-mesh s (lent .mesh) c (alone s lent c e) .counted))
-      (subst (λ (b : Lent). NoGap s (labelledPart s b)) (mesh-is s lent c e) (no-gap-is-left s (lent .mesh) c (alone s lent c e) .no-gap))
+  -- what is said of what extraction leaves without the further list
+  told-before : (P : Mesh → Type 0) → P (labelledPart s (left s (lent .mesh))) → P before
+  told-before P h =
+      subst (λ (k : Counts). P (meshIn (lists .mesh) label (k .vertices) (k .triangles))) (sym (equal-mesh s (lent .mesh) c (alone s lent c e) .counted))
+      (subst (λ (b : Lent). P (labelledPart s b)) (mesh-is s lent c e) h)
 
   anew : Renamed before (labelledAfter s c lists) (newIndex es)
   anew = named-anew s lent c e label (labelAfter s c lists) (c .vertices) (c .triangles) (le-refl _) (le-refl _) label-anew
 
-  made-low : (side i : ℕ) → MadeBySide s side i → i < length (before .made)
-  made-low side i by =
-      rw length-listed
-      (omega (arith, by .by-then, labelled-sound s .grown (suc side) (by .of-side .side-in), as-many (labelled-sound s .in-step) .0, all-made s lent c e))
+  -- each vertex is what it was
+  made-anew : before .made ≡ labelledAnew s c lists
+  made-anew =
+      listed-same-below _ _ (c .vertices)
+      (λ i h.
+      let l : i < length (before .made) = rw length-listed h in
+      let same : getD (labelledAfter s c lists .made) (newIndex es i) noVertex ≡ getD (before .made) i noVertex =
+      λ q. record { vertex = anew .vertex-is i l q; edge = anew .edge-is i l q } in
+      sym (same ∙ made-at (lists .mesh) label (c .vertices) (c .triangles) i h))
 
   pub no-gap-after : NoGapAfter s c lists
   no-gap-after =
       let after = labelledAfter s c lists in
       let named = names-vertices s lent c e label in
+      let is-left = no-gap-is-left s (lent .mesh) c (alone s lent c e) in
+      let no-gap = told-before (NoGap s) (is-left .no-gap) in
       record {
-        coarse = coarse-renamed s before after (newIndex es) anew named no-gap-before;
-        borders = borders-renamed s before after (newIndex es) anew named no-gap-before;
-        corners = corners-renamed s before after (newIndex es) anew named no-gap-before;
-        lying = λ side i by. lying-renamed s before after (newIndex es) anew named no-gap-before side i (made-low side i by) by;
+        coarse = coarse-renamed s before after (newIndex es) anew named no-gap;
+        borders = borders-renamed s before after (newIndex es) anew named no-gap;
+        corners = corners-renamed s before after (newIndex es) anew named no-gap;
+        regular = subst (RegularLying s) made-anew (no-gap .regular);
+        lying = subst (SideLying s) made-anew (no-gap .lying);
+        same-bits = subst (SameBits s) made-anew (told-before (λ (m : Mesh). SameBits s (m .made)) (is-left .same-bits));
+        near-by = λ fit. subst (NearBy s) made-anew (told-before (λ (m : Mesh). NearBy s (m .made)) (is-left .near-by fit));
       }

@@ -25,18 +25,18 @@ use Rattle.closed.specs.Marks.{number-low}
 use Rattle.closed.specs.Renamed.{no-hole-renamed}
 use Rattle.weld.specs.declared.Welded.the-variants as Welded
 use Rattle.weld.specs.Definition.{kept, keptBefore, newIndex, judgeWeld, Outcome, weldAnswer, weld}
-use Rattle.weld.specs.Kept.{upto, counted, kept-mark, keeper-keeps, kept-index}
+use Rattle.weld.specs.Kept.{upto, counted, which-one, kept-mark, keeper-keeps, kept-index, kept-is}
 use Rattle.weld.specs.Closing.{edges-long, edge-beyond, vertices-long, vertex-beyond}
 use Rattle.weld.specs.Welded as Laws
 use Rattle.weld.specs.Welded.{Whole, corner-below, corner-is, corners-long, corner-beyond, same-number, kept-numbers, once, welds, again}
-use Rattle.promises.specs.Left.{Lent, vertexIn, regularPart}
+use Rattle.promises.specs.Left.{Lent, numberIn, vertexIn, meshIn, regularPart}
 use Rattle.promises.specs.Orders.{inOrder, Numbered, Judged}
 use Rattle.promises.specs.Judges.{_&_, judged, Refuses, by-unless, by-first, buffer-number}
 use Rattle.promises.specs.Extracted.{passed, no-hole-is-left}
 use Rattle.promises.specs.Surface.{as-surface}
-use Rattle.promises.specs.Weld.{LentWhole, answeredWhole, leftWhole, weldOutcome, leftWelded, newCounts, weldJudges, cornerAt, edgeIn, numberAt, IsWelded, meshIn, OneCarries, regularVertices, regularTriangles, regularKept, MeshIsWelded, WeldPromises}
-use Rattle.promises.specs.WeldExtracted.{whole-extraction}
-use Rattle.promises.specs.WeldRenamed.{made-at, alone, mesh-is, all-made, regular-in, edge-told, whole-lists, outcome-is, corner-low, edge-anew, numbers-anew, corner-anew, named-anew}
+use Rattle.promises.specs.Weld.{LentWhole, answeredWhole, leftWhole, weldOutcome, leftWelded, newCounts, weldJudges, cornerAt, edgeIn, IsWelded, OneCarries, regularVertices, regularTriangles, regularKept, MeshIsWelded, WeldPromises}
+use Rattle.promises.specs.WeldExtracted.{all-made, edge-told, whole-extraction}
+use Rattle.promises.specs.WeldRenamed.{made-at, alone, mesh-is, regular-in, whole-lists, outcome-is, corner-low, edge-anew, numbers-anew, corner-anew, named-anew}
 use Rattle.promises.specs.WeldFinerKept.{no-gap-after}
 
 -- ---- the pass over any lists
@@ -95,15 +95,18 @@ module _ (c : Counts) (lists : LentWhole) where
               rw (corner-is v t vertices triangles es w p l) (same-number es v (getD triangles p 0) (corner-below v t vertices triangles es w p l));
           named = Laws.named-anew v t vertices triangles es w;
           once = once es v;
-          transition = λ i l e.
-              let itself = keeper-keeps es i .itself (kept-mark es i e) in
+          transition-kept = λ i l. kept-mark es i;
+          first-kept = λ i l. kept-is es i;
+          stands = λ i l stays.
+              let itself = keeper-keeps es i .itself stays in
               record {
                 edge = same-number es v i l;
                 numbers = λ k small. kept-numbers es v vertices i k l small ∙ ap (λ (f : ℕ). getD vertices (6 * f + k) nan) itself;
               };
-          in-order = λ i j less l ei ej.
-              let ki = kept-mark es i ei in
-              rw (kept-index es i ki, kept-index es j (kept-mark es j ej)) (counted (kept es) j i less ki);
+          in-order = λ i j less l ki kj. rw (kept-index es i ki, kept-index es j kj) (counted (kept es) j i less ki);
+          filled = λ j l.
+              let w = which-one (kept es) v j l in
+              record { of = w .one-is; within = w .below; stays = w .passes; index = kept-index es (w .one-is) (w .passes) ∙ w .before };
           corner = corner-is v t vertices triangles es w;
           vertices-beyond = vertex-beyond es v vertices;
           triangles-beyond = corner-beyond v t vertices triangles es w;
@@ -137,14 +140,14 @@ module _ (s : Star) (lent : LentWhole) (c : Counts) (e : answeredWhole s lent �
   regular-low : R ≤ c .vertices
   regular-low = omega (arith, all-made s lent c e, regular-in s lent c e)
 
-  no-hole-before : NoHole s (meshIn lists (edgeIn lists) (regularVertices s c lists) (regularTriangles s c lists))
+  no-hole-before : NoHole s (meshIn (lists .mesh) (edgeIn lists) (regularVertices s c lists) (regularTriangles s c lists))
   no-hole-before =
       let told : (i : ℕ) → i < R → _≡_ {A = Made} (record { vertex = vertexIn (lists .mesh) i; edge = edgeAt (meshOf s .made) i }) (record { vertex = vertexIn (lists .mesh) i; edge = edgeIn lists i }) =
       λ i h q. record { vertex = vertexIn (lists .mesh) i; edge = sym (edge-told s lent c e i (omega (arith, regular-in s lent c e))) q } in
       as-surface s (regularPart s (lists .mesh)) _ _ (lists .mesh .store) (listed-same-below _ _ R told) refl
       (subst (λ (b : Lent). NoHole s (regularPart s b)) (mesh-is s lent c e) (no-hole-is-left s (lent .mesh) c (alone s lent c e) .no-hole))
 
-  no-hole-after : NoHole s (meshIn after (edgeIn after) (regularKept s c lists) (regularTriangles s c lists))
+  no-hole-after : NoHole s (meshIn (after .mesh) (edgeIn after) (regularKept s c lists) (regularTriangles s c lists))
   no-hole-after =
       let few = no-hole-is-left s (lent .mesh) c (alone s lent c e) .triangles-in in
       no-hole-renamed s _ _ (newIndex es)
@@ -162,7 +165,7 @@ module _ (s : Star) (lent : LentWhole) (c : Counts) (e : answeredWhole s lent �
       let low : i < K = rw length-listed at (found .1 .there) in
       let within : i < keptBefore es (c .vertices) = omega (arith, upto (kept es) R (c .vertices) regular-low) in
       let has : edgeIn after i ≡ number s g =
-      sym (ap (λ (v : Made). v .edge) (made-at after (edgeIn after) K (regularTriangles s c lists) i low)) ∙ found .1 .held in
+      sym (ap (λ (v : Made). v .edge) (made-at (after .mesh) (edgeIn after) K (regularTriangles s c lists) i low)) ∙ found .1 .held in
       let few = star-shaped s (passed s (lent .mesh) c (alone s lent c e)) .few in
       let unmarked : edgeIn after i ≡ noEdge → ⊥ = λ m. omega (arith, number-low s g of-block few, sym has ∙ m) in
       record {
@@ -183,7 +186,7 @@ module _ (s : Star) (lent : LentWhole) (c : Counts) (e : answeredWhole s lent �
         no-gap = no-gap-after s lent c e;
         one-each = one-carries;
         numbers = λ p k l small.
-            ap (λ (i : ℕ). numberAt after i k) (corner-anew s lent c e p l) ∙ numbers-anew s lent c e (cornerAt lists p) k (corner-low s lent c e p l) small;
+            ap (λ (i : ℕ). numberIn (after .mesh) i k) (corner-anew s lent c e p l) ∙ numbers-anew s lent c e (cornerAt lists p) k (corner-low s lent c e p l) small;
       }
 
 pub weld-kept : WeldPromises

@@ -17,29 +17,28 @@ use Rattle.model.specs.Formulas.{vector}
 use Rattle.model.specs.Star.{Star}
 use Rattle.model.specs.Mesh.{Made, noEdge, regularMesh, meshOf}
 use Rattle.model.specs.Extraction.{vertexFloats}
-use Rattle.model.specs.Edges.{edgeNumber}
 use Rattle.closed.specs.Clauses.{noVertex, edgeAt, triangleAt, noTriangle, NamesVertices}
 use Rattle.closed.specs.NoHole.{one-vertex}
-use Rattle.closed.specs.Marks.{made-regular, marked}
+use Rattle.closed.specs.Marks.{made-regular}
 use Rattle.closed.specs.Renamed.{renamed, Renamed}
 use Rattle.stl.specs.Definition.{vertexCount}
-use Rattle.weld.specs.Definition.{numberOf, kept, keptBefore, keeper, newIndex, weldAnswer, weld}
+use Rattle.weld.specs.Definition.{kept, keptBefore, keeper, newIndex, weldAnswer, weld}
 use Rattle.weld.specs.Kept.{Which, which-one, kept-mark, keeper-keeps, new-below, new-first, kept-index}
 use Rattle.weld.specs.Welded.{Whole, passes, corner-below, corner-is, same-number, kept-numbers}
-use Rattle.promises.specs.Left.{Lent, answered, left, vertexIn, triangleIn}
+use Rattle.promises.specs.Left.{Lent, answered, left, numberIn, vertexIn, triangleIn, meshIn}
 use Rattle.promises.specs.Extracted.{equal-mesh, vertices-left, triangles-left, no-hole-is-left}
-use Rattle.promises.specs.Surface.{laid-at, number-is}
+use Rattle.promises.specs.Surface.{number-is}
 use Rattle.promises.specs.StlKept.{stl-kept}
-use Rattle.promises.specs.Weld.{LentWhole, answeredWhole, leftWhole, weldOutcome, leftWelded, cornerAt, edgeIn, numberAt, meshIn}
-use Rattle.promises.specs.WeldExtracted.{answered-alike, left-alike, edges-left, edges-fit, whole-extraction}
+use Rattle.promises.specs.Weld.{LentWhole, answeredWhole, leftWhole, weldOutcome, leftWelded, cornerAt, edgeIn}
+use Rattle.promises.specs.WeldExtracted.{answered-alike, left-alike, edges-fit, all-made, edge-told, whole-extraction}
 
 -- the vertices and triangles of lists, read back
-module _ (b : LentWhole) (edge : ℕ → ℕ) (v t : ℕ) where
-  pub made-at : (i : ℕ) → i < v → getD (meshIn b edge v t .made) i noVertex ≡ record { vertex = vertexIn (b .mesh) i; edge = edge i }
+module _ (b : Lent) (edge : ℕ → ℕ) (v t : ℕ) where
+  pub made-at : (i : ℕ) → i < v → getD (meshIn b edge v t .made) i noVertex ≡ record { vertex = vertexIn b i; edge = edge i }
   made-at i h = getD-listed _ v i noVertex h
 
-  triangle-at : (k : ℕ) → k < t → triangleAt (meshIn b edge v t) k ≡ triangleIn (b .mesh) k
-  triangle-at k h = getD-listed (triangleIn (b .mesh)) t k noTriangle h
+  triangle-at : (k : ℕ) → k < t → triangleAt (meshIn b edge v t) k ≡ triangleIn b k
+  triangle-at k h = getD-listed (triangleIn b) t k noTriangle h
 
 module _ (s : Star) (lent : LentWhole) (c : Counts) (e : answeredWhole s lent ≡ Extraction.Mesh c) where
   abbrev lists : LentWhole
@@ -64,32 +63,24 @@ module _ (s : Star) (lent : LentWhole) (c : Counts) (e : answeredWhole s lent �
   pub mesh-is : left s (lent .mesh) ≡ lists .mesh
   mesh-is = left-alike s lent c e
 
-  pub all-made : c .vertices ≡ length (meshOf s .made)
-  all-made = ap (λ (k : Counts). k .vertices) (equal-mesh s (lent .mesh) c alone .counted)
-
   pub regular-in : R ≤ length (meshOf s .made)
-  regular-in = rw all-made at (no-hole-is-left s (lent .mesh) c alone .vertices-in)
+  regular-in = rw (all-made s lent c e) at (no-hole-is-left s (lent .mesh) c alone .vertices-in)
 
   -- ---- what the lists tell of a vertex
 
-  pub edge-told : (i : ℕ) → i < length (meshOf s .made) → edgeIn lists i ≡ edgeAt (meshOf s .made) i
-  edge-told i h =
-      let at : i ≡ 1 * i + 0 = omega arith in
-      ap (numberOf es) at ∙ laid-at edgeNumber 1 (λ m. refl) (meshOf s .made) (lent .edges) es (edges-left s lent c e) i 0 noVertex 0 h (omega arith)
-
   pub edge-regular : (i : ℕ) → i < R → edgeIn lists i ≡ edgeAt (regularMesh s .made) i
-  edge-regular i h = edge-told i (omega (arith, regular-in)) ∙ ap (λ (v : Made). v .edge) (made-regular s i h)
+  edge-regular i h = edge-told s lent c e i (omega (arith, regular-in)) ∙ ap (λ (v : Made). v .edge) (made-regular s i h)
 
-  number-told : (i k : ℕ) → i < length (meshOf s .made) → k < 6 → numberAt lists i k ≡ getD (vertexFloats (getD (meshOf s .made) i noVertex)) k nan
+  number-told : (i k : ℕ) → i < length (meshOf s .made) → k < 6 → numberIn (lists .mesh) i k ≡ getD (vertexFloats (getD (meshOf s .made) i noVertex)) k nan
   number-told =
       number-is s (lists .mesh) (lent .mesh .vertices) (lent .mesh .triangles)
       (ap (λ (b : Lent). b .vertices) (sym mesh-is) ∙ vertices-left s (lent .mesh) c alone)
       (ap (λ (b : Lent). b .triangles) (sym mesh-is) ∙ triangles-left s (lent .mesh) c alone)
 
   -- two regular vertices with one number are the same
-  same-vertex : (i j k : ℕ) → i < R → j < R → edgeIn lists i ≡ edgeIn lists j → k < 6 → numberAt lists i k ≡ numberAt lists j k
+  same-vertex : (i j k : ℕ) → i < R → j < R → edgeIn lists i ≡ edgeIn lists j → k < 6 → numberIn (lists .mesh) i k ≡ numberIn (lists .mesh) j k
   same-vertex i j k hi hj same small =
-      let told : (n : ℕ) (h : n < R) → numberAt lists n k ≡ getD (vertexFloats (getD (regularMesh s .made) n noVertex)) k nan =
+      let told : (n : ℕ) (h : n < R) → numberIn (lists .mesh) n k ≡ getD (vertexFloats (getD (regularMesh s .made) n noVertex)) k nan =
       λ n h. number-told n k (omega (arith, regular-in)) small ∙ ap (λ (v : Made). getD (vertexFloats v) k nan) (made-regular s n h) in
       let one = one-vertex s i j hi hj (sym (edge-regular i hi) ∙ same ∙ edge-regular j hj) in
       told i hi ∙ ap (λ (v : Vertex). getD (vertexFloats (record { vertex = v; edge = noEdge })) k nan) one ∙ sym (told j hj)
@@ -101,8 +92,7 @@ module _ (s : Star) (lent : LentWhole) (c : Counts) (e : answeredWhole s lent �
       go : Dec (i < R) → P (keeper es i) i
       go (yes l) = let keeps = keeper-keeps es i in regular (keeper es i) (omega (arith, keeps .first)) l (keeps .same)
       go (no l) =
-          let in-mesh : i < length (meshOf s .made) = omega (arith, all-made) in
-          let mark : edgeIn lists i ≡ noEdge = edge-told i in-mesh ∙ marked s i (omega arith) in-mesh in
+          let mark : edgeIn lists i ≡ noEdge = whole-extraction .accepted s lent c e .marks i h .1 (omega arith) in
           rw (keeper-keeps es i .itself (kept-mark es i mark)) itself
 
   -- ---- the lists pass
@@ -122,7 +112,7 @@ module _ (s : Star) (lent : LentWhole) (c : Counts) (e : answeredWhole s lent �
       record {
         floats = omega (arith, vertices, length-take (6 * c .vertices) (left s (lent .mesh) .vertices), ap length floats-are);
         indices = omega (arith, triangles, length-take (3 * c .triangles) (left s (lent .mesh) .triangles), ap length indices-are);
-        numbers = omega (arith, all-made, edges-fit s lent c e, whole-extraction .accepted s lent c e .edges .as-long);
+        numbers = omega (arith, all-made s lent c e, edges-fit s lent c e, whole-extraction .accepted s lent c e .edges .as-long);
         named = rw (held, indices-are) at (stl-kept .writable s (lent .mesh) c alone .named);
       }
 
@@ -142,11 +132,11 @@ module _ (s : Star) (lent : LentWhole) (c : Counts) (e : answeredWhole s lent �
   unfolding weldAnswer
   edge-anew i h = rw outcome-is (same-number es (c .vertices) i h)
 
-  pub numbers-anew : (i k : ℕ) → i < c .vertices → k < 6 → numberAt after (newIndex es i) k ≡ numberAt lists i k
+  pub numbers-anew : (i k : ℕ) → i < c .vertices → k < 6 → numberIn (after .mesh) (newIndex es i) k ≡ numberIn (lists .mesh) i k
   unfolding weldAnswer
   numbers-anew i k h small =
-      let found : numberAt after (newIndex es i) k ≡ numberAt lists (keeper es i) k = rw outcome-is (kept-numbers es (c .vertices) floats i k h small) in
-      found ∙ by-kind (λ f j. numberAt lists f k ≡ numberAt lists j k) i h (λ f hf hi same. same-vertex f i k hf hi same small) refl
+      let found : numberIn (after .mesh) (newIndex es i) k ≡ numberIn (lists .mesh) (keeper es i) k = rw outcome-is (kept-numbers es (c .vertices) floats i k h small) in
+      found ∙ by-kind (λ f j. numberIn (lists .mesh) f k ≡ numberIn (lists .mesh) j k) i h (λ f hf hi same. same-vertex f i k hf hi same small) refl
 
   pub corner-anew : (p : ℕ) → p < 3 * c .triangles → cornerAt after p ≡ newIndex es (cornerAt lists p)
   unfolding weldAnswer
@@ -154,7 +144,7 @@ module _ (s : Star) (lent : LentWhole) (c : Counts) (e : answeredWhole s lent �
 
   vertex-anew : (i : ℕ) → i < c .vertices → vertexIn (after .mesh) (newIndex es i) ≡ vertexIn (lists .mesh) i
   vertex-anew i h =
-      let same : (k : ℕ) → k < 6 → numberAt after (newIndex es i) k ≡ numberAt lists i k = λ k. numbers-anew i k h in
+      let same : (k : ℕ) → k < 6 → numberIn (after .mesh) (newIndex es i) k ≡ numberIn (lists .mesh) i k = λ k. numbers-anew i k h in
       λ q.
       record {
         position = vector (same 0 (omega arith) q) (same 1 (omega arith) q) (same 2 (omega arith) q);
@@ -169,11 +159,11 @@ module _ (s : Star) (lent : LentWhole) (c : Counts) (e : answeredWhole s lent �
   -- ---- so a mesh of the first of them is named anew, whatever is told of its vertices' edges
 
   module _ (edge edge′ : ℕ → ℕ) (v t : ℕ) (few : v ≤ c .vertices) (few-triangles : t ≤ c .triangles) where
-    pub named-anew : ((i : ℕ) → i < v → edge′ (newIndex es i) ≡ edge i) → Renamed (meshIn lists edge v t) (meshIn after edge′ (keptBefore es v) t) (newIndex es)
+    pub named-anew : ((i : ℕ) → i < v → edge′ (newIndex es i) ≡ edge i) → Renamed (meshIn (lists .mesh) edge v t) (meshIn (after .mesh) edge′ (keptBefore es v) t) (newIndex es)
     named-anew told =
         let K = keptBefore es v in
-        let before = meshIn lists edge v t in
-        let then = meshIn after edge′ K t in
+        let before = meshIn (lists .mesh) edge v t in
+        let then = meshIn (after .mesh) edge′ K t in
         let long-before : length (before .made) ≡ v = length-listed _ v in
         let long-then : length (then .made) ≡ K = length-listed _ K in
         let many-before : length (before .triangles) ≡ t = length-listed _ t in
@@ -181,9 +171,9 @@ module _ (s : Star) (lent : LentWhole) (c : Counts) (e : answeredWhole s lent �
         let in-v : (i : ℕ) → i < length (before .made) → i < v = λ i h. rw long-before at h in
         let new : (i : ℕ) → i < v → newIndex es i < K = λ i h. new-below es i v h in
         let pair : (i : ℕ) → i < v → getD (then .made) (newIndex es i) noVertex ≡ getD (before .made) i noVertex =
-        λ i h. made-at after edge′ K t (newIndex es i) (new i h)
+        λ i h. made-at (after .mesh) edge′ K t (newIndex es i) (new i h)
         ∙ (λ q. record { vertex = vertex-anew i (omega arith) q; edge = told i h q })
-        ∙ sym (made-at lists edge v t i h) in
+        ∙ sym (made-at (lists .mesh) edge v t i h) in
         let which : (j : ℕ) → j < length (then .made) → Which (kept es) v j = λ j h. which-one (kept es) v j (rw long-then at h) in
         record {
           there = λ i h. rw long-then (new i (in-v i h));
@@ -196,16 +186,16 @@ module _ (s : Star) (lent : LentWhole) (c : Counts) (e : answeredWhole s lent �
           as-many = many-then ∙ sym many-before;
           triangles-are = λ k h.
               let l : k < t = rw many-before at h in
-              triangle-at after edge′ K t k l ∙ triangle-anew k (omega arith) ∙ ap (renamed (newIndex es)) (sym (triangle-at lists edge v t k l));
+              triangle-at (after .mesh) edge′ K t k l ∙ triangle-anew k (omega arith) ∙ ap (renamed (newIndex es)) (sym (triangle-at (lists .mesh) edge v t k l));
         }
 
-  pub names-vertices : (edge : ℕ → ℕ) (k : ℕ) → k < length (meshIn lists edge (c .vertices) (c .triangles) .triangles)
-      → NamesVertices (meshIn lists edge (c .vertices) (c .triangles)) k
+  pub names-vertices : (edge : ℕ → ℕ) (k : ℕ) → k < length (meshIn (lists .mesh) edge (c .vertices) (c .triangles) .triangles)
+      → NamesVertices (meshIn (lists .mesh) edge (c .vertices) (c .triangles)) k
   names-vertices edge k h =
       let l : k < c .triangles = rw length-listed at h in
-      let corner : (j : ℕ) → j < 3 → cornerAt lists (3 * k + j) < length (meshIn lists edge (c .vertices) (c .triangles) .made) =
+      let corner : (j : ℕ) → j < 3 → cornerAt lists (3 * k + j) < length (meshIn (lists .mesh) edge (c .vertices) (c .triangles) .made) =
       λ j small. rw length-listed (corner-low (3 * k + j) (omega arith)) in
-      let at = triangle-at lists edge (c .vertices) (c .triangles) k l in
+      let at = triangle-at (lists .mesh) edge (c .vertices) (c .triangles) k l in
       record {
         a = rw (ap (λ (q : Triangle). q .a) at) (corner 0 (omega arith));
         b = rw (ap (λ (q : Triangle). q .b) at) (corner 1 (omega arith));

@@ -5,7 +5,7 @@ use native.Mathlib.Omega.{arith}
 use mathlib.Core.Path.{_≡_, refl, sym, ap, _∙_, subst}
 use mathlib.Core.Bool.{Bool, true, false, cond, _||_, or-true}
 use mathlib.Core.List.{List, []}
-use mathlib.Core.Logic.{⊎-elim}
+use mathlib.Core.Logic.{_↔_, ⊎-elim}
 use borrow.Author.Tests.{eq-eqb, ne-eqb, eqb-true, eqb-false, not-true}
 use lib.Dec.{eqb}
 use lib.ListN.{length, getD, length-append, List·getD-append}
@@ -64,7 +64,7 @@ pub record First (edges : List ℕ) (i number f : ℕ) : Type 0 where
   pub alone : met edges f number ≡ false
 
 module _ (edges : List ℕ) where
-  pub met-first : (i number : ℕ) → met edges i number ≡ true → First edges i number (firstWith edges i number)
+  met-first : (i number : ℕ) → met edges i number ≡ true → First edges i number (firstWith edges i number)
   met-first zero number t = absurd (clash (sym t))
   met-first (suc i) number t = go (met edges i number) refl t (met-first i number)
     where
@@ -73,7 +73,7 @@ module _ (edges : List ℕ) where
       go true e t earlier = let f = earlier e in record { within = le-step (f .within); has = f .has; alone = f .alone }
       go false e t earlier = record { within = le-refl _; has = eqb-true _ _ t; alone = e }
 
-  pub first-met : (i number f : ℕ) → First edges i number f → (met edges i number ≡ true) × (firstWith edges i number ≡ f)
+  first-met : (i number f : ℕ) → First edges i number f → (met edges i number ≡ true) × (firstWith edges i number ≡ f)
   first-met zero number f h = absurd (not-suc-le-zero (h .within))
   first-met (suc i) number f h =
       ⊎-elim
@@ -183,6 +183,17 @@ module _ (edges : List ℕ) (i : ℕ) where
           let h = met-first edges i (numberOf edges i) e in
           absurd (none _ (h .within) (first-kept edges i (numberOf edges i) _ h) (h .has))
       go false e = kept-new edges i e
+
+-- of the regular vertices exactly the first on its edge is kept
+pub kept-is : (edges : List ℕ) (i : ℕ) → (numberOf edges i ≡ noEdge → ⊥)
+    → (kept edges i ≡ true) ↔ ((j : ℕ) → j < i → numberOf edges j ≡ numberOf edges i → ⊥)
+kept-is edges i m = (
+  λ k j l e.
+      let f = keeper-keeps edges j in
+      let same : numberOf edges (keeper edges j) ≡ numberOf edges i = f .same ∙ e in
+      omega (arith, f .first, kept-apart edges (keeper edges j) i (f .stays) k (λ q. m (sym same ∙ q)) (sym same)),
+  λ none. kept-anew edges i m (λ f l k e. none f l e),
+)
 
 -- ---- what the kept have, end to end
 
