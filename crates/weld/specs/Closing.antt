@@ -23,7 +23,7 @@ use Rattle.weld.specs.Kept.{few, counted, which-one, kept-mark, kept-ind
 -- ---- place by place
 
 module _ (edges : List ℕ) (i : ℕ) where
-  pub length-edges : length (closedUp (edgeOf edges) edges i) ≡ keptBefore edges i
+  length-edges : length (closedUp (edgeOf edges) edges i) ≡ keptBefore edges i
   length-edges = length-closed (edgeOf edges) 1 (λ i. refl) edges i ∙ one-mul (keptBefore edges i)
 
   pub edges-long : i ≤ length edges → length (edgesAt edges i) ≡ length edges
@@ -123,10 +123,10 @@ module _ (edges : List ℕ) (vertices : List Float) (i k r : ℕ) (vertices′ :
       let t = new-kept q (eqb (numberOf edges i) noEdge) refl in
       (t, q ∙ w .count-is ∙ sym (kept-index edges i t))
 
-  pub tabled-as : r ≡ newIndex edges i
+  tabled-as : r ≡ newIndex edges i
   tabled-as = ⊎-elim (λ q. new-is q .1) (λ l. old-is l .1) (eq-or-lt-of-le (p .within))
 
-  pub welded-more : (seen : List ℕ) (k2 : ℕ) (vertices2 : List Float) (edges2 seen2 : List ℕ)
+  welded-more : (seen : List ℕ) (k2 : ℕ) (vertices2 : List Float) (edges2 seen2 : List ℕ)
       → Closed i k r (numberOf edges′ i) vertices′ edges′ seen k2 vertices2 edges2 seen2 → WeldedTo edges vertices (suc i) k2 vertices2 edges2
   welded-more seen k2 vertices2 edges2 seen2 c = go (eq-or-lt-of-le (p .within))
     where

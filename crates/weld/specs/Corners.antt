@@ -13,7 +13,7 @@ use Rattle.weld.specs.Leaves.{Tabled, Window, cornerBy, upTo, AllWelded}
 use Rattle.weld.specs.Kept.{new-first}
 
 -- two that agree at each item, and one that leaves each item
-pub map-agree : (f g : ℕ → ℕ) (l : List ℕ) → ((p : ℕ) → p < length l → f (getD l p 0) ≡ g (getD l p 0)) → map f l ≡ map g l
+map-agree : (f g : ℕ → ℕ) (l : List ℕ) → ((p : ℕ) → p < length l → f (getD l p 0) ≡ g (getD l p 0)) → map f l ≡ map g l
 map-agree f g [] h = refl
 map-agree f g (x ∷ l) h = ap₂ (λ (a : ℕ) (b : List ℕ). a ∷ b) (h zero (omega arith)) (map-agree f g l (λ p below. h (suc p) (suc-le-suc below)))
 

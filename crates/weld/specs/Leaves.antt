@@ -117,3 +117,14 @@ pub record AllWelded (m : ℕ) (vertices : List Float) (triangles edges : List �
     (k : ℕ) (vertices′ : List Float) (triangles′ edges′ : List ℕ) : Type 0 where
   pub lists : WeldedTo edges vertices m k vertices′ edges′
   pub triangles-are : triangles′ ≡ map (upTo edges m) triangles
+
+-- between two windows: the vertices before start are welded, and the lists and the tables are as long as they were
+pub record Between (v places : ℕ) (vertices₀ : List Float) (triangles₀ edges₀ seen₀ hints₀ table₀ : List ℕ)
+    (vertices : List Float) (triangles edges seen hints table : List ℕ) (k start : ℕ) : Type 0 where
+  pub within : start ≤ v
+  pub few : k ≤ start
+  pub places-are : places ≡ length table₀
+  pub triangles-same : length triangles ≡ length triangles₀
+  pub as-long : AsLong vertices₀ vertices edges₀ edges seen₀ seen hints₀ hints table₀ table
+  pub noted : Noted seen edges k
+  pub welded : AllWelded start vertices₀ triangles₀ edges₀ k vertices triangles edges

@@ -75,7 +75,7 @@ module _ (v t : ℕ) (vertices : List Float) (triangles edges : List ℕ) (w : W
       let in-front : p < 3 * triangleCount front = rw front-long (omega arith) in
       rw getD-take at (place-named v front (w .named) p in-front)
 
-  pub mapped-long : length (map (newIndex edges) front) ≡ 3 * t
+  mapped-long : length (map (newIndex edges) front) ≡ 3 * t
   mapped-long = length-map front (newIndex edges) ∙ front-long
 
   pub corner-is : (p : ℕ) → p < 3 * t → getD (renumbered edges t triangles) p 0 ≡ newIndex edges (getD triangles p 0)
@@ -127,7 +127,7 @@ module _ (edges : List ℕ) (v : ℕ) where
       sym (f .before) ∙ ap (keptBefore edges) (kept-apart edges (f .one-is) (g .one-is) (f .passes) (g .passes) (λ q. m (at-i ∙ q)) (sym at-j ∙ e ∙ at-i)) ∙ g .before
 
   -- so all of them are kept
-  pub all-kept : (j : ℕ) → j < keptBefore edges v → kept (edgesAt edges v) j ≡ true
+  all-kept : (j : ℕ) → j < keptBefore edges v → kept (edgesAt edges v) j ≡ true
   all-kept j l = go (eqb (numberOf (edgesAt edges v) j) noEdge) refl
     where
       go : (b : Bool) → eqb (numberOf (edgesAt edges v) j) noEdge ≡ b → kept (edgesAt edges v) j ≡ true
@@ -211,7 +211,7 @@ module _ (v t : ℕ) (vertices : List Float) (triangles edges : List ℕ) where
     pub named-anew : (p : ℕ) → p < 3 * t → getD triangles′ p 0 < k
     named-anew p l = rw (corner-is v t vertices triangles edges w p l) (new-below edges (getD triangles p 0) v (corner-below v t vertices triangles edges w p l))
 
-    pub whole-again : Whole k t vertices′ triangles′ edges′
+    whole-again : Whole k t vertices′ triangles′ edges′
     whole-again =
         let long : length triangles′ ≡ length triangles = corners-long v t vertices triangles edges w in
         let room : 3 * t ≤ length triangles′ = omega (arith, w .indices) in

@@ -22,7 +22,10 @@ same-length-3 c = search needs
 
 returns : tie.Need-returns
 unfolding extract judgeExtraction
-returns c = told (c .before .before .before .before .before .before .before .extract-numbered .ensures .0)
+returns c =
+    let two-back = c .before .before .before in
+    let extracted = two-back .before .before .before .before in
+    told (extracted .extract-numbered .ensures .0)
 
 pub extract-spec : {M : Type 1} → statement M
 extract-spec =

@@ -3,11 +3,20 @@ use borrow.Author.Needs.{needs}
 use mathlib.Core.Path.{_≡_}
 use lib.ListN.{length}
 use Rattle.model.specs.declared.Verdict.the-variants.{Passed}
-use Rattle.model.specs.Star.{star}
+use Rattle.model.specs.Star.{Star, star}
 use Rattle.algorithm.specs.Passes.{judged}
 use Rattle.algorithm.proofs.Answers.{shaped, store-held, refused, passed}
 use Rattle.algorithm.proofs.extract_numbered.Statement.{statement}
 use Rattle.algorithm.proofs.extract_numbered.Tie as tie
+
+-- the entry, from where the block is judged: past the buffers, and the lists that are read
+abbrev start : tie.After-judge → tie.Start
+start c =
+    let lists = c .before .before .before .before .before in
+    lists .before .before
+
+abbrev starOf : tie.Start → Star
+starOf b = let a = b .args in star (a .header) (a .centre .now) (a .neighbours .now)
 
 judge-requires : tie.Need-judge-requires
 judge-requires c κs = search needs
@@ -20,19 +29,20 @@ refused-requires c κs = search needs
 
 returns : tie.Need-returns
 returns c =
-    let known = c .before in
-    let a = known .before .before .before .before .before .before .before .before .before .before .args in
-    let s = star (a .header) (a .centre .now) (a .neighbours .now) in
-    rw (c .refused .ensures) (refused (a .numbered) s (a .store .now) (a .vertices .now) (a .triangles .now) (a .edges .now) _ (cc))
+    let b = start (c .before .before .before .before) in
+    let a = b .args in
+    rw (c .refused .ensures) (refused (a .numbered) (starOf b) (a .store .now) (a .vertices .now) (a .triangles .now) (a .edges .now) _ (cc))
 
 enum-told : tie.Need-enum-told
 enum-told c = search needs
 
-judged-passed : (c : tie.After-enum-told) →
-    let a = c .before .before .before .before .before .before .before .before .before .args in
-    let s = star (a .header) (a .centre .now) (a .neighbours .now) in
-    judged s (length (a .store .now)) ≡ Passed
-judged-passed c = cc
+-- where 1 to 9 have passed
+module _ (c : tie.After-enum-told) where
+  abbrev entry : tie.Start
+  entry = start (c .before .before)
+
+  judged-passed : judged (starOf entry) (length (entry .args .store .now)) ≡ Passed
+  judged-passed = cc
 
 extract-mesh-requires : tie.Need-extract-mesh-requires
 extract-mesh-requires c κs =
@@ -53,10 +63,11 @@ same-length-4 c = search needs
 
 returns-2 : tie.Need-returns-2
 returns-2 c =
-    let extracted = c .before .before .before .before .before .before .before .before in
-    let told-passed = extracted .before .before .before .before .before in
-    let a = told-passed .before .before .before .before .before .before .before .before .before .args in
-    rw (passed (a .numbered) (star (a .header) (a .centre .now) (a .neighbours .now)) (a .store .now) (a .vertices .now) (a .triangles .now) (a .edges .now) (judged-passed told-passed))
+    let two-back = c .before .before .before .before in
+    let extracted = two-back .before .before .before .before in
+    let told = extracted .before .before .before .before .before in
+    let a = entry told .args in
+    rw (passed (a .numbered) (starOf (entry told)) (a .store .now) (a .vertices .now) (a .triangles .now) (a .edges .now) (judged-passed told))
     (extracted .extract-mesh .ensures)
 
 pub extract-numbered-spec : {M : Type 1} → statement M

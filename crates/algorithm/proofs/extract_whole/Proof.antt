@@ -23,7 +23,9 @@ same-length-4 c = search needs
 returns : tie.Need-returns
 unfolding extractWhole judgeWhole
 returns c =
-    let left = c .before .before .before .before .before .before .before .before .extract-numbered .ensures in
+    let two-back = c .before .before .before .before in
+    let extracted = two-back .before .before .before .before in
+    let left = extracted .extract-numbered .ensures in
     told-whole (left .0) (left .1)
 
 pub extract-whole-spec : {M : Type 1} → statement M

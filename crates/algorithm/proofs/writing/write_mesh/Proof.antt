@@ -11,16 +11,26 @@ use Rattle.algorithm.proofs.Reading.{read-all}
 use Rattle.algorithm.proofs.writing.write_mesh.Statement.{statement}
 use Rattle.algorithm.proofs.writing.write_mesh.Tie as tie
 
--- the entry, from the place where the store is cleared
+-- the entry, from where the store is cleared: past the buffers, and past the lists that are read
 abbrev start : tie.After-clear → tie.Start
-start c = c .before .before .before .before .before .before .before .before
+start c =
+    let buffers = c .before .before in
+    let lists = buffers .before .before .before .before in
+    lists .before .before
 
--- the place where it is cleared, and that where the regular cells are written
-abbrev cleared : tie.After-write-regular-cells → tie.After-clear
-cleared c = c .before .before .before .before .before .before .before .before .before
+-- where the fractions are made, from where the regular cells are to be written, and where it is cleared
+abbrev halved : tie.After-write-regular-cells-arg4 → tie.After-fractions-of
+halved c = c .before .before .before .before .before
 
-abbrev regular : tie.After-write-transition-cells → tie.After-write-regular-cells
-regular c = c .before .before .before .before .before .before .before .before .before .before .before .before .before .before
+abbrev cleared : tie.After-fractions-of → tie.After-clear
+cleared c = c .before .before .before
+
+-- where the regular cells are written, from where the transition cells are to be: past what is lent for these, and the buffers given back
+abbrev regular : tie.After-write-transition-cells-arg4 → tie.After-write-regular-cells
+regular c =
+    let back = c .before .before .before .before .before in
+    let two-back = back .before .before .before .before in
+    two-back .before .before .before .before
 
 clear-requires : tie.Need-clear-requires
 clear-requires c κs = search needs
@@ -30,55 +40,52 @@ fractions-of-requires c κs = search needs
 
 write-regular-cells-requires : tie.Need-write-regular-cells-requires
 write-regular-cells-requires c κs =
-    let empty = c .before .before .before .before .before .before .before .before in
+    let made = halved c in
+    let empty = cleared made in
     let b = start empty in
     let fits = b .pre .1 .fits in (
-      (b .pre .0, c .before .before .before .before .before .fractions-of .ensures),
+      (b .pre .0, made .fractions-of .ensures),
       (
         fits-still {edges₀ = b .args .edges .now} {edges = b .args .edges .now} (record { vertices-same = refl; triangles-same = refl; store-same = empty .clear .kept .0; edges-same = refl }) fits,
         empty .clear .ensures ∙ ap (λ (k : ℕ). replicate k 0) (fits .store-fits),
       ),
     )
 
--- the buffers are as long as they were
-same : (c : tie.After-write-regular-cells) → let a = start (cleared c) .args in let w = c .write-regular-cells in
-    SameLengths (a .vertices .now) (w .last .1 .1 .1 .1 .1 .0) (a .triangles .now) (w .last .1 .1 .1 .1 .1 .1 .0) (a .store .now) (w .last .1 .1 .1 .1 .0) (a .edges .now) (w .last .1 .1 .1 .1 .1 .1 .1 .0)
+-- the entry, from where the regular cells are written; the buffers are as long as they were
+abbrev began : tie.After-write-regular-cells → tie.Start
+began c = start (cleared (halved (c .before)))
+
+same : (c : tie.After-write-regular-cells) → let a = began c .args in let w = c .write-regular-cells in
+    let after = w .last .1 .1 .1 .1 in
+    SameLengths (a .vertices .now) (after .1 .0) (a .triangles .now) (after .1 .1 .0) (a .store .now) (after .0) (a .edges .now) (after .1 .1 .1 .0)
 same c =
-    let w = c .write-regular-cells in
-    record {
-      vertices-same = w .kept .1 .1 .1 .1 .1 .0;
-      triangles-same = w .kept .1 .1 .1 .1 .1 .1 .0;
-      store-same = w .kept .1 .1 .1 .1 .0 ∙ cleared c .clear .kept .0;
-      edges-same = w .kept .1 .1 .1 .1 .1 .1 .1 .0;
-    }
+    let kept = c .write-regular-cells .kept .1 .1 .1 .1 in
+    record { vertices-same = kept .1 .0; triangles-same = kept .1 .1 .0; store-same = kept .0 ∙ cleared (halved (c .before)) .clear .kept .0; edges-same = kept .1 .1 .1 .0 }
 
 write-transition-cells-requires : tie.Need-write-transition-cells-requires
 write-transition-cells-requires c κs =
-    let r = c .before .before .before .before .before .before .before .before .before .before .before .before .before in
-    let b = start (cleared r) in
-    ((b .pre .0, r .before .before .before .before .before .before .fractions-of .ensures), (fits-still (same r) (b .pre .1 .fits), (r .write-regular-cells .ensures .0, r .write-regular-cells .ensures .1)))
+    let r = regular c in
+    let b = began r in
+    ((b .pre .0, halved (r .before) .fractions-of .ensures), (fits-still (same r) (b .pre .1 .fits), (r .write-regular-cells .ensures .0, r .write-regular-cells .ensures .1)))
 
--- the place where all cells are written; there too the buffers are as long as they were
+-- where all cells are written; there too the buffers are as long as they were
 abbrev written : tie.After-struct-known → tie.After-write-transition-cells
-written c = c .before .before .before .before .before .before .before .before .before
+written c =
+    let two-back = c .before .before .before .before .before in
+    two-back .before .before .before .before
 
-same-still : (t : tie.After-write-transition-cells) → let a = start (cleared (regular t)) .args in let w = t .write-transition-cells in
-    SameLengths (a .vertices .now) (w .last .1 .1 .1 .1 .1 .1 .0) (a .triangles .now) (w .last .1 .1 .1 .1 .1 .1 .1 .0) (a .store .now) (w .last .1 .1 .1 .1 .1 .0) (a .edges .now) (w .last .1 .1 .1 .1 .1 .1 .1 .1 .0)
+same-still : (t : tie.After-write-transition-cells) → let a = began (regular (t .before)) .args in let w = t .write-transition-cells in
+    let after = w .last .1 .1 .1 .1 .1 in
+    SameLengths (a .vertices .now) (after .1 .0) (a .triangles .now) (after .1 .1 .0) (a .store .now) (after .0) (a .edges .now) (after .1 .1 .1 .0)
 same-still t =
-    let w = t .write-transition-cells in
-    same-then (same (regular t))
-    (record {
-      vertices-same = w .kept .1 .1 .1 .1 .1 .1 .0;
-      triangles-same = w .kept .1 .1 .1 .1 .1 .1 .1 .0;
-      store-same = w .kept .1 .1 .1 .1 .1 .0;
-      edges-same = w .kept .1 .1 .1 .1 .1 .1 .1 .1 .0;
-    })
+    let kept = t .write-transition-cells .kept .1 .1 .1 .1 .1 in
+    same-then (same (regular (t .before))) (record { vertices-same = kept .1 .0; triangles-same = kept .1 .1 .0; store-same = kept .0; edges-same = kept .1 .1 .1 .0 })
 
 add-result : tie.Need-add-result
 add-result c =
     let t = written c in
     let w = t .write-transition-cells .ensures in
-    omega (arith, w .1 .few, w .0 .read-so-far, w .0 .vertex-count, start (cleared (regular t)) .pre .1 .fits .vertices-fit .short)
+    omega (arith, w .1 .few, w .0 .read-so-far, w .0 .vertex-count, began (regular (t .before)) .pre .1 .fits .vertices-fit .short)
 
 same-length : tie.Need-same-length
 same-length c = same-still (written c) .store-same
@@ -96,7 +103,7 @@ returns : tie.Need-returns
 returns c =
     let t = written c in
     let w = t .write-transition-cells .ensures in
-    (holds-all _ _ _ _ _ _ (exact-still (same-still t) (start (cleared (regular t)) .pre .1)) (w .0), (read-all _ _ _ _ _ _ _ (w .1) (w .0), w .0 .numbered))
+    (holds-all _ _ _ _ _ _ (exact-still (same-still t) (began (regular (t .before)) .pre .1)) (w .0), (read-all _ _ _ _ _ _ _ (w .1) (w .0), w .0 .numbered))
 
 pub write-mesh-spec : {M : Type 1} → statement M
 write-mesh-spec =

@@ -11,37 +11,54 @@ use Rattle.cells.specs.Rows.{rowTriangle}
 use Rattle.cells.proofs.cell.write_cell.Statement.{statement}
 use Rattle.cells.proofs.cell.write_cell.Tie as tie
 
+-- the entry, from where the buffers are known: past these, and the lists that are read; and from where the vertices are put
+abbrev lent : tie.After-slice-known4 → tie.Start
+lent c =
+    let lists = c .before .before .before .before in
+    lists .before .before .before .before
+
+abbrev start : tie.After-fill-cell → tie.Start
+start c = lent (c .before .before .before)
+
+-- where the vertices are put, from where their buffers are given back, and from where the edges are put
+abbrev back : tie.After-slice-known6 → tie.After-fill-cell
+back c = c .before .before .before .before
+
+abbrev filled : tie.After-put-edges → tie.After-fill-cell
+filled c = back (c .before .before .before)
+
+-- where the edges are put, from where the triangles are to be
+abbrev numbered : tie.After-put-triangles-arg2 → tie.After-put-edges
+numbered c = c .before .before .before .before .before
+
 fill-cell-requires : tie.Need-fill-cell-requires
 unfolding fillTo
 fill-cell-requires c κs =
-    let p = c .before .before .before .before .before .before .before .before .before .before .pre in
+    let p = lent (c .before .before) .pre in
     (p .0, ((omega (arith, p .1 .0 .1), (p .1 .0 .1 .few-vertices, p .1 .0 .0)), (p .1 .1 .0, p .1 .1 .1 .0)))
 
 put-edges-requires : tie.Need-put-edges-requires
 put-edges-requires c κs =
-    let p = c .before .before .before .before .before .before .before .before .before .before .before .before .before .before .before .before .before .pre in
+    let p = start (back (c .before .before)) .pre in
     ((p .0 .centred .parts .few, (p .0 .placed, omega (arith, p .1 .1 .1 .0 .short))), (omega (arith, p .1 .0 .1), (p .1 .0 .1 .few-vertices, p .1 .0 .0)))
 
 put-triangles-requires : tie.Need-put-triangles-requires
 put-triangles-requires c κs =
-    let p = c .before .before .before .before .before .before .before .before .before .before .before .before .before .before .before .before .before .before .before .before .before .before .before .pre in
+    let p = start (filled (numbered c)) .pre in
     (p .1 .0 .1, p .1 .1 .1 .1 .0)
 
--- the places where the edges are put and where the vertices are, and the entry, from that where all is
-abbrev numbered : tie.After-struct-known2 → tie.After-put-edges
-numbered c = c .before .before .before .before .before .before .before .before .before .before
-
-abbrev filled : tie.After-struct-known2 → tie.After-fill-cell
-filled c = numbered c .before .before .before .before .before .before .before
-
-abbrev start : tie.After-struct-known2 → tie.Start
-start c = filled c .before .before .before .before .before .before .before .before .before .before .before
+-- where the edges are put, from where all is
+abbrev edged : tie.After-struct-known2 → tie.After-put-edges
+edged c =
+    let drawn = c .before .before .before .before in
+    numbered (drawn .before)
 
 add-reads : tie.Need-add-reads
 unfolding fillTo
 add-reads c =
-    let p = start c .pre .1 .1 .1 in
-    let put = filled c .fill-cell .ensures in
+    let f = filled (edged c) in
+    let p = start f .pre .1 .1 .1 in
+    let put = f .fill-cell .ensures in
     omega (arith, p .0 .short, p .1 .1, put .reads-are)
 
 same-length : tie.Need-same-length
@@ -59,14 +76,15 @@ same-length-4 c = search needs
 returns : tie.Need-returns
 unfolding fillTo triangleOf rowTriangle
 returns c =
-    let b = start c in
+    let f = filled (edged c) in
+    let b = start f in
     let a = b .args in
     let put = c .before .before .before .before .put-triangles .ensures in
     let s = star (a .header) (a .centre .now) (a .neighbours .now) in
     let cell = cellOf s (a .at) (a .codes .now) (a .row .now) (a .turned) in (
       cell-put cell (a .counts .vertices) (a .counts .triangles) (a .vertices .now) (a .triangles .now) (a .store .now) _ _ _ _ _ _ _ _ _ (b .pre .1 .1 .1 .1 .1)
-          (filled c .fill-cell .ensures) (put .0) (put .1),
-      numbered c .put-edges .ensures s (a .turned) (a .store .now) refl,
+          (f .fill-cell .ensures) (put .0) (put .1),
+      edged c .put-edges .ensures s (a .turned) (a .store .now) refl,
     )
 
 pub write-cell-spec : {M : Type 1} → statement M

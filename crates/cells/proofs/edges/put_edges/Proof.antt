@@ -16,12 +16,16 @@ use Rattle.cells.proofs.edges.put_edges.Tie as tie
 abbrev Inv-loop : tie.InvT-loop
 Inv-loop n at codes row edges₀ base count next₀ k₀ edges next k =
     (k ≤ count)
-    × ((next ≤ base + k)
-    × ((length edges ≡ length edges₀)
-    × ((s : Star) (turned : Bool) (store : List ℕ) → subdivisions s ≡ n → EdgesTo (cellOf s at codes row turned) base store k edges₀ next edges)))
+    × (next ≤ base + k)
+    × (length edges ≡ length edges₀)
+    × ((s : Star) (turned : Bool) (store : List ℕ) → subdivisions s ≡ n → EdgesTo (cellOf s at codes row turned) base store k edges₀ next edges)
 
 abbrev μ-loop : tie.MeasureT-loop
 μ-loop n at codes row edges₀ base count next₀ k₀ edges next k = count - k
+
+-- the entry, from where the vertices are counted
+abbrev counted : tie.After-vertex-count Inv-loop μ-loop → tie.Start Inv-loop μ-loop
+counted c = c .before .before .before .before .before
 
 returns : tie.Need-returns Inv-loop μ-loop
 returns c =
@@ -33,12 +37,12 @@ vertex-count-requires c κs = search needs
 
 loop-holds : tie.Need-loop-holds Inv-loop μ-loop
 loop-holds c =
-    let a = c .before .before .before .before .before .args in
-    (omega arith, (omega arith, (refl, λ s turned store e. edges-none (cellOf s (a .at) (a .codes .now) (a .row .now) turned) (a .base) store (a .edges .now))))
+    let a = counted c .args in
+    (omega arith, omega arith, refl, λ s turned store e. edges-none (cellOf s (a .at) (a .codes .now) (a .row .now) turned) (a .base) store (a .edges .now))
 
 -- the entry, from a turn of the loop
 abbrev start : tie.In-loop Inv-loop μ-loop → tie.Start Inv-loop μ-loop
-start c = c .before .before .before .before .before .before .before
+start c = counted (c .before .before)
 
 -- its code is one of the row's
 inside : (c : tie.In-loop Inv-loop μ-loop) → let b = start c in (c .before .loop .k + 1 ≤ verticesOf (b .args .row .now)) × (verticesOf (b .args .row .now) ≤ length (b .args .codes .now))
@@ -56,7 +60,7 @@ put-edge-requires : tie.Need-put-edge-requires Inv-loop μ-loop
 put-edge-requires c κs =
     let here = c .before .before in
     let b = start here in
-    (b .pre .0 .0, (b .pre .0 .1 .0, omega (arith, here .before .loop .inv .1 .0, inside here, b .pre .0 .1 .1, b .pre .1 .1 .0)))
+    (b .pre .0 .0, (b .pre .0 .1 .0, omega (arith, here .before .loop .inv .1, inside here, b .pre .0 .1 .1, b .pre .1 .1 .0)))
 
 add-k : tie.Need-add-k Inv-loop μ-loop
 add-k c =
@@ -73,24 +77,20 @@ loop-again c =
     let l = here .before .loop in
     let a = start here .args in (
       omega (arith, here .loop-test .taken),
-      (
-        omega (arith, l .inv .1 .0, put .put-edge .ensures .0),
-        (
-          omega (arith, put .put-edge .kept, l .inv .1 .1 .0),
-          λ s turned store e. edges-more (cellOf s (a .at) (a .codes .now) (a .row .now) turned) (a .base) store (a .edges .now) (l .k) _ _ _ _ (l .inv .1 .1 .1 s turned store e) (put .put-edge .ensures .1 s e),
-        ),
-      ),
+      omega (arith, l .inv .1, put .put-edge .ensures .0),
+      omega (arith, put .put-edge .kept, l .inv .2),
+      λ s turned store e. edges-more (cellOf s (a .at) (a .codes .now) (a .row .now) turned) (a .base) store (a .edges .now) (l .k) _ _ _ _ (l .inv .3 s turned store e) (put .put-edge .ensures .1 s e),
     )
 
 same-length : tie.Need-same-length Inv-loop μ-loop
-same-length c = c .before .loop .inv .1 .1 .0
+same-length c = c .before .loop .inv .2
 
 returns-2 : tie.Need-returns-2 Inv-loop μ-loop
 returns-2 c =
     let l = c .before .loop in
-    let a = c .before .before .before .before .before .before .before .args in
+    let a = counted (c .before .before) .args in
     let e : l .k ≡ verticesOf (a .row .now) = omega (arith, l .inv .0, c .before .before .vertex-count .ensures) in
-    λ s turned store there. rw e at (l .inv .1 .1 .1 s turned store there .edges-are)
+    λ s turned store there. rw e at (l .inv .3 s turned store there .edges-are)
 
 pub put-edges-spec : {M : Type 1} → statement M
 put-edges-spec =

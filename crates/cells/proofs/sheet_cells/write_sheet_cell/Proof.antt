@@ -20,9 +20,15 @@ small b =
     let a = b .args in
     omega (arith, b .pre .1 .1 .0, case-small (starOf b) (a .sheet) (a .u) (a .v))
 
--- the entry, from the place where the rows are lent
+-- the entry, from where the cell is placed: past the buffers, and the lists that are read
+abbrev placed : tie.After-cell-at → tie.Start
+placed c =
+    let lists = c .before .before .before .before .before in
+    lists .before .before .before .before .before
+
+-- and from where its rows are lent
 abbrev start : tie.After-turned → tie.Start
-start r = r .before .before .before .before .before .before .before .before .before .before .before .before .before
+start r = placed (r .before .before .before)
 
 -- the rows that are lent describe the cell
 same : (r : tie.After-turned) → let b = start r in let a = b .args in
@@ -39,17 +45,17 @@ cell-at-requires c κs = search needs
 
 case-codes-requires : tie.Need-case-codes-requires
 case-codes-requires c κs =
-    let b = c .before .before .before .before .before .before .before .before .before .before in
+    let b = placed c in
     (b .pre .0 .codes-are, small b)
 
 case-cell-requires : tie.Need-case-cell-requires
 case-cell-requires c κs =
-    let b = c .before .before .before .before .before .before .before .before .before .before .before in
+    let b = placed (c .before) in
     (b .pre .0 .classes-are, (b .pre .0 .cells-are, small b))
 
 turned-requires : tie.Need-turned-requires
 turned-requires c κs =
-    let b = c .before .before .before .before .before .before .before .before .before .before .before .before in
+    let b = placed (c .before .before) in
     (b .pre .0 .classes-are, small b)
 
 write-cell-requires : tie.Need-write-cell-requires
@@ -88,7 +94,8 @@ same-length-4 c = search needs
 
 returns : tie.Need-returns
 returns c =
-    let put = c .before .before .before .before .before .before .before .before in
+    let two-back = c .before .before .before .before in
+    let put = two-back .before .before .before .before in
     let r = put .before .before .before .before .before in
     let a = start r .args in (
       put-as (same r) (a .counts .vertices) (a .counts .triangles) (a .vertices .now) (a .triangles .now) (a .store .now) _ _ _ _ _ _ (put .write-cell .ensures .0),

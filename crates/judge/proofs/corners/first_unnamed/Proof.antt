@@ -63,11 +63,15 @@ is-named-requires-3 c κs = search needs
 
 -- a triangle whose corners were looked at
 module _ (c : tie.After-is-named3 Inv-loop μ-loop) where
-  abbrev start : tie.Start Inv-loop μ-loop
-  start = c .before .before .before .before .before .before .before .before .before
+  -- its first corner, its turn, and the entry
+  abbrev corner : tie.After-is-named Inv-loop μ-loop
+  corner = c .before .before .before .before
 
   abbrev at-turn : tie.At-loop Inv-loop μ-loop
-  at-turn = c .before .before .before .before .before .before .before
+  at-turn = corner .before .before .before
+
+  abbrev start : tie.Start Inv-loop μ-loop
+  start = at-turn .before .before
 
   abbrev triangles : List ℕ
   triangles = start .args .triangles .now
@@ -79,11 +83,11 @@ module _ (c : tie.After-is-named3 Inv-loop μ-loop) where
   spot = namedSpot (start .args .held) triangles
 
   abbrev all : Bool
-  all = c .before .before .before .before .is-named .result && c .before .before .is-named2 .result && c .is-named3 .result
+  all = corner .is-named .result && c .before .before .is-named2 .result && c .is-named3 .result
 
   judged : (b : Bool) → all ≡ b → spot t ≡ unless b (NoVertex t)
   judged b e =
-      spot-is (start .args .held) triangles t _ _ _ (c .before .before .before .before .is-named .ensures) (c .before .before .is-named2 .ensures) (c .is-named3 .ensures)
+      spot-is (start .args .held) triangles t _ _ _ (corner .is-named .ensures) (c .before .before .is-named2 .ensures) (c .is-named3 .ensures)
       ∙ ap (λ (b : Bool). unless b (NoVertex t)) e
 
 returns : tie.Need-returns Inv-loop μ-loop

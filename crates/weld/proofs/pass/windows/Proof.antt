@@ -1,10 +1,9 @@
 -- `pass::windows` meets its contract. The invariant: the vertices of the windows passed are welded, and the corners that name them renumbered.
 -- Assumes nothing.
-use Prim.Native.Nat.{_-_, _≤_}
+use Prim.Native.Nat.{_-_}
 use mathlib.Core.Path.{_≡_, refl, _∙_}
 use native.Mathlib.Omega.{arith}
-use lib.ListN.{length}
-use Rattle.weld.specs.Leaves.{Noted, Room, Tables, AsLong, AllWelded}
+use Rattle.weld.specs.Leaves.{Room, Tables, AsLong, Between}
 use Rattle.weld.specs.Seen.{noted-none}
 use Rattle.weld.specs.Corners.{welded-none, all-welded-more}
 use Rattle.weld.proofs.pass.windows.Statement.{statement}
@@ -12,9 +11,7 @@ use Rattle.weld.proofs.pass.windows.Tie as tie
 
 abbrev Inv-loop : tie.InvT-loop
 Inv-loop v vertices₀ triangles₀ edges₀ seen₀ hints₀ table₀ places k₀ start₀ vertices triangles edges seen hints table k start =
-    ((start ≤ v) × ((k ≤ start) × ((length triangles ≡ length triangles₀) × (places ≡ length table₀))))
-    × (AsLong vertices₀ vertices edges₀ edges seen₀ seen hints₀ hints table₀ table
-    × (Noted seen edges k × AllWelded start vertices₀ triangles₀ edges₀ k vertices triangles edges))
+    Between v places vertices₀ triangles₀ edges₀ seen₀ hints₀ table₀ vertices triangles edges seen hints table k start
 
 abbrev μ-loop : tie.MeasureT-loop
 μ-loop v vertices₀ triangles₀ edges₀ seen₀ hints₀ table₀ places k₀ start₀ vertices triangles edges seen hints table k start = v - start
@@ -43,7 +40,7 @@ closed c = just-closed (c .before .before .before .before .before)
 tables : (c : tie.In-loop Inv-loop μ-loop) → let l = c .before .loop in Tables (l .seen) (l .hints)
 tables c =
     let given = start c .pre .1 .0 in
-    let as-long = c .before .loop .inv .1 .0 in
+    let as-long = c .before .loop .inv .as-long in
     record { words = omega (arith, given .words, as-long .seen-same); slots = omega (arith, given .slots, as-long .hints-same) }
 
 -- the window that begins here has room
@@ -53,38 +50,48 @@ room c =
     let l = c .before .before .loop in
     let given = start (c .before) .pre .0 in
     let end = c .window-end .ensures in
-    let as-long = l .inv .1 .0 in
+    let as-long = l .inv .as-long in
     record {
-      few = l .inv .0 .1 .0;
+      few = l .inv .few;
       ordered = omega (arith, end .0);
-      in-table = omega (arith, end .1 .1, as-long .table-same, l .inv .0 .1 .1 .1);
+      in-table = omega (arith, end .1 .1, as-long .table-same, l .inv .places-are);
       short = omega (arith, end .1 .0, given .short);
       in-edges = omega (arith, end .1 .0, given .in-edges, as-long .edges-same);
       in-vertices = omega (arith, end .1 .0, given .in-vertices, as-long .vertices-same);
     }
 
+-- it is closed, and all five lists are as long as they were
+still-long : (c : tie.After-close Inv-loop μ-loop) → let l = ended (c .before) .before .before .loop in let last = c .close .last .1 .1 .1 in
+    AsLong (l .vertices) (last .0) (l .edges) (last .1 .0) (l .seen) (last .1 .1 .0) (l .hints) (last .1 .1 .1 .0) (l .table) (last .1 .1 .1 .1 .0)
+still-long c =
+    let kept = c .close .kept .1 .1 .1 in
+    record { vertices-same = kept .0; edges-same = kept .1 .0; seen-same = kept .1 .1 .0; hints-same = kept .1 .1 .1 .0; table-same = kept .1 .1 .1 .1 .0 }
+
 loop-holds : tie.Need-loop-holds Inv-loop μ-loop
 loop-holds c =
-    let a = lent c .args in (
-      (omega arith, (omega arith, (refl, refl))),
-      (
-        record { vertices-same = refl; edges-same = refl; seen-same = refl; hints-same = refl; table-same = refl },
-        (noted-none (a .seen .now) (a .edges .now), welded-none (a .vertices .now) (a .triangles .now) (a .edges .now)),
-      ),
-    )
+    let a = lent c .args in
+    record {
+      within = omega arith;
+      few = omega arith;
+      places-are = refl;
+      triangles-same = refl;
+      as-long = record { vertices-same = refl; edges-same = refl; seen-same = refl; hints-same = refl; table-same = refl };
+      noted = noted-none (a .seen .now) (a .edges .now);
+      welded = welded-none (a .vertices .now) (a .triangles .now) (a .edges .now);
+    }
 
 window-end-requires : tie.Need-window-end-requires Inv-loop μ-loop
-window-end-requires c κs = (c .loop-test .taken, omega (arith, start c .pre .1 .1, c .before .loop .inv .0 .1 .1 .1))
+window-end-requires c κs = (c .loop-test .taken, omega (arith, start c .pre .1 .1, c .before .loop .inv .places-are))
 
 close-requires : tie.Need-close-requires Inv-loop μ-loop
 close-requires c κs =
     let window = ended c in
-    ((room window, tables (window .before)), window .before .before .loop .inv .1 .1 .0)
+    ((room window, tables (window .before)), window .before .before .loop .inv .noted)
 
 renumber-requires : tie.Need-renumber-requires Inv-loop μ-loop
 renumber-requires c κs =
     let done = closed (c .before .before) in
-    omega (arith, room (ended (done .before)) .in-table, done .close .kept .1 .1 .1 .1 .1 .1 .1 .0)
+    omega (arith, room (ended (done .before)) .in-table, still-long done .table-same)
 
 loop-less : tie.Need-loop-less Inv-loop μ-loop
 loop-less c =
@@ -101,50 +108,48 @@ loop-again c =
     let end = window .window-end in
     let close = done .close in
     let renumber = renumbered .renumber in
-    let as-long = l .inv .1 .0 in
-    let kept = close .kept .1 .1 .1 in
-    let last = close .last .1 .1 .1 in (
-      (end .ensures .1 .0, (close .ensures .within, (renumber .kept .1 .1 .1 .0 ∙ l .inv .0 .1 .1 .0, l .inv .0 .1 .1 .1))),
-      (
-        record {
-          vertices-same = kept .0 ∙ as-long .vertices-same;
-          edges-same = kept .1 .0 ∙ as-long .edges-same;
-          seen-same = kept .1 .1 .0 ∙ as-long .seen-same;
-          hints-same = kept .1 .1 .1 .0 ∙ as-long .hints-same;
-          table-same = kept .1 .1 .1 .1 .0 ∙ as-long .table-same;
-        },
-        (
-          close .ensures .noted,
-          all-welded-more (l .start) (end .result) (a .vertices .now) (a .triangles .now) (a .edges .now) (l .k) (l .vertices) (l .triangles) (l .edges)
-              (room window .ordered) (as-long .edges-same) (as-long .vertices-same) (l .inv .1 .1 .1)
-              (close .result) (last .0) (renumber .last .1 .1 .1 .0) (last .1 .0) (last .1 .1 .0) (last .1 .1 .1 .1 .0) (close .ensures) (renumber .ensures),
-        ),
-      ),
-    )
+    let as-long = l .inv .as-long in
+    let still = still-long done in
+    record {
+      within = end .ensures .1 .0;
+      few = close .ensures .within;
+      places-are = l .inv .places-are;
+      triangles-same = renumber .kept .1 .1 .1 .0 ∙ l .inv .triangles-same;
+      as-long = record {
+        vertices-same = still .vertices-same ∙ as-long .vertices-same;
+        edges-same = still .edges-same ∙ as-long .edges-same;
+        seen-same = still .seen-same ∙ as-long .seen-same;
+        hints-same = still .hints-same ∙ as-long .hints-same;
+        table-same = still .table-same ∙ as-long .table-same;
+      };
+      noted = close .ensures .noted;
+      welded = all-welded-more (l .start) (end .result) (a .vertices .now) (a .triangles .now) (a .edges .now) (l .k) (l .vertices) (l .triangles) (l .edges)
+          (room window .ordered) (as-long .edges-same) (as-long .vertices-same) (l .inv .welded) (close .result) _ _ _ _ _ (close .ensures) (renumber .ensures);
+    }
 
 same-length : tie.Need-same-length Inv-loop μ-loop
-same-length c = c .before .loop .inv .1 .0 .vertices-same
+same-length c = c .before .loop .inv .as-long .vertices-same
 
 same-length-2 : tie.Need-same-length-2 Inv-loop μ-loop
-same-length-2 c = c .before .loop .inv .0 .1 .1 .0
+same-length-2 c = c .before .loop .inv .triangles-same
 
 same-length-3 : tie.Need-same-length-3 Inv-loop μ-loop
-same-length-3 c = c .before .loop .inv .1 .0 .edges-same
+same-length-3 c = c .before .loop .inv .as-long .edges-same
 
 same-length-4 : tie.Need-same-length-4 Inv-loop μ-loop
-same-length-4 c = c .before .loop .inv .1 .0 .seen-same
+same-length-4 c = c .before .loop .inv .as-long .seen-same
 
 same-length-5 : tie.Need-same-length-5 Inv-loop μ-loop
-same-length-5 c = c .before .loop .inv .1 .0 .hints-same
+same-length-5 c = c .before .loop .inv .as-long .hints-same
 
 same-length-6 : tie.Need-same-length-6 Inv-loop μ-loop
-same-length-6 c = c .before .loop .inv .1 .0 .table-same
+same-length-6 c = c .before .loop .inv .as-long .table-same
 
 returns : tie.Need-returns Inv-loop μ-loop
 returns c =
     let l = c .before .loop in
-    let all : l .start ≡ lent (c .before .before) .args .v = omega (arith, l .inv .0 .0) in
-    rw all at (l .inv .1 .1 .1)
+    let all : l .start ≡ lent (c .before .before) .args .v = omega (arith, l .inv .within) in
+    rw all at (l .inv .welded)
 
 pub windows-spec : {M : Type 1} → statement M
 windows-spec =
