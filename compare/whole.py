@@ -5,7 +5,7 @@
 
 Each seed makes a call as compare/damaged.py does, good but for a fault or two, with a list for the grid edges that is long enough or
 not. Answer, its numbers and all places of the four buffers are compared. A mesh is then welded: the lists are compared with the
-reference's, each corner must keep its six numbers, and each crossed grid edge must have one vertex.
+reference's, each corner must keep its six numbers, and each crossed grid edge must have one regular vertex.
 """
 
 import random

@@ -128,7 +128,8 @@
  * At the low faces of a block several cells make a vertex on the same grid edge, bit for bit the same. Extraction tells the grid
  * edge of each vertex in a further list (sirveshan_extract_whole), and the weld (sirveshan_weld) keeps of the vertices with one
  * edge only the first. An edge's number is 3 times the place of its lower end, SIRVESHAN_PLACE, plus 0, 1, 2 for x, y, z.
- * SIRVESHAN_NO_EDGE marks the vertex of a transition cell, which has no grid edge and is always kept.
+ * SIRVESHAN_NO_EDGE marks the vertex of a transition cell, which is given no number and is always kept, also on an edge that has a
+ * regular vertex: by index the mesh stays open along a finer face.
  */
 #ifndef SIRVESHAN_H
 #define SIRVESHAN_H
@@ -150,8 +151,9 @@ extern "C" {
 #define SIRVESHAN_HIGH_Z 32
 
 /*
- * Bytes of stack that are enough for any call but the weld, at n = 64 as at n = 1: 59,984 bytes were measured (bindings/c/stack.c; the
- * sheet takes the most), and this is rounded up. The weld keeps its tables there: about 448 KiB were measured, for few vertices as for many.
+ * Bytes of stack that are enough for any call but the weld, at n = 64 as at n = 1: 59,984 bytes were measured (bindings/c/stack.c;
+ * the sheet takes the most), and this is rounded up. The weld keeps its tables there: 458,999 bytes were measured, for few vertices
+ * as for many.
  */
 #define SIRVESHAN_STACK 65536
 #define SIRVESHAN_WELD_STACK 491520
@@ -273,8 +275,9 @@ sirveshan_extracted sirveshan_extract_whole(sirveshan_header header, const float
  * count. Judged are 14 (vertices, then triangles: the places wanted), 23 (edges) and 17, in that order. On a refusal both counts
  * are 0 and no lent place is altered.
  *
- * The time is close to linear in the vertices and triangles for lists whose equal numbers lie close together, as extraction's
- * do; it may grow faster for lists with many equal numbers that lie far apart.
+ * The counts are of 32 bits: lists of more than 4,294,967,295 vertices or triangles cannot be welded. The time is close to linear
+ * for lists whose numbers are below 1,048,576 and whose equal numbers lie close together, as extraction's; otherwise it may grow
+ * with the square of the count, or faster.
  */
 typedef struct sirveshan_welded {
     sirveshan_refusal refused;

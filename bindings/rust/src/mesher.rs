@@ -31,8 +31,10 @@ impl Mesher {
         Mesher::default()
     }
 
-    /// The same, and each mesh is welded: of the vertices made on one grid edge only the first
-    /// stays. The surface is the same, corner by corner and bit for bit.
+    /// The same, and each mesh is welded: of the regular vertices made on one grid edge only the
+    /// first stays. The surface is the same, corner by corner and bit for bit. The vertices of
+    /// transition cells stay, so by index the mesh stays open along a finer face. The weld takes up
+    /// to 480 KiB of stack.
     ///
     /// ```
     /// use sirveshan::{sample_length, Block, Header, Mesher};

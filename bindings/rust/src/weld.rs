@@ -1,13 +1,14 @@
-//! The weld: of the vertices made on one grid edge only the first stays.
+//! The weld: of the regular vertices made on one grid edge only the first stays.
 
 use crate::{linked, Counts, Refusal};
 
-/// What stands for the grid edge of a vertex of a transition cell, which has none.
+/// What stands in the place of a grid edge's number for a vertex of a transition cell, which is given
+/// none, also where it lies on one.
 pub const NO_EDGE: u32 = u32::MAX;
 
 /// Welds a mesh in its own lists and answers the new counts: of the vertices with one number in
 /// `edges` only the first is kept, the kept close up in their order, and the triangles are
-/// renumbered. A vertex with [`NO_EDGE`] is always kept.
+/// renumbered. A vertex with [`NO_EDGE`] is always kept. It takes up to 480 KiB of stack.
 ///
 /// So many vertices, of six f32, and triangles, of three indices, are looked at. All beyond the new
 /// counts stays; a refusal alters nothing. It reads no sample, so `reads` is 0.

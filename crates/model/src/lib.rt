@@ -1,7 +1,7 @@
 // What a reader must believe: the plain types here, and in specs/ the definition of everything that the other crates
 // are proved against, in document 01's words. Those marked repr(C) pass between this code and its callers in C and Rust.
 
-// What stands for a transition vertex's grid edge, which it has not.
+// What stands in the place of a grid edge's number for a transition vertex, which is given none, also where it lies on one.
 pub const NO_EDGE: u32 = 4294967295;
 
 // Three whole numbers, one for each axis: a grid point, a cell, an origin, the sizes of a volume.

@@ -22,7 +22,9 @@ RECORD may be a run: records laid end to end. Each is meshed by itself, and the 
 A refused record of a run has a line `refused N A B C` in its place, and the run goes on; each
 summary of a run begins with a line `record K`.
 
-    --weld      of the vertices made on one grid edge keep only the first; the surface is the same
+    --weld      of the regular vertices made on one grid edge keep only the first; the surface is the
+                same. The vertices of transition cells stay, also on an edge that has a regular one:
+                by index the mesh stays open along a finer face
     --summary   counts, bounding box, surface area and, of a closed mesh, the enclosed volume; last the
                 sample reads that it took once every check had passed. With --weld also how many
                 vertices were doubled
