@@ -3,11 +3,12 @@
 
     python3 compare/weld_packages.py
 
-A ball off the block's outer faces, without and with finer sides, and a dome that meets the low faces, where vertices are doubled. VTK gets
-a mesh as it stands, vertices and indices, so that two vertices at one place are two; after the weld it must find open just the sides that
-are open by position, as `--summary` tells them. admesh gets the STL file of `./sirveshan stl --weld`, which has no indices, and must find no
-edge to fix and one part. Of a ball both must find it closed, and its volume that of the ball, but for the grid. It installs nothing and says which package is missing (Debian: admesh, python3-vtk9). Where both are, it ends with the status
-that tools/check-all counts as skipped.
+A ball off the block's outer faces, without and with finer sides, and a dome that meets the low faces, where vertices are doubled, without
+and with finer sides. VTK gets a mesh as it stands, vertices and indices, so that two vertices at one place are two; after the weld it must
+find open just the sides that are open by position, as `--summary` tells them, and more where the mesh crosses a finer face: there the
+vertices of transition cells stay. admesh gets the STL file of `./sirveshan stl --weld`, which has no indices, and must find no edge to fix
+and one part. Of a ball both must find no side open, and its volume that of the ball, but for the grid. It installs nothing and says which
+package is missing (Debian: admesh, python3-vtk9). Where both are missing, it ends with the status that tools/check-all counts as skipped.
 """
 
 import math
@@ -27,6 +28,9 @@ from stl_packages import COMMAND, Admesh, Vtk, ball, said
 N, RADIUS = 16, 3.2
 BALL = 4 / 3 * math.pi * RADIUS ** 3
 GRID = 4 * math.pi * RADIUS ** 2 * 3 * (8 / N) ** 2 / (8 * RADIUS)
+
+# What is read of admesh's statistics; of two columns the first, before its repairs.
+FIGURES = ["Edges fixed", "Number of parts", "Total disconnected facets", "Volume"]
 
 # The sides of a mesh that belong to one triangle alone or to more than two, by index, and its volume.
 LOOK = """
@@ -57,7 +61,16 @@ def dome(x, y, z):
 
 
 def meshes():
-    return {"ball": (ball, 0), "ball among six finer": (ball, 63), "dome": (dome, 0)}
+    """The last crosses a finer face."""
+    return {"ball": (ball, 0), "ball among six finer": (ball, 63), "dome": (dome, 0), "dome among six finer": (dome, 63)}
+
+
+def is_ball(name):
+    return name.startswith("ball")
+
+
+def crosses_finer(name):
+    return name == "dome among six finer"
 
 
 def listing(record, *words):
@@ -76,11 +89,11 @@ def by_vtk(record, *words):
 
 
 def by_admesh(record, folder):
-    """Edges fixed, parts, volume."""
+    """Edges fixed, parts, facets with a side open, volume."""
     path = Path(folder) / "welded.stl"
     subprocess.run([COMMAND, "stl", "-", "-o", path, "--weld", "--force"], input=record, check=True)
     told = said(["admesh", path])
-    return [float(re.search(name + r" *: *([-\d.]+)", told)[1]) for name in ("Edges fixed", "Number of parts", "Volume")]
+    return [float(re.search(name + r" *: *([-\d.]+)", told)[1]) for name in FIGURES]
 
 
 def open_by_position(record):
@@ -91,7 +104,7 @@ def open_by_position(record):
 
 def volume_of(name, volume):
     """What is said of a ball's volume, which must be the ball's."""
-    if not name.startswith("ball"):
+    if not is_ball(name):
         return ""
     if abs(volume - BALL) >= GRID:
         sys.exit("%s: the volume %.3f is not the ball's, %.3f" % (name, volume, BALL))
@@ -103,15 +116,21 @@ def try_vtk(name, record):
     left, after, volume = by_vtk(record, "--weld")
     said_of_volume = volume_of(name, volume)
     print("VTK: %s: %d vertices and %d sides open; welded %d vertices and %d%s" % (name, held, before, left, after, said_of_volume))
-    if after != open_by_position(record):
-        sys.exit("%s: not the sides that are open by position" % name)
+    by_position = open_by_position(record)
+    if after <= by_position if crosses_finer(name) else after != by_position:
+        sys.exit("%s: %d sides are open by position" % (name, by_position))
+    if is_ball(name) and after:
+        sys.exit("%s: it is not closed" % name)
 
 
 def try_admesh(name, record, folder):
-    fixed, parts, volume = by_admesh(record, folder)
-    print("admesh: %s: %d edges fixed, %d part%s" % (name, fixed, parts, volume_of(name, volume)))
+    fixed, parts, disconnected, volume = by_admesh(record, folder)
+    told = name, fixed, parts, disconnected, volume_of(name, volume)
+    print("admesh: %s: %d edges fixed, %d part, %d facets with a side open%s" % told)
     if fixed or parts != 1:
         sys.exit("%s: it is not one part with no edge to fix" % name)
+    if is_ball(name) and disconnected:
+        sys.exit("%s: it is not closed" % name)
 
 
 def main():
