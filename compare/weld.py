@@ -13,7 +13,7 @@ import struct
 import sys
 from collections import Counter
 
-from calling import Program, Progress, seeds
+from calling import Program, Progress, seeds, tally
 import reference
 from damaged import Call
 
@@ -64,7 +64,7 @@ def lists_at_random(chance, held, count):
 
 def lists_of_mesh(chance):
     mesh = reference.mesh_of(Call(chance).block())
-    return ([k for vertex in mesh.vertices for k in vertex], [k for triangle in mesh.triangles for k in triangle], list(mesh.edges))
+    return reference.flat(mesh.vertices), reference.flat(mesh.triangles), list(mesh.edges)
 
 
 def some_lists(seed, chance):
@@ -101,7 +101,7 @@ class Comparison:
     def hold(self, seed, counts, lists):
         found, right = self.ours.weld(counts, lists), wanted(counts, lists)
         if found != right:
-            raise SystemExit("seed %d: ours %s, the reference %s" % (seed, found[0], right[0]))
+            sys.exit("seed %d: ours %s, the reference %s" % (seed, found[0], right[0]))
         return found
 
     def call(self, seed):
@@ -120,7 +120,7 @@ class Comparison:
         """A second pass moves nothing."""
         numbers, after = self.ours.weld(counts, lists)
         if numbers != [0, 0, 0, 0, *counts[:2]] or after != lists:
-            raise SystemExit("seed %d: a second pass moves something" % seed)
+            sys.exit("seed %d: a second pass moves something" % seed)
 
 
 def main(words):
@@ -129,8 +129,8 @@ def main(words):
     for seed in all_seeds:
         comparison.call(seed)
         progress.step()
-    met = ", ".join("%d: %d" % pair for pair in sorted(comparison.met.items()))
-    print("%d calls, no difference; %d vertices were doubled; answers met: %s" % (len(all_seeds), comparison.doubled, met))
+    told = len(all_seeds), comparison.doubled, tally(comparison.met)
+    print("%d calls, no difference; %d vertices were doubled; answers met: %s" % told)
 
 
 if __name__ == "__main__":

@@ -114,11 +114,11 @@ def volume_of(name, volume):
 def try_vtk(name, record):
     held, before, _ = by_vtk(record)
     left, after, volume = by_vtk(record, "--weld")
-    said_of_volume = volume_of(name, volume)
-    print("VTK: %s: %d vertices and %d sides open; welded %d vertices and %d%s" % (name, held, before, left, after, said_of_volume))
     by_position = open_by_position(record)
+    told = name, held, before, left, after, by_position, volume_of(name, volume)
+    print("VTK: %s: %d vertices and %d sides open; welded %d vertices and %d sides open, %d by position%s" % told)
     if after <= by_position if crosses_finer(name) else after != by_position:
-        sys.exit("%s: %d sides are open by position" % (name, by_position))
+        sys.exit("%s: the sides open by index do not fit those by position" % name)
     if is_ball(name) and after:
         sys.exit("%s: it is not closed" % name)
 

@@ -8,24 +8,25 @@ not. Answer, its numbers and all places of the four buffers are compared. A mesh
 reference's, each corner must keep its six numbers, and each crossed grid edge must have one regular vertex.
 """
 
-import random
 import struct
 import sys
 from collections import Counter
 
-from calling import MARK, Program, Progress, seeds
+from calling import MARK, Program, answers, seeds, tally
 import reference
 from damaged import Call
 from weld import Ours as Welder, wanted as welded_by_reference
 
 
 class Ours(Program):
+    """The answer's seven numbers, and the four buffers (store, vertices, triangles, edges)."""
+
     def __init__(self):
         super().__init__("whole_answers")
 
-    def extract(self, head, lengths, centre, neighbours):
-        """The answer's seven numbers, and the four buffers of the lengths given (store, vertices, triangles, edges)."""
-        words = [*head, len(centre), len(neighbours), *lengths, *centre, *neighbours]
+    def answer(self, call):
+        head, lengths = [call.n, call.mask, call.threshold, *call.base, call.size], call.lengths()
+        words = [*head, len(call.centre), len(call.neighbours), *lengths, *call.centre, *call.neighbours]
         answer = self.ask(struct.pack("<%dI" % len(words), *words), 56 + 4 * sum(lengths))
         places = list(struct.unpack("<%dI" % sum(lengths), answer[56:]))
         buffers = []
@@ -48,51 +49,51 @@ class WholeCall(Call):
         else:
             super().damage(chance)
 
-    def answer(self, ours):
-        head = [self.n, self.mask, self.threshold, *self.base, self.size]
-        return ours.extract(head, [self.store, self.vertices, self.triangles, self.edges], self.centre, self.neighbours)
+    def lengths(self):
+        return [self.store, self.vertices, self.triangles, self.edges]
 
     def wanted(self):
-        lengths = self.store, self.vertices, self.triangles, self.edges
-        store, vertices, triangles, edges = ([MARK] * length for length in lengths)
+        store, vertices, triangles, edges = ([MARK] * length for length in self.lengths())
         answer = reference.extract(self.block(), vertices, triangles, store, edges)
         numbers = [*answer, 0, 0, 0] if isinstance(answer, reference.Refusal) else [0, 0, 0, 0, *answer]
         return numbers, [store, vertices, triangles, edges]
+
+
+def a_call(chance):
+    call = WholeCall(chance)
+    for _ in range(chance.choice([0, 0, 1, 1, 2])):
+        call.damage(chance)
+    return call
 
 
 def six_of_corners(vertices, triangles, count):
     return [vertices[6 * corner:6 * corner + 6] for corner in triangles[:3 * count]]
 
 
-class Comparison:
+class Faults:
+    """What is wrong with an answer, or None; and how many vertices of the meshes were doubled."""
+
     def __init__(self):
-        self.ours, self.welder, self.met, self.doubled = Ours(), None, Counter(), 0
+        self.welder, self.doubled = Welder(), 0
 
-    def call(self, seed):
-        chance = random.Random(seed)
-        call = WholeCall(chance)
-        for _ in range(chance.choice([0, 0, 1, 1, 2])):
-            call.damage(chance)
-        (numbers, buffers), right = call.answer(self.ours), call.wanted()
-        self.met[right[0][0]] += 1
-        if (numbers, buffers) != right:
-            sys.exit("seed %d: ours %s, the reference %s" % (seed, numbers, right[0]))
-        if numbers[0] == 0:
-            self.weld(seed, call, reference.Counts(*numbers[4:6]), buffers[1:])
+    def fault(self, call, found):
+        (numbers, buffers), right = found, call.wanted()
+        if found != right:
+            return "ours %s, the reference %s" % (numbers, right[0])
+        return None if numbers[0] else self.weld_fault(call, reference.Counts(*numbers[4:6]), buffers[1:])
 
-    def weld(self, seed, call, counts, lists):
-        # Not before the other program has answered: two that start at once would both look whether the library is to be built.
-        self.welder = self.welder or Welder()
+    def weld_fault(self, call, counts, lists):
         numbers, after = self.welder.weld(counts, lists)
         if (numbers, after) != welded_by_reference(counts, lists):
-            sys.exit("seed %d: the weld differs" % seed)
+            return "the weld differs"
         left, (vertices, triangles, edges) = numbers[4], after
         if six_of_corners(vertices, triangles, counts.triangles) != six_of_corners(*lists[:2], counts.triangles):
-            sys.exit("seed %d: a corner has other numbers" % seed)
+            return "a corner has other numbers"
         regular = [edge for edge in edges[:left] if edge != reference.NO_EDGE]
         if sorted(regular) != crossed_edges(call.block()):
-            sys.exit("seed %d: a crossed edge has no vertex, or several" % seed)
+            return "a crossed edge has no vertex, or several"
         self.doubled += counts.vertices - left
+        return None
 
 
 def crossed_edges(block):
@@ -110,13 +111,9 @@ def crossed_edges(block):
 
 
 def main(words):
-    all_seeds = seeds(words, __doc__)
-    comparison, progress = Comparison(), Progress(len(all_seeds))
-    for seed in all_seeds:
-        comparison.call(seed)
-        progress.step()
-    met = ", ".join("%d: %d" % pair for pair in sorted(comparison.met.items()))
-    print("%d calls, no difference; %d vertices were doubled; answers met: %s" % (len(all_seeds), comparison.doubled, met))
+    all_seeds, faults = seeds(words, __doc__), Faults()
+    met = Counter(numbers[0] for numbers, _ in answers(all_seeds, a_call, Ours(), faults.fault))
+    print("%d calls, no difference; %d vertices were doubled; answers met: %s" % (len(all_seeds), faults.doubled, tally(met)))
 
 
 if __name__ == "__main__":

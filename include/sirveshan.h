@@ -207,7 +207,7 @@ extern "C" {
 #define SIRVESHAN_MOST_READS(n, mask)                                                                                            \
     ((size_t)(n) * (size_t)(n) * (8 * (size_t)(n) + 9 * SIRVESHAN_SIDES(mask)) + 14 * SIRVESHAN_MOST_VERTICES(n, mask))
 
-/* What stands for the grid edge of a vertex that has none. */
+/* What stands in the place of an edge's number for the vertex of a transition cell, which is given none. */
 #define SIRVESHAN_NO_EDGE UINT32_C(4294967295)
 
 /* A block, which of its neighbours are finer, and where inside begins. */
@@ -256,8 +256,10 @@ sirveshan_extracted sirveshan_extract(sirveshan_header header, const float *cent
 
 /*
  * The same, and the number of each vertex's grid edge in edges: on a mesh its first places, one for each vertex, are written, and
- * all beyond stays as it was. All else is answered and left as by sirveshan_extract. Judged are 1 to 9, then 23 where edges has
- * fewer places than the mesh has vertices, then 10.
+ * all beyond stays as it was. On a mesh all else is answered and left as by sirveshan_extract. Judged are 1 to 9, then 23 where
+ * edges has fewer places than the mesh has vertices, then 10. On a refusal both counts and the reads are 0 and no lent place is
+ * altered. To have room that just fits: with all three lengths 0, 23 tells the vertices; then, with edges that long, 10 tells both
+ * counts (and a mesh with no vertex is accepted at once).
  */
 sirveshan_extracted sirveshan_extract_whole(sirveshan_header header, const float *centre, size_t centre_length,
                                             const float *neighbours, size_t neighbours_length, uint32_t *store,
@@ -275,9 +277,11 @@ sirveshan_extracted sirveshan_extract_whole(sirveshan_header header, const float
  * count. Judged are 14 (vertices, then triangles: the places wanted), 23 (edges) and 17, in that order. On a refusal both counts
  * are 0 and no lent place is altered.
  *
- * The counts are of 32 bits: lists of more than 4,294,967,295 vertices or triangles cannot be welded. The time is close to linear
- * for lists whose numbers are below 1,048,576 and whose equal numbers lie close together, as extraction's; otherwise it may grow
- * with the square of the count, or faster.
+ * The counts are of 32 bits: lists of more than 4,294,967,295 vertices or triangles cannot be welded.
+ *
+ * The time is measured, not proved. Up to 65,536 vertices it is close to linear for lists whose numbers are below 1,048,576 and
+ * whose equal numbers lie close together, as extraction's; above, the triangles are gone over once for each 65,536 vertices. For
+ * other lists up to about half the square of the vertices' count of numbers are compared.
  */
 typedef struct sirveshan_welded {
     sirveshan_refusal refused;

@@ -5,7 +5,7 @@
 
 enum { VERTICES = 6, TRIANGLES = 3, ROOM = 60 };
 
-/* The lists, each with room behind what is told of them. Vertices 0, 2 and 5 stand on edge 7; 1 and 4 have none. */
+/* The lists, each with room behind what is told of them. Vertices 0, 2 and 5 stand on edge 7; 1 and 4 are marked. */
 static const uint32_t edges[VERTICES] = {7, SIRVESHAN_NO_EDGE, 7, 9, SIRVESHAN_NO_EDGE, 7};
 static const uint32_t corners[3 * TRIANGLES] = {0, 1, 2, 3, 4, 5, 5, 1, 4};
 

@@ -111,7 +111,7 @@ static void refused(void)
     expect_refused("10 after 23", store, 6 * VERTICES - 1, VERTICES, 10, VERTICES, TRIANGLES);
 }
 
-/* The vertices of transition cells come last and have no grid edge. */
+/* The vertices of transition cells come last and are marked. */
 static void marks(void)
 {
     enum { MOST = SIRVESHAN_MOST_VERTICES(N, SIRVESHAN_LOW_X), PLACES = 3 * SIRVESHAN_MOST_TRIANGLES(N, SIRVESHAN_LOW_X) };

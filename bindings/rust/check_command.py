@@ -176,7 +176,8 @@ def check_bad_usage():
     record = EXAMPLES / "case-a.record"
     for words in ([], ["draw", record], ["--mesh"], ["mesh"], ["mesh", record, record], ["mesh", record, "--plain"],
                   ["mesh", record, "--jobs"], ["mesh", record, "--jobs", "0"], ["mesh", record, "--jobs", "many"],
-                  ["mesh", record, "--jobs=257"], ["mesh", record, "--weld=2"], ["info", record, "--weld"], ["info"], ["info", record, "--jobs", 2], ["sample", record],
+                  ["mesh", record, "--jobs=257"], ["info"], ["info", record, "--jobs", 2], ["sample", record],
+                  ["mesh", record, "--weld=2"], ["info", record, "--weld"],
                   ["sheet"], ["sheet", record, record], ["sheet", record, "--plain"], ["sheet", record, "--jobs", "0"],
                   ["sample", record, 0, 0], ["sample", record, 0, 0, "up"], ["sample", record, 0, 0, 2 ** 31],
                   ["sample", record, 0, 0, 0, 0]):

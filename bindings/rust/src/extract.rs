@@ -51,7 +51,8 @@ pub fn extract(
 /// The same, and the number of each vertex's grid edge in the first places of a further list, which
 /// [`weld`](crate::weld()) takes: 3 times the [`sample_place`](crate::sample_place) of the edge's
 /// lower end, plus 0, 1, 2 for x, y, z; [`NO_EDGE`](crate::NO_EDGE) for the vertex of a transition
-/// cell. Refusal 23 where the list has fewer places than the mesh has vertices.
+/// cell. Refusal 23, after 9 and before 10, where the list has fewer places than the mesh has
+/// vertices: it tells how many those are.
 pub fn extract_whole(
     header: &Header,
     centre: &[f32],

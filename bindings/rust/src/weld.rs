@@ -13,6 +13,10 @@ pub const NO_EDGE: u32 = u32::MAX;
 /// So many vertices, of six f32, and triangles, of three indices, are looked at. All beyond the new
 /// counts stays; a refusal alters nothing. It reads no sample, so `reads` is 0.
 ///
+/// Refusals 14 (vertices, then triangles), 23 and 17, in that order. Up to 65,536 vertices the time
+/// is close to linear for extraction's lists; above, the triangles are gone over once for each
+/// 65,536. For lists that are not extraction's it may grow with the square of the vertices' count.
+///
 /// ```
 /// use sirveshan::{weld, NO_EDGE};
 ///

@@ -63,10 +63,13 @@ module _ (held : ℕ) (triangles : List ℕ) where
   corner-named e t (suc (suc (suc corner))) h small = absurd (omega arith)
 
   -- by places
-  pub place-named : judgeNamed held triangles ≡ Passed → (p : ℕ) → p < 3 * count → getD triangles p 0 < held
-  place-named e p h =
+  pub by-place : ((t corner : ℕ) → t < count → corner < 3 → cornerOf triangles t corner < held) → (p : ℕ) → p < 3 * count → getD triangles p 0 < held
+  by-place named p h =
       let q : 3 * (p / 3) + p % 3 ≡ p = omega arith in
-      subst (λ (k : ℕ). getD triangles k 0 < held) q (corner-named e (p / 3) (p % 3) (omega arith) (omega arith))
+      subst (λ (k : ℕ). getD triangles k 0 < held) q (named (p / 3) (p % 3) (omega arith) (omega arith))
+
+  pub place-named : judgeNamed held triangles ≡ Passed → (p : ℕ) → p < 3 * count → getD triangles p 0 < held
+  place-named e = by-place (corner-named e)
 
   pub places-named : ((p : ℕ) → p < 3 * count → getD triangles p 0 < held) → judgeNamed held triangles ≡ Passed
   places-named h = all-named (all-below (λ k. ltb (getD triangles k 0) held) (3 * count) (λ p l. lt-ltb _ held (h p l)))

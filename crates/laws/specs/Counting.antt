@@ -1,12 +1,11 @@
 -- Counting: the numbers below a bound that pass a test, the weighed of a weight over a list, and lists that hold the same items in another order.
 -- Assumes nothing.
-use mathlib.Core.Path.{_≡_, refl, sym, subst}
-use mathlib.Core.Logic.{_⊎_, inl, inr}
+use mathlib.Core.Path.{_≡_, refl, sym, ap, subst}
+use mathlib.Core.Logic.{_⊎_, inl, inr, ⊎-elim}
 use mathlib.Core.Bool.{Bool, true, false, cond}
 use mathlib.Core.List.{List, [], _∷_, _++_}
-use Prim.Native.Nat.{ℕ, zero, suc, _+_, _≤_, _<_}
-use native.Mathlib.Nat.{not-suc-le-zero, le-refl, le-step}
-use native.Mathlib.Decide.{decLt}
+use Prim.Native.Nat.{ℕ, zero, suc, _+_, _≤_, _<_, zero-le}
+use native.Mathlib.Nat.{not-suc-le-zero, le-refl, le-step, le-of-suc-le-suc, eq-or-lt-of-le}
 use native.Mathlib.Omega.{arith}
 use borrow.Author.Tests.{eqb-true}
 use lib.Dec.{T, eqb}
@@ -44,36 +43,52 @@ howMany P zero = 0
 howMany P (suc n) = howMany P n + one (P n)
 
 module _ (P : ℕ → Bool) where
-  last-or-before : (n i : ℕ) → Dec (i < n) → i < suc n → T (P i) → (i < n → 1 ≤ howMany P n) → 1 ≤ howMany P n + one (P n)
-  last-or-before n i (yes l) h t before = omega (arith, before l)
-  last-or-before n i (no l) h t before =
-      let e : i ≡ n = omega arith in
-      omega (arith, one-of (P n) (subst (λ (m : ℕ). T (P m)) e t))
+  pub few : (n : ℕ) → howMany P n ≤ n
+  few zero = zero-le
+  few (suc n) = omega (arith, few n, one-small (P n))
+
+  pub upto : (n k : ℕ) → n ≤ k → howMany P n ≤ howMany P k
+  upto n zero l = let e : n ≡ 0 = omega arith in rw e (le-refl _)
+  upto n (suc k) l = ⊎-elim (λ e. rw e (le-refl _)) (λ m. omega (arith, upto n k (le-of-suc-le-suc m))) (eq-or-lt-of-le l)
+
+  -- one that passes is counted below a higher bound
+  one-more : (n k : ℕ) → k < n → one (P k) ≡ 1 → howMany P k < howMany P n
+  one-more zero k l t = absurd (not-suc-le-zero l)
+  one-more (suc n) k l t =
+      ⊎-elim (λ e. omega (arith, subst (λ (m : ℕ). one (P m) ≡ 1) e t, ap (howMany P) e))
+      (λ m. omega (arith, one-more n k m t)) (eq-or-lt-of-le (le-of-suc-le-suc l))
+
+  pub counted : (n k : ℕ) → k < n → P k ≡ true → howMany P k < howMany P n
+  counted n k l t = one-more n k l (ap one t)
 
   pub some : (n i : ℕ) → i < n → T (P i) → 1 ≤ howMany P n
-  some zero i h t = absurd (not-suc-le-zero h)
-  some (suc n) i h t = last-or-before n i (decLt i n) h t (λ l. some n i l t)
-
-  pub which : (n : ℕ) → 1 ≤ howMany P n → (i : ℕ) × (i < n) × T (P i)
-  which zero h = absurd (not-suc-le-zero h)
-  which (suc n) h = go (P n) (λ t. t) (which n) h
-    where
-      go : (b : Bool) → (T b → T (P n)) → (1 ≤ howMany P n → (i : ℕ) × (i < n) × T (P i)) → 1 ≤ howMany P n + one b
-          → (i : ℕ) × (i < suc n) × T (P i)
-      go true here before h = (n, le-refl _, here tt)
-      go false here before h =
-          let w = before (omega arith) in
-          (w .0, le-step (w .1), w .2)
+  some n i h t = omega (arith, one-more n i h (one-of (P i) t))
 
   pub two : (n i j : ℕ) → i < j → j < n → T (P i) → T (P j) → 2 ≤ howMany P n
-  two zero i j l h ti tj = absurd (not-suc-le-zero h)
-  two (suc n) i j l h ti tj = go (decLt j n) (λ k. two n i j l k ti tj)
+  two n i j l h ti tj = omega (arith, one-more j i l (one-of (P i) ti), one-more n j h (one-of (P j) tj))
+
+  -- the one that has so many before it
+  pub record Which (n j : ℕ) : Type 0 where
+    pub one-is : ℕ
+    pub below : one-is < n
+    pub passes : P one-is ≡ true
+    pub before : howMany P one-is ≡ j
+
+  pub which-one : (n j : ℕ) → j < howMany P n → Which n j
+  which-one zero j l = absurd (not-suc-le-zero l)
+  which-one (suc n) j l = go (P n) refl l (which-one n j)
     where
-      go : Dec (j < n) → (j < n → 2 ≤ howMany P n) → 2 ≤ howMany P n + one (P n)
-      go (yes k) before = omega (arith, before k)
-      go (no k) before =
-          let e : j ≡ n = omega arith in
-          omega (arith, one-of (P n) (subst (λ (m : ℕ). T (P m)) e tj), some n i (omega arith) ti)
+      earlier : Which n j → Which (suc n) j
+      earlier w = record { one-is = w .one-is; below = le-step (w .below); passes = w .passes; before = w .before }
+
+      go : (b : Bool) → P n ≡ b → j < howMany P n + one b → (j < howMany P n → Which n j) → Which (suc n) j
+      go true e l among =
+          let within : j ≤ howMany P n = omega arith in
+          ⊎-elim (λ last. record { one-is = n; below = le-refl _; passes = e; before = sym last }) (λ m. earlier (among m)) (eq-or-lt-of-le within)
+      go false e l among = earlier (among (omega arith))
+
+  pub which : (n : ℕ) → 1 ≤ howMany P n → (i : ℕ) × (i < n) × T (P i)
+  which n h = let w = which-one n 0 h in (w .one-is, w .below, subst T (sym (w .passes)) tt)
 
 -- ---- items of a list
 

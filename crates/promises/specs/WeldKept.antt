@@ -9,6 +9,7 @@ use lib.Ieee.{Float, nan}
 use lib.ListN.{length, getD, take}
 use Rattle.laws.specs.Lists.{length-listed}
 use Rattle.laws.specs.Gathered.{listed-same-below}
+use Rattle.laws.specs.Counting.{upto, counted, which-one}
 use Rattle.model.specs.declared.Counts.{Counts}
 use Rattle.model.specs.declared.Refusal.{Refusal}
 use Rattle.model.specs.declared.Refusal.the-variants.{NoVertex, EdgesTooShort}
@@ -25,7 +26,7 @@ use Rattle.closed.specs.Marks.{number-low}
 use Rattle.closed.specs.Renamed.{no-hole-renamed}
 use Rattle.weld.specs.declared.Welded.the-variants as Welded
 use Rattle.weld.specs.Definition.{kept, keptBefore, newIndex, judgeWeld, Outcome, weldAnswer, weld}
-use Rattle.weld.specs.Kept.{upto, counted, which-one, kept-mark, keeper-keeps, kept-index, kept-is}
+use Rattle.weld.specs.Kept.{kept-mark, keeper-keeps, kept-index, kept-is}
 use Rattle.weld.specs.Closing.{edges-long, edge-beyond, vertices-long, vertex-beyond}
 use Rattle.weld.specs.Welded as Laws
 use Rattle.weld.specs.Welded.{Whole, corner-below, corner-is, corners-long, corner-beyond, same-number, kept-numbers, once, welds, again}

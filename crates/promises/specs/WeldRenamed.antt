@@ -8,6 +8,7 @@ use mathlib.Core.List.{List}
 use lib.Ieee.{Float, nan}
 use lib.ListN.{length, getD, take, length-take}
 use Rattle.laws.specs.Lists.{length-listed, getD-listed}
+use Rattle.laws.specs.Counting.{Which, which-one}
 use Rattle.model.specs.declared.Counts.{Counts}
 use Rattle.model.specs.declared.Triangle.{Triangle}
 use Rattle.model.specs.declared.Verdict.the-variants.{Passed}
@@ -23,7 +24,7 @@ use Rattle.closed.specs.Marks.{made-regular}
 use Rattle.closed.specs.Renamed.{renamed, Renamed}
 use Rattle.stl.specs.Definition.{vertexCount}
 use Rattle.weld.specs.Definition.{kept, keptBefore, keeper, newIndex, weldAnswer, weld}
-use Rattle.weld.specs.Kept.{Which, which-one, kept-mark, keeper-keeps, new-below, new-first, kept-index}
+use Rattle.weld.specs.Kept.{kept-mark, keeper-keeps, new-below, new-first, kept-index}
 use Rattle.weld.specs.Welded.{Whole, passes, corner-below, corner-is, same-number, kept-numbers}
 use Rattle.promises.specs.Left.{Lent, answered, left, numberIn, vertexIn, triangleIn, meshIn}
 use Rattle.promises.specs.Extracted.{equal-mesh, vertices-left, triangles-left, no-hole-is-left}

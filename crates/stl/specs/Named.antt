@@ -1,16 +1,14 @@
 -- Document 02, [1]: what passes 17 names a vertex with each corner, said of each triangle's three places, as the writer asks for it.
-use Prim.Native.Nat.{ℕ, _+_, _*_, _<_, zero-le}
+use Prim.Native.Nat.{ℕ, zero, suc, _+_, _*_, _<_}
 use native.Mathlib.Nat.{add-zero}
 use native.Mathlib.Omega.{arith}
-use mathlib.Core.Path.{_≡_, refl}
+use mathlib.Core.Path.{_≡_}
 use mathlib.Core.List.{List}
-use borrow.Author.Tests.{lt-ltb}
 use lib.Ieee.{Float}
 use lib.ListN.{getD}
 use Rattle.model.specs.declared.Verdict.the-variants.{Passed}
 use Rattle.model.specs.Corners.{triangleCount, cornerOf, judgeNamed}
-use Rattle.judge.specs.First.{passed-over}
-use Rattle.judge.specs.Corners.{namedSpot, corner-named}
+use Rattle.judge.specs.Corners.{corner-named, by-place, places-named}
 use Rattle.stl.specs.Definition.{vertexCount}
 
 -- each corner of a triangle names a vertex
@@ -35,10 +33,10 @@ module _ (vertices : List Float) (triangles : List ℕ) where
       }
 
   pub all-name-passes : AllName vertices triangles → judgeNamed held triangles ≡ Passed
-  unfolding judgeNamed
-  all-name-passes name =
-      passed-over (namedSpot held triangles) 0 (triangleCount triangles) refl
-      (λ t from l.
-      let n = name t l in
-      rw (add-zero, lt-ltb (getD triangles (3 * t) 0) held (n .one), lt-ltb (cornerOf triangles t 1) held (n .two), lt-ltb (cornerOf triangles t 2) held (n .three)))
-      zero-le
+  all-name-passes name = places-named held triangles (by-place held triangles corner)
+    where
+      corner : (t corner : ℕ) → t < triangleCount triangles → corner < 3 → cornerOf triangles t corner < held
+      corner t zero l small = rw add-zero (name t l .one)
+      corner t (suc zero) l small = name t l .two
+      corner t (suc (suc zero)) l small = name t l .three
+      corner t (suc (suc (suc c))) l small = absurd (omega arith)

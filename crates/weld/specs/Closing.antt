@@ -14,11 +14,12 @@ use lib.ListN.{length, getD, set}
 use lib.Seq.{sets, getD-set-same, getD-set-other}
 use Rattle.laws.specs.Steps.{laid}
 use Rattle.laws.specs.Lists.{length-laid, getD-listed, listed-same}
+use Rattle.laws.specs.Counting.{few, counted, which-one}
 use Rattle.laws.specs.LaidBuffers.{laid-beyond, laid-first, laid-more}
 use Rattle.model.specs.Mesh.{noEdge}
 use Rattle.weld.specs.Definition.{numberOf, kept, keptBefore, newIndex, closedUp, edgeOf, vertexOf, edgesAt, verticesAt}
 use Rattle.weld.specs.Leaves.{Noted, Placed, Closed, WeldedTo, Tabled, Window}
-use Rattle.weld.specs.Kept.{few, counted, which-one, kept-mark, kept-index, kept-for, kept-anew, length-closed, closed-at}
+use Rattle.weld.specs.Kept.{kept-mark, kept-index, kept-for, kept-anew, length-closed, closed-at}
 
 -- ---- place by place
 

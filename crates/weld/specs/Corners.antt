@@ -62,5 +62,5 @@ module _ (start end : ℕ) (vertices₀ : List Float) (triangles₀ edges₀ : L
       }
 
 -- corners that are all below m
-pub all-below : (edges : List ℕ) (m : ℕ) (l : List ℕ) → ((p : ℕ) → p < length l → getD l p 0 < m) → map (upTo edges m) l ≡ map (newIndex edges) l
-all-below edges m l h = map-agree (upTo edges m) (newIndex edges) l (λ p below. rw (lt-ltb (getD l p 0) m (h p below)))
+pub all-renumbered : (edges : List ℕ) (m : ℕ) (l : List ℕ) → ((p : ℕ) → p < length l → getD l p 0 < m) → map (upTo edges m) l ≡ map (newIndex edges) l
+all-renumbered edges m l h = map-agree (upTo edges m) (newIndex edges) l (λ p below. rw (lt-ltb (getD l p 0) m (h p below)))

@@ -1,5 +1,5 @@
 -- Document 02, [10]: laws of what is kept, of the vertex that is kept for each, and of what the kept have, end to end. Assumes nothing.
-use Prim.Native.Nat.{ℕ, zero, suc, _+_, _*_, _≤_, _<_, zero-le}
+use Prim.Native.Nat.{ℕ, zero, suc, _+_, _*_, _≤_, _<_}
 use native.Mathlib.Nat.{add-zero, mul-zero, mul-one, mul-add, mul-suc, mul-le-mul-left, le-refl, le-step, not-suc-le-zero, le-of-suc-le-suc, eq-or-lt-of-le}
 use native.Mathlib.Omega.{arith}
 use mathlib.Core.Path.{_≡_, refl, sym, ap, _∙_, subst}
@@ -10,50 +10,12 @@ use borrow.Author.Tests.{eq-eqb, ne-eqb, eqb-true, eqb-false, not-true}
 use lib.Dec.{eqb}
 use lib.ListN.{length, getD, length-append, List·getD-append}
 use lib.Seq.{getD-append-add}
-use Rattle.laws.specs.Counting.{one, one-small, howMany}
+use Rattle.laws.specs.Counting.{one, few, counted}
 use Rattle.model.specs.Mesh.{noEdge}
 use Rattle.weld.specs.Definition.{numberOf, met, kept, keptBefore, firstWith, keeper, newIndex, closedUp}
 
 clash : true ≡ false → ⊥
 clash p = let z : _≡_ {A = ℕ} 0 1 = cc in omega arith
-
--- ---- how many numbers below a bound pass a test
-
-module _ (P : ℕ → Bool) where
-  pub few : (n : ℕ) → howMany P n ≤ n
-  few zero = zero-le
-  few (suc n) = omega (arith, few n, one-small (P n))
-
-  pub upto : (n k : ℕ) → n ≤ k → howMany P n ≤ howMany P k
-  upto n zero l = let e : n ≡ 0 = omega arith in rw e (le-refl _)
-  upto n (suc k) l = ⊎-elim (λ e. rw e (le-refl _)) (λ m. omega (arith, upto n k (le-of-suc-le-suc m))) (eq-or-lt-of-le l)
-
-  -- one that passes is counted below a higher bound
-  pub counted : (n k : ℕ) → k < n → P k ≡ true → howMany P k < howMany P n
-  counted zero k l t = absurd (not-suc-le-zero l)
-  counted (suc n) k l t =
-      ⊎-elim (λ e. let here : one (P n) ≡ 1 = ap one (subst (λ (m : ℕ). P m ≡ true) e t) in omega (arith, ap (howMany P) e))
-      (λ m. omega (arith, counted n k m t)) (eq-or-lt-of-le (le-of-suc-le-suc l))
-
-  -- the one that has so many before it
-  pub record Which (n j : ℕ) : Type 0 where
-    pub one-is : ℕ
-    pub below : one-is < n
-    pub passes : P one-is ≡ true
-    pub before : howMany P one-is ≡ j
-
-  pub which-one : (n j : ℕ) → j < howMany P n → Which n j
-  which-one zero j l = absurd (not-suc-le-zero l)
-  which-one (suc n) j l = go (P n) refl l (which-one n j)
-    where
-      earlier : Which n j → Which (suc n) j
-      earlier w = record { one-is = w .one-is; below = le-step (w .below); passes = w .passes; before = w .before }
-
-      go : (b : Bool) → P n ≡ b → j < howMany P n + one b → (j < howMany P n → Which n j) → Which (suc n) j
-      go true e l among =
-          let within : j ≤ howMany P n = omega arith in
-          ⊎-elim (λ last. record { one-is = n; below = le-refl _; passes = e; before = sym last }) (λ m. earlier (among m)) (eq-or-lt-of-le within)
-      go false e l among = earlier (among (omega arith))
 
 -- ---- the first vertex with a number
 

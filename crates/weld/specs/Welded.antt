@@ -12,7 +12,7 @@ use lib.Ieee.{Float, nan}
 use lib.ListN.{length, getD, take, drop, length-map, List·getD-map}
 use lib.Seq.{length-take-le, getD-take, drop-cons}
 use Rattle.laws.specs.Steps.{laid}
-use Rattle.laws.specs.Counting.{gather}
+use Rattle.laws.specs.Counting.{gather, few, which-one}
 use Rattle.laws.specs.Gathered.{gather-pieces}
 use Rattle.laws.specs.LaidBuffers.{laid-beyond, laid-first, laid-same, listed-part}
 use Rattle.laws.specs.Lists.{length-laid}
@@ -30,9 +30,9 @@ use Rattle.weld.specs.declared.Welded.{Welded}
 use Rattle.weld.specs.declared.Welded.the-variants as Welded
 use Rattle.weld.specs.Definition.{numberOf, kept, keptBefore, keeper, newIndex, closedUp, edgeOf, vertexOf, edgesAt, verticesAt, renumbered, judgeWeld, weldAnswer, weld}
 use Rattle.weld.specs.Leaves.{AllWelded}
-use Rattle.weld.specs.Kept.{few, which-one, kept-mark, kept-apart, keeper-keeps, new-below, new-first, kept-index, kept-anew}
+use Rattle.weld.specs.Kept.{kept-mark, kept-apart, keeper-keeps, new-below, new-first, kept-index, kept-anew}
 use Rattle.weld.specs.Closing.{edges-long, edge-kept, vertices-long, vertex-kept}
-use Rattle.weld.specs.Corners.{map-leaves, all-below}
+use Rattle.weld.specs.Corners.{map-leaves, all-renumbered}
 
 -- ---- the judges have passed
 
@@ -101,7 +101,7 @@ module _ (v t : ℕ) (vertices : List Float) (triangles edges : List ℕ) (w : W
   unfolding weld weldAnswer renumbered
   all-passed k vertices′ triangles′ edges′ a =
       let corners : triangles′ ≡ map (newIndex edges) front =
-      a .triangles-are ∙ all-below edges v front (λ p l. rw (getD-take (3 * t) triangles p 0 (omega (arith, front-long))) (corner-below p (omega (arith, front-long)))) in
+      a .triangles-are ∙ all-renumbered edges v front (λ p l. rw (getD-take (3 * t) triangles p 0 (omega (arith, front-long))) (corner-below p (omega (arith, front-long)))) in
       rw (passes v t vertices triangles edges w, mapped-long, corners, a .lists .count-is, a .lists .vertices-are, a .lists .edges-are)
 
 -- ---- the new lists, vertex by vertex

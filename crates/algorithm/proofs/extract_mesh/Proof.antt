@@ -128,33 +128,44 @@ exact c =
 store-long : (c : tie.After-store-length) → c .store-length .result ≤ length (start (counting (c .before)) .args .store .now)
 store-long c = omega (arith, c .store-length .ensures, start (counting (c .before)) .pre .1)
 
+-- where it is measured, and where all has passed, from where it is told how many numbers are asked for
+abbrev measured : tie.After-numbers-asked → tie.After-store-length
+measured c = c .before .before .before
+
+abbrev past : tie.After-numbers-asked → tie.After-enum-told2
+past c = measured c .before
+
 slice-relend-prefix-write-mesh : tie.Need-slice-relend-prefix-write-mesh
-slice-relend-prefix-write-mesh c = store-long (c .before .before .before)
+slice-relend-prefix-write-mesh c = store-long (measured c)
 
 slice-aggregate-write-mesh : tie.Need-slice-aggregate-write-mesh
-slice-aggregate-write-mesh c = sym (length-take-le _ _ (store-long (c .before .before .before .before)))
+slice-aggregate-write-mesh c = sym (length-take-le _ _ (store-long (measured (c .before))))
 
 slice-relend-prefix-write-mesh-2 : tie.Need-slice-relend-prefix-write-mesh-2
-slice-relend-prefix-write-mesh-2 c = room (c .before .before .before .before .before) .0
+slice-relend-prefix-write-mesh-2 c = room (past (c .before)) .0
 
 slice-aggregate-write-mesh-2 : tie.Need-slice-aggregate-write-mesh-2
-slice-aggregate-write-mesh-2 c = sym (length-take-le _ _ (room (c .before .before .before .before .before .before) .0))
+slice-aggregate-write-mesh-2 c = sym (length-take-le _ _ (room (past (c .before .before)) .0))
 
 slice-relend-prefix-write-mesh-3 : tie.Need-slice-relend-prefix-write-mesh-3
-slice-relend-prefix-write-mesh-3 c = room (c .before .before .before .before .before .before) .1
+slice-relend-prefix-write-mesh-3 c = room (past (c .before .before)) .1
 
 slice-aggregate-write-mesh-3 : tie.Need-slice-aggregate-write-mesh-3
-slice-aggregate-write-mesh-3 c = sym (length-take-le _ _ (room (c .before .before .before .before .before .before .before) .1))
+slice-aggregate-write-mesh-3 c = sym (length-take-le _ _ (room (past (c .before .before .before)) .1))
+
+-- the numbers' part
+numbers-long : (c : tie.After-numbers-asked) → c .numbers-asked .result ≤ length (start (counting (past c)) .args .edges .now)
+numbers-long c = omega (arith, c .numbers-asked .ensures, long (past c))
 
 slice-relend-prefix-write-mesh-4 : tie.Need-slice-relend-prefix-write-mesh-4
-slice-relend-prefix-write-mesh-4 c = omega (arith, c .before .before .before .numbers-asked .ensures, long (c .before .before .before .before .before .before .before))
+slice-relend-prefix-write-mesh-4 c = numbers-long (c .before .before .before)
 
 slice-aggregate-write-mesh-4 : tie.Need-slice-aggregate-write-mesh-4
-slice-aggregate-write-mesh-4 c = sym (length-take-le _ _ (omega (arith, c .before .before .before .before .numbers-asked .ensures, long (c .before .before .before .before .before .before .before .before))))
+slice-aggregate-write-mesh-4 c = sym (length-take-le _ _ (numbers-long (c .before .before .before .before)))
 
 write-mesh-requires : tie.Need-write-mesh-requires
 write-mesh-requires c κs =
-    let place = c .before .before .before .before .before .before .before in
+    let place = measured (c .before .before .before .before) in
     (start (counting (place .before)) .pre .0, exact place)
 
 same-length : tie.Need-same-length
@@ -173,7 +184,7 @@ returns-3 : tie.Need-returns-3
 returns-3 c =
     let written = c .before .before .before .before .before .before .before .before in
     let asked = written .before .before .before .before .before in
-    let place = asked .before .before .before in
+    let place = measured asked in
     let told = place .before in
     let b = start (counting told) in
     let a = b .args in
@@ -190,7 +201,7 @@ returns-3 c =
     (record { vertices-same = w .kept .1 .1 .1 .1 .0; triangles-same = w .kept .1 .1 .1 .1 .1 .0; store-same = w .kept .1 .1 .1 .0; edges-same = refl })
     (exact place))
     (w .ensures .0) (w .ensures .1 .0)
-    (w .kept .1 .1 .1 .1 .1 .1 .0 ∙ length-take-le _ _ (omega (arith, count-is, long told)) ∙ count-is)
+    (w .kept .1 .1 .1 .1 .1 .1 .0 ∙ length-take-le _ _ (numbers-long asked) ∙ count-is)
     (w .ensures .1 .1))
 
 pub extract-mesh-spec : {M : Type 1} → statement M
