@@ -392,7 +392,7 @@ def check_summary_of_open_meshes():
 def check_summary_of_nothing():
     record = reference.record_of(noise(random.Random(6), 3, 0, pick=(1.0,)))
     lines = summary_lines(record)
-    same("lines", lines, {"vertices": "0", "triangles": "0", "box": "none", "area": "0", "volume": "none: there is no surface", "reads": str(8 * 3 ** 3)})
+    same("lines", lines, {"vertices": "0", "triangles": "0", "doubled": "0", "box": "none", "area": "0", "volume": "none: there is no surface", "reads": str(8 * 3 ** 3)})
 
 
 def check_summaries_of_a_run():
@@ -418,7 +418,7 @@ def check_welded():
         plain, mesh = reference.accepted_mesh(record), reference.welded(reference.accepted_mesh(record))
         accepted(run("mesh", "-", "--weld", given=record), reference.welded_text(record))
         lines, wanted = summary_lines(record, "--weld"), summary_lines(record)
-        same("doubled", int(lines.pop("doubled")), len(plain.vertices) - len(mesh.vertices))
+        same("doubled", int(lines["doubled"]), len(plain.vertices) - len(mesh.vertices))
         same("vertices", (int(lines.pop("vertices")), int(wanted.pop("vertices"))), (len(mesh.vertices), len(plain.vertices)))
         same("all else", lines, wanted)
         doubled += len(plain.vertices) - len(mesh.vertices)

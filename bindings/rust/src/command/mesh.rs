@@ -25,9 +25,9 @@ summary of a run begins with a line `record K`.
     --weld      of the regular vertices made on one grid edge keep only the first; the surface is the
                 same. The vertices of transition cells stay, also on an edge that has a regular one:
                 by index the mesh stays open along a finer face
-    --summary   counts, bounding box, surface area and, of a closed mesh, the enclosed volume; last the
-                sample reads that it took once every check had passed. With --weld also how many
-                vertices were doubled
+    --summary   counts, how many vertices are doubled (with --weld: were, and are taken out), bounding
+                box, surface area and, of a closed mesh, the enclosed volume; last the sample reads
+                that it took once every check had passed
     --jobs N    mesh the records of a run on N threads (1 to 256)
 ",
     run,
@@ -45,7 +45,7 @@ fn run(mut arguments: Arguments) -> Result<(), Failure> {
     let [path] = arguments.by_place(["RECORD"])?;
     let mut answers = Answers { numbered: summary, progress: Progress::new(), refused: false };
     let pieces = Run::open(&path)?;
-    in_order(jobs, pieces, || worker(weld, text), |answer| answers.put(answer))?;
+    in_order(jobs, pieces, || worker(weld || summary, text), |answer| answers.put(answer))?;
     answers.progress.erase();
     if answers.refused {
         return Err(Failure::SomeRefused);

@@ -3,29 +3,25 @@
 use crate::figures::{bounding_box, enclosed_volume, open_sides, surface_area, Bounds};
 use sirveshan::Mesh;
 
+/// Of a welded mesh, with its vertices counted as they were before the weld.
 pub fn summary(mesh: &Mesh) -> Vec<u8> {
-    let mut text = counts(mesh);
-    text += &figures(mesh);
-    text.into_bytes()
+    lines(mesh, mesh.vertices.len() + mesh.doubled)
 }
 
-/// The same of a welded mesh, with how many vertices were doubled.
+/// Of a welded mesh as it is.
 pub fn welded_summary(mesh: &Mesh) -> Vec<u8> {
-    let mut text = counts(mesh);
+    lines(mesh, mesh.vertices.len())
+}
+
+/// The surface is the same before the weld and after it, and so is each line but the first.
+fn lines(mesh: &Mesh, vertices: usize) -> Vec<u8> {
+    let mut text = format!("vertices {vertices}\ntriangles {}\n", mesh.triangles.len());
     text += &format!("doubled {}\n", mesh.doubled);
-    text += &figures(mesh);
-    text.into_bytes()
-}
-
-fn counts(mesh: &Mesh) -> String {
-    format!("vertices {}\ntriangles {}\n", mesh.vertices.len(), mesh.triangles.len())
-}
-
-fn figures(mesh: &Mesh) -> String {
-    let mut text = box_line(bounding_box(mesh));
+    text += &box_line(bounding_box(mesh));
     text += &format!("area {}\n", figure(surface_area(mesh)));
     text += &volume_line(mesh);
-    text + &format!("reads {}\n", mesh.reads)
+    text += &format!("reads {}\n", mesh.reads);
+    text.into_bytes()
 }
 
 pub fn box_line(bounds: Option<Bounds>) -> String {
