@@ -1,9 +1,9 @@
 -- What the definition says of each answer: a refusal with every place as it was, or the mesh in the first places.
 use Prim.Native.Nat.{ℕ, _*_, _/_, _≤_}
 use native.Mathlib.Omega.{arith}
-use mathlib.Core.Path.{_≡_, refl, sym, ap, _∙_}
+use mathlib.Core.Path.{_≡_, refl, sym, ap, _∙_, subst}
 use mathlib.Core.Bool.{Bool, true, false, cond, and-eq-true-iff}
-use mathlib.Core.List.{List, _++_}
+use mathlib.Core.List.{List, [], _++_}
 use borrow.Author.Tests.{leb-true}
 use lib.Dec.{leb}
 use lib.Ieee.{Float}
@@ -20,15 +20,19 @@ use Rattle.laws.specs.Steps.{each}
 use Rattle.laws.specs.Lists.{length-each}
 use Rattle.laws.specs.Laying.{length-lay, lay-all}
 use Rattle.model.specs.Refusals.{orElse}
-use Rattle.model.specs.Judging.{judgeFaces, judgeRoom, judgeStar}
+use Rattle.model.specs.Judging.{judgeFaces, judgeStore, judgeRoom, judgeBuffer, judgeStar}
 use Rattle.model.specs.Star.{Star, subdivisions}
 use Rattle.model.specs.Mesh.{meshOf, storeLength}
 use Rattle.model.specs.Extraction.{Outcome, outcome}
-use Rattle.model.specs.Edges.{edgeNumber, edgesLeft}
+use Rattle.model.specs.Edges.{edgeNumber, WholeOutcome, edgesLeft}
+use Rattle.model.specs.Layers.{summaryLength, judgeLayers, judgeSummary}
+use Rattle.model.specs.Layered.{layeredMesh, extractLayered}
 use Rattle.grid.specs.Shape.{Shaped}
 use Rattle.cells.specs.Puts.{Few}
 use Rattle.judge.specs.First.{or-else-assoc, both-passed, unless-passed}
 use Rattle.judge.specs.Passing.{star-shaped}
+use Rattle.layers.specs.Over.{summaryJudged, no-summary, Trusted, trusted}
+use Rattle.layers.specs.Layered.{spared, extract-spared}
 use Rattle.algorithm.specs.Passes.{mostCells, judged, edgesJudged, roomJudged, numbersLeft, allJudged, refusedReport, Counted, Exact, Numbered, Written, Leaves}
 
 -- the contract's five claims
@@ -43,13 +47,32 @@ pub told-whole : {o : Outcome} {report : Report} {store : List ℕ} {vertices : 
     → (report .answer ≡ o .answer) × ((store ≡ o .store) × ((vertices ≡ o .vertices) × ((triangles ≡ o .triangles) × ((report .reads ≡ o .reads) × (edges ≡ edges′)))))
 told-whole l e = (l .answer-is, (l .store-is, (l .vertices-are, (l .triangles-are, (l .reads-are, e)))))
 
--- what 1 to 9 have shown
-module _ (s : Star) (held : ℕ) (e : judged s held ≡ Passed) where
+-- with no summary, extraction without one
+pub none-told : (numbered : Bool) (s : Star) (heldStore heldVertices heldTriangles heldEdges : ℕ)
+    → allJudged false numbered s [] heldStore heldVertices heldTriangles heldEdges
+    ≡ orElse (judgeStar s)
+    (orElse (judgeFaces s) (orElse (judgeStore (subdivisions s) heldStore) (roomJudged numbered s heldVertices heldTriangles heldEdges)))
+none-told numbered s heldStore heldVertices heldTriangles heldEdges = rw (no-summary (subdivisions s) (s .centre))
+
+-- what 1 to 9, with 26, have shown
+module _ (layered : Bool) (s : Star) (summary : List Float) (held : ℕ) (e : judged layered s summary held ≡ Passed) where
+  star-passed : judgeStar s ≡ Passed
+  star-passed = both-passed (judgeStar s) _ e .0
+
+  after-faces : orElse (summaryJudged layered (subdivisions s) (s .centre) summary) (judgeStore (subdivisions s) held) ≡ Passed
+  after-faces = both-passed (judgeFaces s) _ (both-passed (judgeStar s) _ e .1) .1
+
   pub shaped : Shaped s
-  shaped = star-shaped s (both-passed _ _ e .0)
+  shaped = star-shaped s star-passed
+
+  pub trusted-there : Trusted (subdivisions s) (s .centre) summary
+  trusted-there =
+      let told = both-passed (summaryJudged layered (subdivisions s) (s .centre) summary) (judgeStore (subdivisions s) held) after-faces .0 in
+      trusted s star-passed summary (both-passed (cond layered (judgeBuffer (summaryLength (subdivisions s)) (length summary)) Passed) (judgeLayers (subdivisions s) (s .centre) summary) told .1)
 
   pub store-held : storeLength (subdivisions s) ≤ held
-  store-held = leb-true _ _ (unless-passed _ (IndexStoreTooShort _) (both-passed (judgeFaces s) _ (both-passed (judgeStar s) _ e .1) .1))
+  store-held =
+      leb-true _ _ (unless-passed _ (IndexStoreTooShort _) (both-passed (summaryJudged layered (subdivisions s) (s .centre) summary) _ after-faces .1))
 
 -- ---- the further list
 
@@ -77,20 +100,14 @@ numbers-done false s edges es count e long n = ap (λ (l : List ℕ). l ++ edges
 
 -- ---- the answers
 
-module _ (numbered : Bool) (s : Star) (store : List ℕ) (vertices : List Float) (triangles edges : List ℕ) where
+module _ (numbered : Bool) (s : Star) (summary : List Float) (store : List ℕ) (vertices : List Float) (triangles edges : List ℕ) where
   abbrev room : Verdict
   room = roomJudged numbered s (length vertices) (length triangles) (length edges)
-
-  abbrev all : Verdict
-  all = allJudged numbered s (length store) (length vertices) (length triangles) (length edges)
 
   -- what a verdict leaves of the three buffers and of the further list
   abbrev pub Answered : Verdict → Report → List ℕ → List Float → List ℕ → List ℕ → Type 0
   Answered v report store′ vertices′ triangles′ edges′ =
-      Leaves (outcome (meshOf s) store vertices triangles v) report store′ vertices′ triangles′ × (edges′ ≡ numbersLeft numbered s edges v)
-
-  in-order : all ≡ orElse (judged s (length store)) room
-  in-order = rw (or-else-assoc, or-else-assoc)
+      Leaves (outcome (spared s summary) store vertices triangles v) report store′ vertices′ triangles′ × (edges′ ≡ numbersLeft numbered s edges v)
 
   none : (v : Verdict) (r : Refusal) → v ≡ Refused r → Answered v (refusedReport r) store vertices triangles edges
   unfolding outcome edgesLeft
@@ -99,11 +116,23 @@ module _ (numbered : Bool) (s : Star) (store : List ℕ) (vertices : List Float)
 
   -- ---- 1 to 9
 
-  pub refused : (r : Refusal) → judged s (length store) ≡ Refused r → Answered all (refusedReport r) store vertices triangles edges
-  refused r e = none all r (in-order ∙ rw e)
+  module _ (layered : Bool) where
+    abbrev all : Verdict
+    all = allJudged layered numbered s summary (length store) (length vertices) (length triangles) (length edges)
 
-  pub passed : judged s (length store) ≡ Passed → all ≡ room
-  passed e = in-order ∙ rw e
+    in-order : all ≡ orElse (judged layered s summary (length store)) room
+    in-order =
+        let told = summaryJudged layered (subdivisions s) (s .centre) summary in
+        let stored = judgeStore (subdivisions s) (length store) in
+        sym
+        (or-else-assoc (judgeStar s) (orElse (judgeFaces s) (orElse told stored)) room
+        ∙ ap (orElse (judgeStar s)) (or-else-assoc (judgeFaces s) (orElse told stored) room ∙ ap (orElse (judgeFaces s)) (or-else-assoc told stored room)))
+
+    pub refused : (r : Refusal) → judged layered s summary (length store) ≡ Refused r → Answered all (refusedReport r) store vertices triangles edges
+    refused r e = none all r (in-order ∙ rw e)
+
+    pub passed : judged layered s summary (length store) ≡ Passed → all ≡ room
+    passed e = in-order ∙ rw e
 
   -- ---- 23 and 10, by the counts
 
@@ -148,7 +177,7 @@ module _ (numbered : Bool) (s : Star) (store : List ℕ) (vertices : List Float)
             }
 
         -- they were written, and all beyond stays
-        pub done : (st : List ℕ) (vs : List Float) (ts es : List ℕ) (reads : ℕ) → Exact s vs ts st → Written (meshOf s) vs ts st → reads ≡ meshOf s .reads
+        pub done : (st : List ℕ) (vs : List Float) (ts es : List ℕ) (reads : ℕ) → Exact s vs ts st → Written (meshOf s) vs ts st → reads ≡ layeredMesh s summary .reads
             → length es ≡ cond numbered (counts .vertices) 0 → Numbered (meshOf s) es
             → Answered room (record { answer = Extraction.Mesh counts; reads = reads }) (st ++ drop places store)
             (vs ++ drop (6 * counts .vertices) vertices) (ts ++ drop (3 * counts .triangles) triangles)
@@ -169,3 +198,36 @@ module _ (numbered : Bool) (s : Star) (store : List ℕ) (vertices : List Float)
                   (record { answer-is = rw (← ev, ← et); reads-are = reads-are; store-is = rw places-are; vertices-are = rw ev; triangles-are = rw et }),
               numbers-done numbered s edges es (counts .vertices) ev es-long es-are,
             )
+
+-- ---- with a summary and the further list
+
+module _ (s : Star) (summary : List Float) (store : List ℕ) (vertices : List Float) (triangles edges : List ℕ) where
+  abbrev all-asked : Verdict
+  all-asked = allJudged true true s summary (length store) (length vertices) (length triangles) (length edges)
+
+  -- the further list does not tell the reads
+  same-edges : (v : Verdict) → edgesLeft (spared s summary) edges v ≡ edgesLeft (meshOf s) edges v
+  unfolding edgesLeft
+  same-edges Passed = refl
+  same-edges (Refused r) = refl
+
+  layered-left : extractLayered s summary store vertices triangles edges
+      ≡ record { mesh = outcome (spared s summary) store vertices triangles all-asked; edges = edgesLeft (meshOf s) edges all-asked }
+  unfolding judgeSummary
+  layered-left =
+      extract-spared s summary store vertices triangles edges
+      ∙ (λ i. record { mesh = outcome (spared s summary) store vertices triangles all-asked; edges = same-edges all-asked i })
+
+  pub told-layered : (report : Report) (store′ : List ℕ) (vertices′ : List Float) (triangles′ edges′ : List ℕ)
+      → Leaves (outcome (spared s summary) store vertices triangles all-asked) report store′ vertices′ triangles′ → edges′ ≡ numbersLeft true s edges all-asked
+      → let o = extractLayered s summary store vertices triangles edges in
+      (report .answer ≡ o .mesh .answer)
+      × ((store′ ≡ o .mesh .store)
+      × ((vertices′ ≡ o .mesh .vertices) × ((triangles′ ≡ o .mesh .triangles) × ((report .reads ≡ o .mesh .reads) × (edges′ ≡ o .edges)))))
+  told-layered report store′ vertices′ triangles′ edges′ l e =
+      subst
+      (λ (o : WholeOutcome).
+      (report .answer ≡ o .mesh .answer)
+      × ((store′ ≡ o .mesh .store)
+      × ((vertices′ ≡ o .mesh .vertices) × ((triangles′ ≡ o .mesh .triangles) × ((report .reads ≡ o .mesh .reads) × (edges′ ≡ o .edges))))))
+      (sym layered-left) (told-whole l e)

@@ -62,7 +62,7 @@ grows-then {step} g h =
     }
 
 -- a step that makes the same
-grows-made : {step step′ : Mesh → Mesh} {counts : Counts} → ((m : Mesh) → SameMade (step m) (step′ m)) → Grows step counts → Grows step′ counts
+pub grows-made : {step step′ : Mesh → Mesh} {counts : Counts} → ((m : Mesh) → SameMade (step m) (step′ m)) → Grows step counts → Grows step′ counts
 grows-made same g =
     record {
       vertices = λ m. sym (ap length (same m .made-same)) ∙ g .vertices m;

@@ -113,7 +113,7 @@ module _ {s : Star} {c : Cell} {m : Mesh} {counts : Progress} {vertices : List F
       }
 
 -- a mesh of which only the reads differ is held as well
-holds-same : {m m′ : Mesh} {counts : Progress} {vertices : List Float} {triangles store edges : List ℕ} → SameMade m m′
+pub holds-same : {m m′ : Mesh} {counts : Progress} {vertices : List Float} {triangles store edges : List ℕ} → SameMade m m′
     → Holds m counts vertices triangles store edges → Holds m′ counts vertices triangles store edges
 holds-same same h =
     record {

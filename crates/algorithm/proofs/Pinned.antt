@@ -8,11 +8,12 @@ use Rattle.algorithm.proofs.counting.plus.Reads as plus
 use Rattle.algorithm.proofs.counting.count_mesh.Reads as count-mesh
 use Rattle.algorithm.proofs.extract.Reads as extract
 use Rattle.algorithm.proofs.extract_whole.Reads as extract-whole
+use Rattle.algorithm.proofs.extract_layered.Reads as extract-layered
 
 pub plus-pinned : (κs : Lfts 0) (a : _) (r r′ : _) (e e′ : _) → plus.Learnt κs a r e → plus.Learnt κs a r′ e′ → r ≡ r′
 plus-pinned κs a r r′ e e′ h k = pinned h k
 
-pub count-mesh-pinned : (κs : Lfts 2) (a : _) (r r′ : _) (e e′ : _) → count-mesh.Learnt κs a r e → count-mesh.Learnt κs a r′ e′ → r ≡ r′
+pub count-mesh-pinned : (κs : Lfts 3) (a : _) (r r′ : _) (e e′ : _) → count-mesh.Learnt κs a r e → count-mesh.Learnt κs a r′ e′ → r ≡ r′
 count-mesh-pinned κs a r r′ e e′ h k =
     λ i. record {
       vertices = pinned (h .1 .vertices-are) (k .1 .vertices-are) i;
@@ -36,6 +37,17 @@ pub extract-whole-pinned : (κs : Lfts 6) (a : _) (r r′ : _) (e e′ : _) → 
     × ((now (e .1 .1 .1 .1 .1 .0) ≡ now (e′ .1 .1 .1 .1 .1 .0))
     × (now (e .1 .1 .1 .1 .1 .1 .0) ≡ now (e′ .1 .1 .1 .1 .1 .1 .0)))))
 extract-whole-pinned κs a r r′ e e′ h k = (
+  λ i. record { answer = pinned (h .0) (k .0) i; reads = pinned (h .1 .1 .1 .1 .0) (k .1 .1 .1 .1 .0) i },
+  (pinned (h .1 .0) (k .1 .0), (pinned (h .1 .1 .0) (k .1 .1 .0), (pinned (h .1 .1 .1 .0) (k .1 .1 .1 .0), pinned (h .1 .1 .1 .1 .1) (k .1 .1 .1 .1 .1)))),
+)
+
+pub extract-layered-pinned : (κs : Lfts 7) (a : _) (r r′ : _) (e e′ : _) → extract-layered.Learnt κs a r e → extract-layered.Learnt κs a r′ e′
+    → (r ≡ r′)
+    × ((now (e .1 .1 .1 .1 .0) ≡ now (e′ .1 .1 .1 .1 .0))
+    × ((now (e .1 .1 .1 .1 .1 .0) ≡ now (e′ .1 .1 .1 .1 .1 .0))
+    × ((now (e .1 .1 .1 .1 .1 .1 .0) ≡ now (e′ .1 .1 .1 .1 .1 .1 .0))
+    × (now (e .1 .1 .1 .1 .1 .1 .1 .0) ≡ now (e′ .1 .1 .1 .1 .1 .1 .1 .0)))))
+extract-layered-pinned κs a r r′ e e′ h k = (
   λ i. record { answer = pinned (h .0) (k .0) i; reads = pinned (h .1 .1 .1 .1 .0) (k .1 .1 .1 .1 .0) i },
   (pinned (h .1 .0) (k .1 .0), (pinned (h .1 .1 .0) (k .1 .1 .0), (pinned (h .1 .1 .1 .0) (k .1 .1 .1 .0), pinned (h .1 .1 .1 .1 .1) (k .1 .1 .1 .1 .1)))),
 )

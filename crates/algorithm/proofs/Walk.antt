@@ -6,6 +6,7 @@ use native.Mathlib.Omega.{arith}
 use mathlib.Core.Path.{_≡_, refl, sym, _∙_}
 use mathlib.Core.Bool.{Bool, true, false, cond}
 use mathlib.Core.List.{List}
+use lib.Ieee.{Float}
 use lib.ListN.{length, length-append}
 use Rattle.laws.specs.Steps.{iterate}
 use Rattle.laws.specs.Iterated.{iterate-upto, part-skip, steps-skip}
@@ -21,6 +22,8 @@ use Rattle.cells.specs.declared.SheetIndex.the-variants.{Layer, Side}
 use Rattle.cells.specs.SheetCells.{sheetCell, caseAt, allOf}
 use Rattle.cells.specs.Puts.{Nothing, SameMade}
 use Rattle.cells.specs.Uncut.{nothing-step, regular-nothing, transition-nothing}
+use Rattle.layers.specs.Over.{Trusted, NextLayer}
+use Rattle.layers.specs.Layered.{layer-nothing}
 use Rattle.algorithm.specs.Passes.{Held, SheetIn, rowTo, rowsTo, rowBefore, wholeSheet, sheetAfter}
 
 -- ---- what a later mesh has at least
@@ -47,6 +50,16 @@ module _ (f : ℕ → Mesh → Mesh) (grows : (k : ℕ) (m : Mesh) → Upto m (f
         triangles = iterate-upto (λ (m : Mesh). length (m .triangles)) f (λ k m. grows k m .triangles) m j k h;
       }
 
+-- steps that make nothing are stepped over
+made-skip : (f : ℕ → Mesh → Mesh) (m : Mesh) (from next : ℕ) → from ≤ next → ((i : ℕ) → from ≤ i → i < next → (m : Mesh) → SameMade (f i m) m)
+    → SameMade (iterate f from m) (iterate f next m)
+made-skip f m from next l none =
+    record {
+      made-same = part-skip (λ (m : Mesh). m .made) f m from next l (λ i a b m. none i a b m .made-same);
+      triangles-same = part-skip (λ (m : Mesh). m .triangles) f m from next l (λ i a b m. none i a b m .triangles-same);
+      store-same = part-skip (λ (m : Mesh). m .store) f m from next l (λ i a b m. none i a b m .store-same);
+    }
+
 -- ---- a sheet of cells
 
 unmarked : (cut : Bool) → _≡_ {A = ℕ} (cond cut 0 1) 0 → cut ≡ true
@@ -65,16 +78,8 @@ module _ (s : Star) (sheet : SheetIndex) {n : ℕ} {layer side marks : List ℕ}
         nothing-step _
         (nothing s sheet u v (unmarked _ (sym (held .marked .case-at u v u-in (omega (arith, step .within))) ∙ step .none-marked v l h)))
 
-    abbrev steps : ℕ → Mesh → Mesh
-    steps v = cellStep (sheetCell s sheet u v)
-
     pub row-skip : (m : Mesh) → SameMade (rowTo (sheetCell s sheet u) from m) (rowTo (sheetCell s sheet u) next m)
-    row-skip m =
-        record {
-          made-same = part-skip (λ (m : Mesh). m .made) steps m from next (step .ordered) (λ v l h m. passed v l h m .made-same);
-          triangles-same = part-skip (λ (m : Mesh). m .triangles) steps m from next (step .ordered) (λ v l h m. passed v l h m .triangles-same);
-          store-same = part-skip (λ (m : Mesh). m .store) steps m from next (step .ordered) (λ v l h m. passed v l h m .store-same);
-        }
+    row-skip m = made-skip (λ v. cellStep (sheetCell s sheet u v)) m from next (step .ordered) passed
 
 module _ (cell : ℕ → ℕ → Cell) (n : ℕ) (m : Mesh) where
   upto-rows : (u : ℕ) (m : Mesh) → Upto m (rowTo (cell u) n m)
@@ -164,18 +169,33 @@ module _ (s : Star) where
   transition-skip = sides-skip (regularMesh s)
 
   -- with no named side all of them are
-  pub no-sides : s .mask ≡ 0 → (m : Mesh) → iterate (transitionSide s) sideCount m ≡ m
+  pub none-named : s .mask ≡ 0 → (side : ℕ) → side < sideCount → named (s .mask) side ≡ false
   unfolding named
-  no-sides e m = sym (steps-skip (transitionSide s) m 0 sideCount (omega arith) (λ i a b. side-unnamed i (none-named e i b)))
+  none-named e side h = rw e (unnamed side h)
     where
-      none-named : s .mask ≡ 0 → (i : ℕ) → i < sideCount → named (s .mask) i ≡ false
-      none-named e i h = rw e (unnamed i h)
-        where
-          unnamed : (i : ℕ) → i < sideCount → named 0 i ≡ false
-          unnamed zero h = refl
-          unnamed (suc zero) h = refl
-          unnamed (suc (suc zero)) h = refl
-          unnamed (suc (suc (suc zero))) h = refl
-          unnamed (suc (suc (suc (suc zero)))) h = refl
-          unnamed (suc (suc (suc (suc (suc zero))))) h = refl
-          unnamed (suc (suc (suc (suc (suc (suc i)))))) h = absurd (let x : ⊥ = omega arith in x)
+      unnamed : (i : ℕ) → i < sideCount → named 0 i ≡ false
+      unnamed zero h = refl
+      unnamed (suc zero) h = refl
+      unnamed (suc (suc zero)) h = refl
+      unnamed (suc (suc (suc zero))) h = refl
+      unnamed (suc (suc (suc (suc zero)))) h = refl
+      unnamed (suc (suc (suc (suc (suc zero))))) h = refl
+      unnamed (suc (suc (suc (suc (suc (suc i)))))) h = absurd (let x : ⊥ = omega arith in x)
+
+  pub no-sides : s .mask ≡ 0 → (m : Mesh) → iterate (transitionSide s) sideCount m ≡ m
+  no-sides e m = sym (steps-skip (transitionSide s) m 0 sideCount (omega arith) (λ i a b. side-unnamed i (none-named e i b)))
+
+  -- ---- layers passed over
+
+  -- they make nothing, so that what is made up to one layer is made up to the next that is not passed over
+  module _ (summary : List Float) (t : Trusted (subdivisions s) (s .centre) summary) (from next : ℕ)
+      (step : NextLayer (subdivisions s) (s .threshold) summary from next) where
+    passed-layer : (x : ℕ) → from ≤ x → x < next → (m : Mesh) → SameMade (regularLayer s x m) m
+    passed-layer x l u = layer-nothing s summary t x (omega (arith, step .within)) (step .all-over x l u)
+
+    pub layers-skip : (m : Mesh) → SameMade (iterate (regularLayer s) from m) (iterate (regularLayer s) next m)
+    layers-skip m = made-skip (regularLayer s) m from next (step .ordered) passed-layer
+
+    pub regular-skip : SameMade (regularTo s from 0 0) (regularTo s next 0 0)
+    unfolding regularTo
+    regular-skip = layers-skip (emptyMesh (subdivisions s))

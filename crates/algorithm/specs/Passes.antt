@@ -21,7 +21,7 @@ use Rattle.model.specs.Mesh.{Cell, Mesh, cellStep, storeLength, regularLayer, r
 use Rattle.model.specs.Judging.{judgeFaces, judgeStore, judgeRoom, judgeStar}
 use Rattle.model.specs.Extraction.{vertexFloats, triangleIndices, Outcome}
 use Rattle.model.specs.Edges.{judgeEdges, edgesLeft}
-use Rattle.model.specs.Reads.{Reads}
+use Rattle.layers.specs.Over.{summaryJudged}
 use Rattle.cases.specs.Sheets.{rowStart, sheetPlaces, mostSheetReads, Sheet}
 use Rattle.cases.specs.Marks.{markOf}
 use Rattle.cells.specs.declared.SheetIndex.{SheetIndex}
@@ -31,9 +31,10 @@ use Rattle.cells.specs.declared.Progress.{Progress}
 use Rattle.cells.specs.Buffers.{layEdges}
 use Rattle.cells.specs.Puts.{Room, ReadSoFar}
 
--- 1 to 9, in that order
-abbrev pub judged : Star → ℕ → Verdict
-judged s heldStore = orElse (judgeStar s) (orElse (judgeFaces s) (judgeStore (subdivisions s) heldStore))
+-- 1 to 8, 14 and 26 of a summary, if it is asked for, and 9, in that order
+abbrev pub judged : Bool → Star → List Float → ℕ → Verdict
+judged layered s summary heldStore =
+    orElse (judgeStar s) (orElse (judgeFaces s) (orElse (summaryJudged layered (subdivisions s) (s .centre) summary) (judgeStore (subdivisions s) heldStore)))
 
 -- 23, where the further list is asked for
 abbrev pub edgesJudged : Bool → ℕ → ℕ → Verdict
@@ -50,9 +51,12 @@ abbrev pub numbersLeft : Bool → Star → List ℕ → Verdict → List ℕ
 numbersLeft numbered s edges verdict = cond numbered (edgesLeft (meshOf s) edges verdict) edges
 
 -- all of them, in that order
-abbrev pub allJudged : Bool → Star → ℕ → ℕ → ℕ → ℕ → Verdict
-allJudged numbered s heldStore heldVertices heldTriangles heldEdges =
-    orElse (judgeStar s) (orElse (judgeFaces s) (orElse (judgeStore (subdivisions s) heldStore) (roomJudged numbered s heldVertices heldTriangles heldEdges)))
+abbrev pub allJudged : Bool → Bool → Star → List Float → ℕ → ℕ → ℕ → ℕ → Verdict
+allJudged layered numbered s summary heldStore heldVertices heldTriangles heldEdges =
+    orElse (judgeStar s)
+    (orElse (judgeFaces s)
+    (orElse (summaryJudged layered (subdivisions s) (s .centre) summary)
+    (orElse (judgeStore (subdivisions s) heldStore) (roomJudged numbered s heldVertices heldTriangles heldEdges))))
 
 -- a refusal reports no reads
 abbrev pub refusedReport : Refusal → Report
@@ -145,9 +149,9 @@ pub record Holds (m : Mesh) (counts : Progress) (vertices : List Float) (triangl
   pub store-is : store ≡ m .store
   pub numbered : Numbered m edges
 
--- the case numbers of all cells of so many sheets have been read, and that is no large number
-pub record ReadTo (m : Mesh) (sheets reads : ℕ) : Type 0 where
-  pub reads-are : Reads reads m
+-- what the case numbers of the cells of so many sheets have read, and that is no large number
+pub record ReadTo (cases sheets reads : ℕ) : Type 0 where
+  pub reads-are : reads ≡ cases
   pub few : reads ≤ mostSheetReads * sheets
 
 -- a sheet a layer, and one a side

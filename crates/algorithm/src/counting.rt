@@ -1,7 +1,7 @@
 // The counting pass: how many vertices and triangles the cells make. It writes nothing that was lent, so that 10 is answered before
 // anything is touched. Each kind of cell has a loop over its sheets; that over a sheet's cells that are cut serves both.
 ghost use mathlib.Core.Path.{_≡_};
-ghost use mathlib.Core.List.{List};
+ghost use mathlib.Core.List.{List, []};
 ghost use Prim.Native.Nat.{_+_, _*_, _<_, _≤_, _^_};
 ghost use lib.Ieee.{Float};
 ghost use lib.ListN.{length};
@@ -12,8 +12,10 @@ ghost use Rattle.model.specs.Star.{Star, star, subdivisions};
 ghost use Rattle.model.specs.Mesh.{regularLayer, transitionSide, meshOf};
 ghost use Rattle.grid.specs.Shape.{Shaped};
 ghost use Rattle.cases.specs.Sheets.{sheetPlaces};
+ghost use Rattle.cases.specs.Pairs.{pointBit, Upper};
 ghost use Rattle.cells.specs.Puts.{Few};
 ghost use Rattle.cells.specs.SheetCells.{sheetCell, Tables};
+ghost use Rattle.layers.specs.Over.{Trusted};
 ghost use Rattle.algorithm.specs.Passes.{mostCells, plus, Sheeted, Held, SidesThere, SheetIn, rowTo, wholeSheet, Grows, Counted};
 use crate::NO_LAYER;
 use crate::NO_SIDE;
@@ -28,6 +30,7 @@ use cells::sheet_cells::count_sheet_cell;
 use cells::sheet_cells::number_at;
 use grid::transition_sides::SIDES;
 use grid::transition_sides::next_side;
+use layers::judging::next_layer;
 use model::Counts;
 use model::Header;
 use tables::regular_cell_class;
@@ -102,8 +105,23 @@ pub fn count_sheet(
     counts
 }
 
-fn count_regular_cells(header: Header, centre: &[f32]) -> Counts
+// The points at x as the second of each pair, where those of another plane may be that.
+fn pair_at(header: Header, centre: &[f32], paired: usize, x: usize, pairs: &mut [u8])
     requires { ⌜ (header .block .subdivisions ≤ mostSubdivisions) × (length (now centre) ≡ sampleLength (header .block .subdivisions)) ⌝ }
+    requires { ⌜ (x ≤ header .block .subdivisions) × (length (now pairs) ≡ sheetPlaces) ⌝ }
+    requires { ⌜ Upper (header .block .subdivisions) (pointBit (star header (now centre) []) paired) (now pairs) ⌝ }
+    ensures { λ _. ⌜ Upper (header .block .subdivisions) (pointBit (star header (now (centre .entry)) []) x) (now (pairs .exit)) ⌝ }
+{
+    if paired == x {
+        return;
+    }
+    pair_layer(header, centre, x, pairs);
+}
+
+// Layers that a summary lets pass over are not looked at.
+fn count_regular_cells(header: Header, centre: &[f32], summary: &[f32]) -> Counts
+    requires { ⌜ (header .block .subdivisions ≤ mostSubdivisions) × (length (now centre) ≡ sampleLength (header .block .subdivisions)) ⌝ }
+    requires { ⌜ Trusted (header .block .subdivisions) (now centre) (now summary) ⌝ }
     ensures { λ r. ⌜ Few (sheetPlaces * mostSubdivisions) r ⌝ }
     ensures { λ r. ⌜ ((ns : List Float) → Grows (iterate (regularLayer (star header (now (centre .entry)) ns)) (header .block .subdivisions)) r) ⌝ }
 {
@@ -116,8 +134,10 @@ fn count_regular_cells(header: Header, centre: &[f32]) -> Counts
     let mut marks = [0u8; SHEET];
     let mut counts = NONE;
     pair_layer(header, centre, 0, &mut pairs);
-    let mut x = 0;
+    let mut paired = 0;
+    let mut x = next_layer(n, header.threshold, summary, 0);
     while x < n {
+        pair_at(header, centre, paired, x, &mut pairs);
         layer_cases(header, centre, x, &mut pairs, &mut cases, &mut marks);
         let more = count_sheet(
             n,
@@ -130,7 +150,8 @@ fn count_regular_cells(header: Header, centre: &[f32]) -> Counts
             &marks,
         );
         counts = plus(counts, more);
-        x += 1;
+        paired = x + 1;
+        x = next_layer(n, header.threshold, summary, x + 1);
     }
     counts
 }
@@ -179,11 +200,12 @@ fn count_transition_cells(header: Header, neighbours: &[f32]) -> Counts
     count_named_sides(header, neighbours)
 }
 
-pub fn count_mesh(header: Header, centre: &[f32], neighbours: &[f32]) -> Counts
+pub fn count_mesh(header: Header, centre: &[f32], neighbours: &[f32], summary: &[f32]) -> Counts
     requires { ⌜ Shaped (star header (now centre) (now neighbours)) ⌝ }
+    requires { ⌜ Trusted (header .block .subdivisions) (now centre) (now summary) ⌝ }
     ensures { λ r. ⌜ Few mostCells r × Counted (meshOf (star header (now (centre .entry)) (now (neighbours .entry)))) r ⌝ }
 {
-    let regular = count_regular_cells(header, centre);
+    let regular = count_regular_cells(header, centre, summary);
     let transition = count_transition_cells(header, neighbours);
     plus(regular, transition)
 }

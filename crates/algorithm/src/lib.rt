@@ -5,9 +5,12 @@ ghost use mathlib.Core.Bool.{cond};
 ghost use Prim.Native.Nat.{_≤_};
 ghost use lib.ListN.{length};
 ghost use Rattle.model.specs.Star.{star};
-ghost use Rattle.model.specs.Mesh.{storeLength, meshOf};
+ghost use Rattle.model.specs.Mesh.{storeLength};
 ghost use Rattle.model.specs.Extraction.{extract, outcome};
 ghost use Rattle.model.specs.Edges.{extractWhole};
+ghost use Rattle.model.specs.Layered.{extractLayered};
+ghost use Rattle.layers.specs.Over.{Trusted};
+ghost use Rattle.layers.specs.Layered.{spared};
 ghost use Rattle.grid.specs.Shape.{Shaped};
 ghost use Rattle.algorithm.specs.Passes.{judged, edgesJudged, roomJudged, numbersLeft, allJudged, refusedReport, Leaves};
 
@@ -21,6 +24,7 @@ use judge::judge_edges;
 use judge::judge_room;
 use judge::judge_star;
 use judge::judge_store;
+use layers::judging::judge_summary;
 use model::Counts;
 use model::Extraction;
 use model::Header;
@@ -39,9 +43,19 @@ pub const NO_LAYER: [u8; 0] = [];
 
 pub const NO_SIDE: [u16; 0] = [];
 
-// 1 to 9, in that order.
-fn judge(header: Header, centre: &[f32], neighbours: &[f32], held: usize) -> Verdict
-    ensures { λ r. ⌜ r ≡ judged (star header (now (centre .entry)) (now (neighbours .entry))) held ⌝ }
+// In the place of a summary that is not asked for.
+const NO_SUMMARY: [f32; 0] = [];
+
+// 1 to 8, 14 and 26 of the summary, where it is asked for, and 9, in that order.
+fn judge(
+    header: Header,
+    centre: &[f32],
+    neighbours: &[f32],
+    summary: &[f32],
+    layered: bool,
+    held: usize,
+) -> Verdict
+    ensures { λ r. ⌜ r ≡ judged layered (star header (now (centre .entry)) (now (neighbours .entry))) (now (summary .entry)) held ⌝ }
 {
     let shape = judge_star(header, centre, neighbours);
     if let Verdict::Refused(refusal) = shape {
@@ -49,6 +63,10 @@ fn judge(header: Header, centre: &[f32], neighbours: &[f32], held: usize) -> Ver
     }
     let faces = judge_faces(header, centre, neighbours);
     if let Verdict::Refused(refusal) = faces {
+        return Verdict::Refused(refusal);
+    }
+    let told = judge_summary(header.block.subdivisions, centre, summary, layered);
+    if let Verdict::Refused(refusal) = told {
         return Verdict::Refused(refusal);
     }
     judge_store(header.block.subdivisions, held)
@@ -86,6 +104,7 @@ fn extract_mesh(
     header: Header,
     centre: &[f32],
     neighbours: &[f32],
+    summary: &[f32],
     store: &mut [u32],
     vertices: &mut [f32],
     triangles: &mut [u32],
@@ -93,11 +112,12 @@ fn extract_mesh(
     numbered: bool,
 ) -> Report
     requires { ⌜ Shaped (star header (now centre) (now neighbours)) ⌝ }
+    requires { ⌜ Trusted (header .block .subdivisions) (now centre) (now summary) ⌝ }
     requires { ⌜ storeLength (header .block .subdivisions) ≤ length (now store) ⌝ }
-    ensures { λ r. ⌜ Leaves (outcome (meshOf (star header (now (centre .entry)) (now (neighbours .entry)))) (now (store .entry)) (now (vertices .entry)) (now (triangles .entry)) (roomJudged numbered (star header (now (centre .entry)) (now (neighbours .entry))) (length (now (vertices .entry))) (length (now (triangles .entry))) (length (now (edges .entry))))) r (now (store .exit)) (now (vertices .exit)) (now (triangles .exit)) ⌝ }
+    ensures { λ r. ⌜ Leaves (outcome (spared (star header (now (centre .entry)) (now (neighbours .entry))) (now (summary .entry))) (now (store .entry)) (now (vertices .entry)) (now (triangles .entry)) (roomJudged numbered (star header (now (centre .entry)) (now (neighbours .entry))) (length (now (vertices .entry))) (length (now (triangles .entry))) (length (now (edges .entry))))) r (now (store .exit)) (now (vertices .exit)) (now (triangles .exit)) ⌝ }
     ensures edges { λ r. ⌜ now (edges .exit) ≡ numbersLeft numbered (star header (now (centre .entry)) (now (neighbours .entry))) (now (edges .entry)) (roomJudged numbered (star header (now (centre .entry)) (now (neighbours .entry))) (length (now (vertices .entry))) (length (now (triangles .entry))) (length (now (edges .entry)))) ⌝ }
 {
-    let counts = count_mesh(header, centre, neighbours);
+    let counts = count_mesh(header, centre, neighbours, summary);
     let listed = judge_numbers(numbered, counts.vertices, edges.len());
     if let Verdict::Refused(too_short) = listed {
         return refused(too_short);
@@ -114,6 +134,7 @@ fn extract_mesh(
         header,
         centre,
         neighbours,
+        summary,
         &mut store[..places],
         &mut vertices[..floats],
         &mut triangles[..indices],
@@ -125,21 +146,23 @@ fn extract_mesh(
     }
 }
 
-// One core for both calls: the flag says whether the further list is asked for.
+// One core for all calls: the flags say whether the further list is asked for, and whether a summary is.
 fn extract_numbered(
     header: Header,
     centre: &[f32],
     neighbours: &[f32],
+    summary: &[f32],
     store: &mut [u32],
     vertices: &mut [f32],
     triangles: &mut [u32],
     edges: &mut [u32],
     numbered: bool,
+    layered: bool,
 ) -> Report
-    ensures { λ r. ⌜ Leaves (outcome (meshOf (star header (now (centre .entry)) (now (neighbours .entry)))) (now (store .entry)) (now (vertices .entry)) (now (triangles .entry)) (allJudged numbered (star header (now (centre .entry)) (now (neighbours .entry))) (length (now (store .entry))) (length (now (vertices .entry))) (length (now (triangles .entry))) (length (now (edges .entry))))) r (now (store .exit)) (now (vertices .exit)) (now (triangles .exit)) ⌝ }
-    ensures edges { λ r. ⌜ now (edges .exit) ≡ numbersLeft numbered (star header (now (centre .entry)) (now (neighbours .entry))) (now (edges .entry)) (allJudged numbered (star header (now (centre .entry)) (now (neighbours .entry))) (length (now (store .entry))) (length (now (vertices .entry))) (length (now (triangles .entry))) (length (now (edges .entry)))) ⌝ }
+    ensures { λ r. ⌜ Leaves (outcome (spared (star header (now (centre .entry)) (now (neighbours .entry))) (now (summary .entry))) (now (store .entry)) (now (vertices .entry)) (now (triangles .entry)) (allJudged layered numbered (star header (now (centre .entry)) (now (neighbours .entry))) (now (summary .entry)) (length (now (store .entry))) (length (now (vertices .entry))) (length (now (triangles .entry))) (length (now (edges .entry))))) r (now (store .exit)) (now (vertices .exit)) (now (triangles .exit)) ⌝ }
+    ensures edges { λ r. ⌜ now (edges .exit) ≡ numbersLeft numbered (star header (now (centre .entry)) (now (neighbours .entry))) (now (edges .entry)) (allJudged layered numbered (star header (now (centre .entry)) (now (neighbours .entry))) (now (summary .entry)) (length (now (store .entry))) (length (now (vertices .entry))) (length (now (triangles .entry))) (length (now (edges .entry)))) ⌝ }
 {
-    let verdict = judge(header, centre, neighbours, store.len());
+    let verdict = judge(header, centre, neighbours, summary, layered, store.len());
     if let Verdict::Refused(refusal) = verdict {
         return refused(refusal);
     }
@@ -147,6 +170,7 @@ fn extract_numbered(
         header,
         centre,
         neighbours,
+        summary,
         store,
         vertices,
         triangles,
@@ -174,10 +198,12 @@ pub fn extract(
         header,
         centre,
         neighbours,
+        &NO_SUMMARY,
         store,
         vertices,
         triangles,
         &mut none,
+        false,
         false,
     )
 }
@@ -203,10 +229,44 @@ pub fn extract_whole(
         header,
         centre,
         neighbours,
+        &NO_SUMMARY,
         store,
         vertices,
         triangles,
         edges,
+        true,
+        false,
+    )
+}
+
+// The same with a summary by layer, whose layers on one side of the threshold are passed over (document 02, [12]).
+pub fn extract_layered(
+    header: Header,
+    centre: &[f32],
+    neighbours: &[f32],
+    summary: &[f32],
+    store: &mut [u32],
+    vertices: &mut [f32],
+    triangles: &mut [u32],
+    edges: &mut [u32],
+) -> Report
+    ensures answer { λ r. ⌜ r .answer ≡ extractLayered (star header (now (centre .entry)) (now (neighbours .entry))) (now (summary .entry)) (now (store .entry)) (now (vertices .entry)) (now (triangles .entry)) (now (edges .entry)) .mesh .answer ⌝ }
+    ensures store { λ r. ⌜ now (store .exit) ≡ extractLayered (star header (now (centre .entry)) (now (neighbours .entry))) (now (summary .entry)) (now (store .entry)) (now (vertices .entry)) (now (triangles .entry)) (now (edges .entry)) .mesh .store ⌝ }
+    ensures vertices { λ r. ⌜ now (vertices .exit) ≡ extractLayered (star header (now (centre .entry)) (now (neighbours .entry))) (now (summary .entry)) (now (store .entry)) (now (vertices .entry)) (now (triangles .entry)) (now (edges .entry)) .mesh .vertices ⌝ }
+    ensures triangles { λ r. ⌜ now (triangles .exit) ≡ extractLayered (star header (now (centre .entry)) (now (neighbours .entry))) (now (summary .entry)) (now (store .entry)) (now (vertices .entry)) (now (triangles .entry)) (now (edges .entry)) .mesh .triangles ⌝ }
+    ensures reads { λ r. ⌜ r .reads ≡ extractLayered (star header (now (centre .entry)) (now (neighbours .entry))) (now (summary .entry)) (now (store .entry)) (now (vertices .entry)) (now (triangles .entry)) (now (edges .entry)) .mesh .reads ⌝ }
+    ensures edges { λ r. ⌜ now (edges .exit) ≡ extractLayered (star header (now (centre .entry)) (now (neighbours .entry))) (now (summary .entry)) (now (store .entry)) (now (vertices .entry)) (now (triangles .entry)) (now (edges .entry)) .edges ⌝ }
+{
+    extract_numbered(
+        header,
+        centre,
+        neighbours,
+        summary,
+        store,
+        vertices,
+        triangles,
+        edges,
+        true,
         true,
     )
 }

@@ -1,14 +1,20 @@
 // The writing pass: the mesh into the lent buffers, cell by cell in document 01's order. Each kind of cell has a loop over its
 // sheets; that over a sheet's cells that are cut serves both.
 ghost use mathlib.Core.Path.{_≡_};
-ghost use Prim.Native.Nat.{_+_, _<_};
+ghost use Prim.Native.Nat.{_+_, _*_, _≤_, _<_};
 ghost use lib.ListN.{length, replicate};
-ghost use Rattle.model.specs.Limits.{mostSubdivisions};
+ghost use Rattle.laws.specs.Steps.{total};
+ghost use Rattle.model.specs.Limits.{mostSubdivisions, sideCount};
 ghost use Rattle.model.specs.Star.{star};
 ghost use Rattle.model.specs.Mesh.{storeLength, regularMesh, meshOf};
+ghost use Rattle.model.specs.Reads.{sideReads};
+ghost use Rattle.model.specs.Layered.{layeredMesh};
+ghost use Rattle.model.specs.LayeredReads.{layerReads};
 ghost use Rattle.grid.specs.Shape.{Shaped};
 ghost use Rattle.points.specs.Fractions.{Fractions};
 ghost use Rattle.cells.specs.SheetCells.{Tables};
+ghost use Rattle.cases.specs.Sheets.{mostSheetReads};
+ghost use Rattle.layers.specs.Over.{Trusted};
 ghost use Rattle.algorithm.specs.Passes.{Sheeted, Held, SheetIn, rowBefore, sheetBefore, sheetAfter, Fits, Holds, ReadTo, mostSheets, Exact, Written, Numbered};
 use crate::NO_LAYER;
 use crate::NO_SIDE;
@@ -22,6 +28,7 @@ use cells::sheet_cells::number_at;
 use cells::sheet_cells::write_sheet_cell;
 use grid::transition_sides::SIDES;
 use grid::transition_sides::next_side;
+use layers::judging::next_layer;
 use model::Header;
 use points::fractions::FRACTIONS;
 use points::fractions::fractions_of;
@@ -158,16 +165,18 @@ fn write_regular_cells(
     fractions: &[f32; FRACTIONS],
     centre: &[f32],
     neighbours: &[f32],
+    summary: &[f32],
     store: &mut [u32],
     vertices: &mut [f32],
     triangles: &mut [u32],
     edges: &mut [u32],
 ) -> Pass
     requires { ⌜ Shaped (star header (now centre) (now neighbours)) × Fractions (header .block .subdivisions) (now fractions) ⌝ }
+    requires { ⌜ Trusted (header .block .subdivisions) (now centre) (now summary) ⌝ }
     requires { ⌜ Fits (star header (now centre) (now neighbours)) (now vertices) (now triangles) (now store) ⌝ }
     requires { ⌜ now store ≡ replicate (storeLength (header .block .subdivisions)) 0 ⌝ }
     ensures { λ r. ⌜ Holds (regularMesh (star header (now (centre .entry)) (now (neighbours .entry)))) (r .counts) (now (vertices .exit)) (now (triangles .exit)) (now (store .exit)) (now (edges .exit)) ⌝ }
-    ensures reads { λ r. ⌜ ReadTo (regularMesh (star header (now (centre .entry)) (now (neighbours .entry)))) mostSubdivisions (r .reads) ⌝ }
+    ensures reads { λ r. ⌜ ReadTo (total (layerReads (star header (now (centre .entry)) (now (neighbours .entry))) (now (summary .entry))) (header .block .subdivisions)) mostSubdivisions (r .reads) ⌝ }
 {
     let n = header.block.subdivisions;
     let classes = regular_cell_class();
@@ -177,7 +186,7 @@ fn write_regular_cells(
     let mut marks = [0u8; SHEET];
     let mut counts = NOTHING;
     let mut reads: u64 = 0;
-    let mut x = 0;
+    let mut x = next_layer(n, header.threshold, summary, 0);
     while x < n {
         reads += layer_cases(header, centre, x, &mut cases, &mut marks);
         counts = write_sheet(
@@ -198,7 +207,7 @@ fn write_regular_cells(
             triangles,
             edges,
         );
-        x += 1;
+        x = next_layer(n, header.threshold, summary, x + 1);
     }
     Pass { counts, reads }
 }
@@ -217,9 +226,9 @@ fn write_named_sides(
     requires { ⌜ Shaped (star header (now centre) (now neighbours)) × Fractions (header .block .subdivisions) (now fractions) ⌝ }
     requires { ⌜ Fits (star header (now centre) (now neighbours)) (now vertices) (now triangles) (now store) ⌝ }
     requires { ⌜ Holds (regularMesh (star header (now centre) (now neighbours))) (before .counts) (now vertices) (now triangles) (now store) (now edges) ⌝ }
-    requires { ⌜ ReadTo (regularMesh (star header (now centre) (now neighbours))) mostSubdivisions (before .reads) ⌝ }
+    requires { ⌜ before .reads ≤ mostSheetReads * mostSubdivisions ⌝ }
     ensures { λ r. ⌜ Holds (meshOf (star header (now (centre .entry)) (now (neighbours .entry)))) (r .counts) (now (vertices .exit)) (now (triangles .exit)) (now (store .exit)) (now (edges .exit)) ⌝ }
-    ensures reads { λ r. ⌜ ReadTo (meshOf (star header (now (centre .entry)) (now (neighbours .entry)))) mostSheets (r .reads) ⌝ }
+    ensures reads { λ r. ⌜ ReadTo (before .reads + total (sideReads (star header (now (centre .entry)) (now (neighbours .entry)))) sideCount) mostSheets (r .reads) ⌝ }
 {
     let mask = header.mask;
     let classes = transition_cell_class();
@@ -270,9 +279,9 @@ fn write_transition_cells(
     requires { ⌜ Shaped (star header (now centre) (now neighbours)) × Fractions (header .block .subdivisions) (now fractions) ⌝ }
     requires { ⌜ Fits (star header (now centre) (now neighbours)) (now vertices) (now triangles) (now store) ⌝ }
     requires { ⌜ Holds (regularMesh (star header (now centre) (now neighbours))) (before .counts) (now vertices) (now triangles) (now store) (now edges) ⌝ }
-    requires { ⌜ ReadTo (regularMesh (star header (now centre) (now neighbours))) mostSubdivisions (before .reads) ⌝ }
+    requires { ⌜ before .reads ≤ mostSheetReads * mostSubdivisions ⌝ }
     ensures { λ r. ⌜ Holds (meshOf (star header (now (centre .entry)) (now (neighbours .entry)))) (r .counts) (now (vertices .exit)) (now (triangles .exit)) (now (store .exit)) (now (edges .exit)) ⌝ }
-    ensures reads { λ r. ⌜ ReadTo (meshOf (star header (now (centre .entry)) (now (neighbours .entry)))) mostSheets (r .reads) ⌝ }
+    ensures reads { λ r. ⌜ ReadTo (before .reads + total (sideReads (star header (now (centre .entry)) (now (neighbours .entry)))) sideCount) mostSheets (r .reads) ⌝ }
 {
     if header.mask == 0 {
         return before;
@@ -306,15 +315,17 @@ pub fn write_mesh(
     header: Header,
     centre: &[f32],
     neighbours: &[f32],
+    summary: &[f32],
     store: &mut [u32],
     vertices: &mut [f32],
     triangles: &mut [u32],
     edges: &mut [u32],
 ) -> u64
     requires { ⌜ Shaped (star header (now centre) (now neighbours)) ⌝ }
+    requires { ⌜ Trusted (header .block .subdivisions) (now centre) (now summary) ⌝ }
     requires { ⌜ Exact (star header (now centre) (now neighbours)) (now vertices) (now triangles) (now store) ⌝ }
     ensures { λ _. ⌜ Written (meshOf (star header (now (centre .entry)) (now (neighbours .entry)))) (now (vertices .exit)) (now (triangles .exit)) (now (store .exit)) ⌝ }
-    ensures reads { λ r. ⌜ r ≡ meshOf (star header (now (centre .entry)) (now (neighbours .entry))) .reads ⌝ }
+    ensures reads { λ r. ⌜ r ≡ layeredMesh (star header (now (centre .entry)) (now (neighbours .entry))) (now (summary .entry)) .reads ⌝ }
     ensures edges { λ r. ⌜ Numbered (meshOf (star header (now (centre .entry)) (now (neighbours .entry)))) (now (edges .exit)) ⌝ }
 {
     clear(store);
@@ -324,6 +335,7 @@ pub fn write_mesh(
         &fractions,
         centre,
         neighbours,
+        summary,
         store,
         vertices,
         triangles,

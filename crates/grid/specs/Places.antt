@@ -34,7 +34,7 @@ small n h =
     record { square = two; cube = mul-le-mul two one }
 
 -- a row and a column below m
-in-grid : {x y m : ℕ} → x < m → y < m → m * x + y < m * m
+pub in-grid : {x y m : ℕ} → x < m → y < m → m * x + y < m * m
 in-grid {x} {y} {m} hx hy =
     let e : m * (x + 1) ≤ m * m = mul-le-mul-left m (omega arith) in
     omega (arith, mul-add m x 1)

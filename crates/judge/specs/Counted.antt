@@ -49,6 +49,14 @@ all-pass P refusal n h = passed-over (λ k. unless (P k) (refusal k)) 0 n refl (
 usable-pass : (from : ℕ) (samples : List Float) (n : ℕ) → allUsable samples n ≡ true → first (usableFrom from samples) n ≡ Passed
 usable-pass from samples = all-pass (λ k. usable (getD samples k nan)) (λ k. BadSample (from + k))
 
+-- one list, its places counted from 0
+pub from-zero : (samples : List Float) → judgeFrom 0 samples ≡ judgeSamples samples
+unfolding judgeSamples
+from-zero samples = first-same (usableFrom 0 samples) (sampleUsable samples) (length samples) (λ i h. rw zero-add)
+
+pub list-usable : (samples : List Float) → allUsable samples (length samples) ≡ true → Passed ≡ judgeSamples samples
+list-usable samples h = sym (usable-pass 0 samples (length samples) h) ∙ from-zero samples
+
 module _ (centre neighbours : List Float) where
   pub one-after-the-other :
       judgeSamples (centre ++ neighbours) ≡ orElse (judgeFrom 0 centre) (judgeFrom (length centre) neighbours)

@@ -1,10 +1,10 @@
 -- Document 01, 'Answers by number': how the first refusal of several is found, by a search that goes in order. Whatever judges in a
 -- loop cites these laws.
 use Prim.Native.Nat.{ℕ, zero, suc, _+_, _≤_, _<_}
-use mathlib.Core.Path.{_≡_, refl}
+use mathlib.Core.Path.{_≡_, refl, _∙_}
 use mathlib.Core.Bool.{Bool, true, false}
 use mathlib.Core.Logic.{⊎-elim}
-use native.Mathlib.Nat.{add-zero, add-suc, not-suc-le-zero, le-of-suc-le-suc, eq-or-lt-of-le}
+use native.Mathlib.Nat.{add-zero, add-suc, not-suc-le-zero, le-of-suc-le-suc, eq-or-lt-of-le, le-refl, le-step}
 use native.Mathlib.Numerals.{add-one}
 use native.Mathlib.Omega.{arith}
 use Rattle.model.specs.declared.Refusal.{Refusal}
@@ -54,6 +54,22 @@ module _ (f : ℕ → Verdict) where
   hit k zero r before here l = absurd (not-suc-le-zero l)
   hit k (suc m) r before here l =
       ⊎-elim (λ e. rw (← e, before, here)) (λ h. rw (hit k m r before here h)) (eq-or-lt-of-le (le-of-suc-le-suc l))
+
+  -- the place of the first refusal, and that there is none before it
+  pub found : (n : ℕ) (r : Refusal) → first f n ≡ Refused r → (k : ℕ) × (k < n) × (first f k ≡ Passed) × (f k ≡ Refused r)
+  found zero r e = absurd (never e)
+    where
+      never : Passed ≡ Refused r → ⊥
+      never e = let z : _≡_ {A = ℕ} 0 1 = cc in omega arith
+  found (suc n) r e = go (first f n) refl e (found n r)
+    where
+      go : (v : Verdict) → first f n ≡ v → orElse v (f n) ≡ Refused r
+          → (first f n ≡ Refused r → (k : ℕ) × (k < n) × (first f k ≡ Passed) × (f k ≡ Refused r))
+          → (k : ℕ) × (k < suc n) × (first f k ≡ Passed) × (f k ≡ Refused r)
+      go Passed before e earlier = (n, le-refl _, before, e)
+      go (Refused q) before e earlier =
+          let w = earlier (before ∙ e) in
+          (w .0, le-step (w .1), w .2, w .3)
 
   -- the first of j + k is the first of j, or else that of the k after them
   pub first-append : (j k : ℕ) → first f (j + k) ≡ orElse (first f j) (first (λ i. f (j + i)) k)

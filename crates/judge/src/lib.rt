@@ -12,7 +12,7 @@ pub mod corners;
 pub mod faces;
 mod lengths;
 pub mod point_read;
-mod samples;
+pub mod samples;
 
 use grid::shared_vertex_indices::store_length;
 use grid::voxel_blocks::MOST_SUBDIVISIONS;
@@ -70,6 +70,7 @@ pub fn numbers_of(refusal: Refusal) -> Numbers
         Refusal::VolumeLength => numbers(21, 0, 0, 0),
         Refusal::FirstPoint => numbers(22, 0, 0, 0),
         Refusal::EdgesTooShort(wanted) => numbers(23, wanted, 0, 0),
+        Refusal::LayerDiffers(layer) => numbers(26, layer, 0, 0),
     }
 }
 

@@ -15,7 +15,8 @@ use model::Reading;
 use model::Refusal;
 use model::Verdict;
 
-fn judge_block(n: usize, held: usize) -> Verdict
+// 1 and 4, of a block with so many samples.
+pub fn judge_block(n: usize, held: usize) -> Verdict
     ensures { λ r. ⌜ r ≡ orElse (judgeSubdivisions n) (judgeCentre n held) ⌝ }
 {
     let subdivisions = judge_subdivisions(n);

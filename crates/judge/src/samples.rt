@@ -48,6 +48,16 @@ fn first_bad(samples: &[f32], from: usize) -> Verdict
     Verdict::Passed
 }
 
+// 7 of one list.
+pub fn judge_list(samples: &[f32]) -> Verdict
+    ensures { λ r. ⌜ r ≡ judgeSamples (now (samples .entry)) ⌝ }
+{
+    if all_usable(samples) {
+        return Verdict::Passed;
+    }
+    first_bad(samples, 0)
+}
+
 pub fn judge_samples(centre: &[f32], neighbours: &[f32]) -> Verdict
     ensures { λ r. ⌜ r ≡ judgeSamples (now (centre .entry) ++ now (neighbours .entry)) ⌝ }
 {

@@ -19,7 +19,7 @@ module _ (Told : ℕ → Mesh → Type 0) where
   abbrev pub Adds : (Mesh → Mesh) → ℕ → Type 0
   Adds step part = (k : ℕ) (m : Mesh) → Told k m → Told (k + part) (step m)
 
-  steps-add : (step : ℕ → Mesh → Mesh) (parts : ℕ → ℕ) → ((i : ℕ) → Adds (step i) (parts i)) → (count : ℕ) → Adds (iterate step count) (total parts count)
+  pub steps-add : (step : ℕ → Mesh → Mesh) (parts : ℕ → ℕ) → ((i : ℕ) → Adds (step i) (parts i)) → (count : ℕ) → Adds (iterate step count) (total parts count)
   steps-add step parts adds zero k m h = rw add-zero h
   steps-add step parts adds (suc i) k m h =
       subst (λ (all : ℕ). Told all (step i (iterate step i m))) (add-assoc k (total parts i) (parts i))

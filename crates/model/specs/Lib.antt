@@ -12,8 +12,11 @@ pub mod Adding
 pub mod Reads
 pub mod Judging
 pub mod Corners
+pub mod Layers
 pub mod Extraction
 pub mod Edges
+pub mod Layered
+pub mod LayeredReads
 pub mod Words
 pub mod Record
 pub mod Blank

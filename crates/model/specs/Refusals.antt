@@ -3,7 +3,7 @@
 use Prim.Native.Nat.{ℕ, zero, suc}
 use mathlib.Core.Bool.{Bool, true, false}
 use Rattle.model.specs.declared.Refusal.{Refusal}
-use Rattle.model.specs.declared.Refusal.the-variants.{Subdivisions, Mask, Measure, CentreLength, MissingNeighbour, NeighboursTooLong, BadSample, FaceMismatch, IndexStoreTooShort, NoRoom, RecordLength, Version, SampleCount, BufferTooShort, PointNeverSampled, StlLength, NoVertex, BadFiller, ChangesTooShort, VolumeSize, VolumeLength, FirstPoint, EdgesTooShort}
+use Rattle.model.specs.declared.Refusal.the-variants.{Subdivisions, Mask, Measure, CentreLength, MissingNeighbour, NeighboursTooLong, BadSample, FaceMismatch, IndexStoreTooShort, NoRoom, RecordLength, Version, SampleCount, BufferTooShort, PointNeverSampled, StlLength, NoVertex, BadFiller, ChangesTooShort, VolumeSize, VolumeLength, FirstPoint, EdgesTooShort, LayerDiffers}
 use Rattle.model.specs.declared.Numbers.{Numbers}
 use Rattle.model.specs.declared.Verdict.{Verdict}
 use Rattle.model.specs.declared.Verdict.the-variants.{Passed, Refused}
@@ -35,6 +35,7 @@ numbersOf VolumeSize = numbers 20 0 0 0
 numbersOf VolumeLength = numbers 21 0 0 0
 numbersOf FirstPoint = numbers 22 0 0 0
 numbersOf (EdgesTooShort wanted) = numbers 23 wanted 0 0
+numbersOf (LayerDiffers layer) = numbers 26 layer 0 0
 
 -- the refusal, unless the test holds
 abbrev pub unless : Bool → Refusal → Verdict

@@ -76,6 +76,12 @@ pub enum Reading {
     NeverSampled(usize),
 }
 
+// The least and the greatest sample of a layer of cells.
+pub struct Extent {
+    pub least: f32,
+    pub greatest: f32,
+}
+
 pub struct FacePoint {
     pub side: usize,
     pub u: usize,
@@ -88,7 +94,7 @@ pub struct Counts {
     pub triangles: usize,
 }
 
-// The refusals, in the order of their numbers from 1 on. An STL of too many triangles to write wants no length: 0.
+// The refusals, in the order of their numbers. An STL of too many triangles to write wants no length: 0.
 pub enum Refusal {
     Subdivisions(usize),
     Mask(usize),
@@ -113,6 +119,7 @@ pub enum Refusal {
     VolumeLength,
     FirstPoint,
     EdgesTooShort(usize),
+    LayerDiffers(usize),
 }
 
 // A refusal as document 01 gives it out.

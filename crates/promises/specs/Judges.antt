@@ -143,7 +143,7 @@ missing-number n mask held =
     if-named 5 (named mask side) _ (by-unless (leb ((namedBelow mask side + 1) * neighbourLength n) held) (MissingNeighbour side)))
     sideCount
 
-samples-number : (samples : List Float) → Refuses 7 (judgeSamples samples)
+pub samples-number : (samples : List Float) → Refuses 7 (judgeSamples samples)
 unfolding judgeSamples
 samples-number samples = by-first 7 (sampleUsable samples) (λ k. by-unless (usable (getD samples k nan)) (BadSample k)) (length samples)
 
@@ -157,13 +157,13 @@ faces-number s =
     (λ u. by-first 8 (faceSpot s side u) (λ v. by-unless (facesAgree s side u v) (FaceMismatch (record { side = side; u = u; v = v }))) (subdivisions s + 1)) (subdivisions s + 1)))
     sideCount
 
-subdivisions-number : (n : ℕ) → Refuses 1 (judgeSubdivisions n)
+pub subdivisions-number : (n : ℕ) → Refuses 1 (judgeSubdivisions n)
 subdivisions-number n = by-unless (leb 1 n && leb n mostSubdivisions) (Subdivisions n)
 
 mask-number : (mask : ℕ) → Refuses 2 (judgeMask mask)
 mask-number mask = by-unless (leb mask mostMask) (Mask mask)
 
-centre-number : (n held : ℕ) → Refuses 4 (judgeCentre n held)
+pub centre-number : (n held : ℕ) → Refuses 4 (judgeCentre n held)
 centre-number n held = by-unless (eqb held (sampleLength n)) (CentreLength (sampleLength n))
 
 pub buffer-number : (wanted held : ℕ) → Refuses 14 (judgeBuffer wanted held)
@@ -211,7 +211,7 @@ reading-numbered bytes samples =
     numbered-append (recordJudges bytes) (drop 7 (readingJudges bytes samples)) (record-numbered bytes)
     (buffer-number (countOf bytes) (length samples) & tt)
 
-point-number : (n : ℕ) (x y z : ℤ) → Refuses 15 (pointJudge n x y z .says)
+pub point-number : (n : ℕ) (x y z : ℤ) → Refuses 15 (pointJudge n x y z .says)
 point-number n x y z =
     by-unless (sampled n (oneUp n x) (oneUp n y) (oneUp n z)) (PointNeverSampled (outsideCount n (oneUp n x) (oneUp n y) (oneUp n z)))
 

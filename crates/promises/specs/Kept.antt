@@ -21,6 +21,8 @@ use Rattle.promises.specs.LargerKept.{larger-kept}
 use Rattle.promises.specs.SheetKept.{sheet-kept}
 use Rattle.promises.specs.RepairKept.{repair-kept}
 use Rattle.promises.specs.WeldKept.{weld-kept}
+use Rattle.promises.specs.LayersKept.{layers-kept}
+use Rattle.promises.specs.LayeredKept.{layered-kept}
 use Rattle.promises.specs.Views.{point, packed-record, subdivisions-apart, blank-apart, viewer-sample}
 
 pub kept : Promises
@@ -55,5 +57,7 @@ kept =
       sheet = sheet-kept;
       repair = repair-kept;
       weld = weld-kept;
+      layers = layers-kept;
+      layered = layered-kept;
       starred = figures-agree;
     }

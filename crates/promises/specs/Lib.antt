@@ -13,6 +13,8 @@ pub mod Former
 pub mod Larger
 pub mod Sheet
 pub mod Repair
+pub mod Layers
+pub mod Layered
 pub mod Orders
 pub mod Points
 pub mod Left
@@ -43,3 +45,5 @@ pub mod VolumeKept
 pub mod LargerKept
 pub mod SheetKept
 pub mod RepairKept
+pub mod LayersKept
+pub mod LayeredKept

@@ -185,6 +185,9 @@ module _ (n : ℕ) (x y z : ℤ) where
   kinded (Face (suc (suc (suc (suc (suc zero)))))) s = across-z true (high-picks n z (s .out-so)) (s .a-in) (s .b-in)
   kinded (Face (suc (suc (suc (suc (suc (suc k))))))) s = absurd s
 
+  pub stands-so : (kind : PlaceKind) → Stands n x y z kind → pointKind n x y z ≡ kind
+  stands-so kind s = kinded kind s .is
+
   told : (kind : PlaceKind) → Stands n x y z kind → Stands n x y z (pointKind n x y z)
   told kind s = subst (Stands n x y z) (sym (kinded kind s .is)) s
 
@@ -216,7 +219,7 @@ module _ (n : ℕ) (x y z : ℤ) where
         (λ at o. told (Face 2) (just at ix (out-in n z (omega (arith, few, o)))))
         (λ at o. told (Face 3) (just at ix (out-in n z (omega (arith, few, o)))))
 
-    stands : Stands n x y z (pointKind n x y z)
+    pub stands : Stands n x y z (pointKind n x y z)
     stands =
         by-axis x (omega (arith, few)) (λ ox. over-y (out-in n x ox))
         (λ at o. told (Face 0) (just at (out-in n y (omega (arith, few, o))) (out-in n z (omega (arith, few, o)))))

@@ -45,6 +45,8 @@ use Rattle.promises.specs.Larger.{LargerPromises}
 use Rattle.promises.specs.Sheet.{SheetPromises}
 use Rattle.promises.specs.Repair.{RepairPromises}
 use Rattle.promises.specs.Weld.{WeldPromises}
+use Rattle.promises.specs.Layers.{LayerPromises}
+use Rattle.promises.specs.Layered.{LayeredPromises}
 
 -- ---- 1. every call is answered
 
@@ -160,5 +162,7 @@ pub record Promises : Type 0 where
   pub sheet : SheetPromises
   pub repair : RepairPromises
   pub weld : WeldPromises
+  pub layers : LayerPromises
+  pub layered : LayeredPromises
   -- what the definitions work out is what document 01 states
   pub starred : map (λ (f : Figure). f .worked) figures ≡ map (λ (f : Figure). f .stated) figures

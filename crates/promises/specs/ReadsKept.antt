@@ -32,7 +32,7 @@ use Rattle.promises.specs.ReadsReached.{alone, alone-mask, alone-costly,
 
 -- ---- the count
 
-mesh-total : (s : Star) → s .mask ≤ mostMask → meshOf s .reads ≡ readsTotal (subdivisions s) (ones (s .mask)) (counts s .vertices)
+pub mesh-total : (s : Star) → s .mask ≤ mostMask → meshOf s .reads ≡ readsTotal (subdivisions s) (ones (s .mask)) (counts s .vertices)
 mesh-total s h =
     let n = subdivisions s in
     omega (
@@ -50,7 +50,7 @@ most-total (suc k) mask =
     let f : 25 * (suc k * suc k) + 84 * suc k - 21 ≡ 25 * (k * k) + 134 * k + 88 = omega arith in
     rw (e, f) (omega arith)
 
-mesh-most : (s : Star) → s .mask ≤ mostMask → meshOf s .reads ≤ mostReads (subdivisions s) (ones (s .mask))
+pub mesh-most : (s : Star) → s .mask ≤ mostMask → meshOf s .reads ≤ mostReads (subdivisions s) (ones (s .mask))
 mesh-most s h = omega (arith, mesh-total s h, enough s h .vertices, most-total (subdivisions s) (s .mask))
 
 -- ---- how large it can be
@@ -81,17 +81,17 @@ module _ (m : Mesh) (lent : Lent) where
   abbrev came : Verdict → Outcome
   came = outcome m (lent .store) (lent .vertices) (lent .triangles)
 
-  came-accepted : (v : Verdict) (c : Counts) → came v .answer ≡ Extraction.Mesh c → came v .reads ≡ m .reads
+  pub came-accepted : (v : Verdict) (c : Counts) → came v .answer ≡ Extraction.Mesh c → came v .reads ≡ m .reads
   unfolding outcome
   came-accepted Passed c e = refl
   came-accepted (Refused q) c e = cc
 
-  came-refused : (v : Verdict) (r : Refusal) → came v .answer ≡ Extraction.Refused r → came v .reads ≡ 0
+  pub came-refused : (v : Verdict) (r : Refusal) → came v .answer ≡ Extraction.Refused r → came v .reads ≡ 0
   unfolding outcome
   came-refused Passed r e = cc
   came-refused (Refused q) r e = refl
 
-  came-most : (v : Verdict) (most : ℕ) → (v ≡ Passed → m .reads ≤ most) → came v .reads ≤ most
+  pub came-most : (v : Verdict) (most : ℕ) → (v ≡ Passed → m .reads ≤ most) → came v .reads ≤ most
   unfolding outcome
   came-most Passed most h = h refl
   came-most (Refused q) most h = omega arith

@@ -6,6 +6,7 @@ use denote.Ref.{now}
 use Rattle.model.specs.Pinned.{pinned}
 use Rattle.sirveshan.proofs.sirveshan_extract.Reads as extract
 use Rattle.sirveshan.proofs.sirveshan_extract_whole.Reads as extract-whole
+use Rattle.sirveshan.proofs.sirveshan_extract_layered.Reads as extract-layered
 use Rattle.sirveshan.proofs.sirveshan_read.Reads as read
 use Rattle.sirveshan.proofs.sirveshan_write.Reads as write
 use Rattle.sirveshan.proofs.sirveshan_write_stl.Reads as write-stl
@@ -13,6 +14,8 @@ use Rattle.sirveshan.proofs.sirveshan_read_stl.Reads as read-stl
 use Rattle.sirveshan.proofs.sirveshan_repair.Reads as repair
 use Rattle.sirveshan.proofs.sirveshan_cut.Reads as cut
 use Rattle.sirveshan.proofs.sirveshan_weld.Reads as weld
+use Rattle.sirveshan.proofs.sirveshan_make_summary.Reads as make-summary
+use Rattle.sirveshan.proofs.sirveshan_set_sample.Reads as set-sample
 use Rattle.sirveshan.proofs.sirveshan_subdivisions.Reads as subdivisions
 use Rattle.sirveshan.proofs.sirveshan_blank.Reads as blank
 use Rattle.sirveshan.proofs.sirveshan_sample.Reads as sample
@@ -33,6 +36,16 @@ pub sirveshan-extract-whole-pinned : (κs : Lfts 6) (a : _) (r r′ : _) (e e′
     × ((now (e .1 .1 .1 .1 .0) ≡ now (e′ .1 .1 .1 .1 .0))
     × ((now (e .1 .1 .1 .1 .1 .0) ≡ now (e′ .1 .1 .1 .1 .1 .0)) × (now (e .1 .1 .1 .1 .1 .1 .0) ≡ now (e′ .1 .1 .1 .1 .1 .1 .0)))))
 sirveshan-extract-whole-pinned κs a r r′ e e′ h k = (
+  λ i. pinned h k i .answer,
+  (λ i. pinned h k i .store, (λ i. pinned h k i .vertices, (λ i. pinned h k i .triangles, λ i. pinned h k i .edges))),
+)
+
+pub sirveshan-extract-layered-pinned : (κs : Lfts 7) (a : _) (r r′ : _) (e e′ : _) → extract-layered.Learnt κs a r e → extract-layered.Learnt κs a r′ e′
+    → (r ≡ r′)
+    × ((now (e .1 .1 .1 .1 .0) ≡ now (e′ .1 .1 .1 .1 .0))
+    × ((now (e .1 .1 .1 .1 .1 .0) ≡ now (e′ .1 .1 .1 .1 .1 .0))
+    × ((now (e .1 .1 .1 .1 .1 .1 .0) ≡ now (e′ .1 .1 .1 .1 .1 .1 .0)) × (now (e .1 .1 .1 .1 .1 .1 .1 .0) ≡ now (e′ .1 .1 .1 .1 .1 .1 .1 .0)))))
+sirveshan-extract-layered-pinned κs a r r′ e e′ h k = (
   λ i. pinned h k i .answer,
   (λ i. pinned h k i .store, (λ i. pinned h k i .vertices, (λ i. pinned h k i .triangles, λ i. pinned h k i .edges))),
 )
@@ -67,6 +80,14 @@ pub sirveshan-weld-pinned : (κs : Lfts 3) (a : _) (r r′ : _) (e e′ : _) →
     → (r ≡ r′) × ((now (e .1 .1 .0) ≡ now (e′ .1 .1 .0)) × ((now (e .1 .1 .1 .0) ≡ now (e′ .1 .1 .1 .0)) × (now (e .1 .1 .1 .1 .0) ≡ now (e′ .1 .1 .1 .1 .0))))
 sirveshan-weld-pinned κs a r r′ e e′ h k =
     (λ i. pinned h k i .answer, (λ i. pinned h k i .vertices, (λ i. pinned h k i .triangles, λ i. pinned h k i .edges)))
+
+pub sirveshan-make-summary-pinned : (κs : Lfts 2) (a : _) (r r′ : _) (e e′ : _) → make-summary.Learnt κs a r e → make-summary.Learnt κs a r′ e′
+    → (r ≡ r′) × (now (e .1 .1 .0) ≡ now (e′ .1 .1 .0))
+sirveshan-make-summary-pinned κs a r r′ e e′ h k = (λ i. pinned h k i .answer, λ i. pinned h k i .summary)
+
+pub sirveshan-set-sample-pinned : (κs : Lfts 2) (a : _) (r r′ : _) (e e′ : _) → set-sample.Learnt κs a r e → set-sample.Learnt κs a r′ e′
+    → (r ≡ r′) × ((now (e .1 .0) ≡ now (e′ .1 .0)) × (now (e .1 .1 .1 .1 .1 .1 .0) ≡ now (e′ .1 .1 .1 .1 .1 .1 .0)))
+sirveshan-set-sample-pinned κs a r r′ e e′ h k = (λ i. pinned h k i .answer, (λ i. pinned h k i .samples, λ i. pinned h k i .summary))
 
 pub sirveshan-subdivisions-pinned : (κs : Lfts 1) (a : _) (r r′ : _) (e e′ : _) → subdivisions.Learnt κs a r e → subdivisions.Learnt κs a r′ e′ → r ≡ r′
 sirveshan-subdivisions-pinned κs a r r′ e e′ h k = pinned h k

@@ -11,6 +11,8 @@ use Rattle.model.specs.declared.PlaceKind.{PlaceKind}
 use Rattle.model.specs.declared.PlaceKind.the-variants.{InBlock, Face}
 use Rattle.model.specs.declared.PointRead.{PointRead}
 use Rattle.model.specs.declared.PointRead.the-variants as PointRead
+use Rattle.model.specs.declared.Verdict.{Verdict}
+use Rattle.model.specs.declared.Verdict.the-variants as Verdict
 use Rattle.model.specs.declared.RecordRead.{RecordRead}
 use Rattle.model.specs.declared.RecordRead.the-variants as RecordRead
 use Rattle.model.specs.declared.RecordWritten.{RecordWritten}
@@ -42,6 +44,7 @@ use Rattle.repair.specs.Definition.{RepairOutcome}
 use Rattle.volume.specs.Definition.{CutOutcome}
 use Rattle.sheet.specs.Definition as Sheet
 use Rattle.weld.specs.Definition as Weld
+use Rattle.layers.specs.Definition.{MakeOutcome, SetOutcome}
 use Rattle.sirveshan.specs.declared.Extracted.{Extracted}
 use Rattle.sirveshan.specs.declared.HeaderRead.{HeaderRead}
 use Rattle.sirveshan.specs.declared.Written.{Written}
@@ -124,6 +127,11 @@ abbrev pub asWeldedCounts : Welded → WeldedCounts
 asWeldedCounts (Welded.Mesh counts) = record { refused = notRefused; counts = counts }
 asWeldedCounts (Welded.Refused r) = record { refused = numbersOf r; counts = record { vertices = 0; triangles = 0 } }
 
+-- a call that has nothing to tell but its refusal
+abbrev pub asJudged : Verdict → Numbers
+asJudged Verdict.Passed = notRefused
+asJudged (Verdict.Refused r) = numbersOf r
+
 -- ---- the answer, and every buffer that is lent to be written
 
 pub record ExtractCall : Type 0 where
@@ -195,3 +203,18 @@ pub record WeldCall : Type 0 where
 
 abbrev pub weldCall : Weld.Outcome → WeldCall
 weldCall o = record { answer = asWeldedCounts (o .answer); vertices = o .vertices; triangles = o .triangles; edges = o .edges }
+
+pub record MakeCall : Type 0 where
+  pub answer : Numbers
+  pub summary : List Float
+
+abbrev pub makeCall : MakeOutcome → MakeCall
+makeCall o = record { answer = asJudged (o .answer); summary = o .summary }
+
+pub record SetCall : Type 0 where
+  pub answer : Numbers
+  pub samples : List Float
+  pub summary : List Float
+
+abbrev pub setCall : SetOutcome → SetCall
+setCall o = record { answer = asJudged (o .answer); samples = o .samples; summary = o .summary }

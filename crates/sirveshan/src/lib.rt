@@ -4,6 +4,7 @@ ghost use mathlib.Core.Path.{_≡_};
 ghost use Rattle.model.specs.Star.{star};
 ghost use Rattle.model.specs.Extraction.{extract};
 ghost use Rattle.model.specs.Edges.{extractWhole};
+ghost use Rattle.model.specs.Layered.{extractLayered};
 ghost use Rattle.model.specs.Record.{readRecord, writeRecord};
 ghost use Rattle.model.specs.Viewer.{subdivisionsAnswer, blankAnswer, sampleAnswer, recordPoint};
 ghost use Rattle.stl.specs.Definition.{writeStl, readStl};
@@ -11,11 +12,15 @@ ghost use Rattle.repair.specs.Definition.{delivery, repair};
 ghost use Rattle.volume.specs.Definition.{cutBlock};
 ghost use Rattle.sheet.specs.Definition.{sheetLine, sheetTotal};
 ghost use Rattle.weld.specs.Definition.{weld};
+ghost use Rattle.layers.specs.Definition.{makeSummary, setSample};
 ghost use Rattle.sirveshan.specs.Calls.{asExtracted, asHeaderRead, asWritten, asStlWritten, asTrianglesRead, asMended, asSamplesCut, kindNumber, asSampled, asWeldedCounts};
 ghost use Rattle.sirveshan.specs.Calls.{extractCall, extractWholeCall, readCall, writeCall, writeStlCall, readStlCall, repairCall, cutCall, weldCall};
 ghost use Rattle.sirveshan.specs.Calls.{lineTold, asLineTold, asTotalTold};
+ghost use Rattle.sirveshan.specs.Calls.{asJudged, makeCall, setCall};
 use grid::transition_sides::SIDES;
 use judge::numbers_of;
+use layers::making::make_summary;
+use layers::setting::set_sample;
 use model::Block;
 use model::Counts;
 use model::Extraction;
@@ -27,6 +32,7 @@ use model::RecordRead;
 use model::RecordWritten;
 use model::Report;
 use model::Vector;
+use model::Verdict;
 use model::Xyz;
 use record::reader::read_record;
 use record::writer::write_record;
@@ -341,6 +347,15 @@ fn as_welded_counts(answer: Welded) -> WeldedCounts
     }
 }
 
+fn as_judged(verdict: Verdict) -> Numbers
+    ensures { λ r. ⌜ r ≡ asJudged verdict ⌝ }
+{
+    match verdict {
+        Verdict::Refused(refusal) => numbers_of(refusal),
+        Verdict::Passed => NOT_REFUSED,
+    }
+}
+
 // The mesh of a block and its finer neighbours.
 #[no_mangle]
 pub extern "C" fn sirveshan_extract(
@@ -375,6 +390,33 @@ pub extern "C" fn sirveshan_extract_whole(
         header,
         centre,
         neighbours,
+        store,
+        vertices,
+        triangles,
+        edges,
+    ))
+}
+
+// The same with a summary by layer, whose layers on one side of the threshold are passed over.
+#[no_mangle]
+pub extern "C" fn sirveshan_extract_layered(
+    header: Header,
+    centre: &[f32],
+    neighbours: &[f32],
+    summary: &[f32],
+    store: &mut [u32],
+    vertices: &mut [f32],
+    triangles: &mut [u32],
+    edges: &mut [u32],
+) -> Extracted
+    ensures { λ r. ⌜ record { answer = r; store = now (store .exit); vertices = now (vertices .exit); triangles = now (triangles .exit); edges = now (edges .exit) }
+        ≡ extractWholeCall (extractLayered (star header (now (centre .entry)) (now (neighbours .entry))) (now (summary .entry)) (now (store .entry)) (now (vertices .entry)) (now (triangles .entry)) (now (edges .entry))) ⌝ }
+{
+    as_extracted(algorithm::extract_layered(
+        header,
+        centre,
+        neighbours,
+        summary,
         store,
         vertices,
         triangles,
@@ -466,6 +508,31 @@ pub extern "C" fn sirveshan_weld(
         ≡ weldCall (weld v t (now (vertices .entry)) (now (triangles .entry)) (now (edges .entry))) ⌝ }
 {
     as_welded_counts(weld::weld(v, t, vertices, triangles, edges))
+}
+
+// The summary by layer of a block's samples, two numbers a layer, in the first places of a lent list.
+#[no_mangle]
+pub extern "C" fn sirveshan_make_summary(n: usize, samples: &[f32], summary: &mut [f32]) -> Numbers
+    ensures { λ r. ⌜ record { answer = r; summary = now (summary .exit) } ≡ makeCall (makeSummary n (now (samples .entry)) (now (summary .entry))) ⌝ }
+{
+    as_judged(make_summary(n, samples, summary))
+}
+
+// One sample of a block set, and the layers of its summary that hold the point brought up to date.
+#[no_mangle]
+pub extern "C" fn sirveshan_set_sample(
+    n: usize,
+    samples: &mut [f32],
+    x: i32,
+    y: i32,
+    z: i32,
+    value: f32,
+    summary: &mut [f32],
+) -> Numbers
+    ensures { λ r. ⌜ record { answer = r; samples = now (samples .exit); summary = now (summary .exit) }
+        ≡ setCall (setSample n (now (samples .entry)) x y z value (now (summary .entry))) ⌝ }
+{
+    as_judged(set_sample(n, samples, x, y, z, value, summary))
 }
 
 // The viewer's calls.

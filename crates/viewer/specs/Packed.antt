@@ -5,7 +5,7 @@ use mathlib.Core.Bool.{Bool, cond}
 use mathlib.Core.List.{List}
 use lib.Dec.{lit≤}
 use Rattle.model.specs.declared.Refusal.{Refusal}
-use Rattle.model.specs.declared.Refusal.the-variants.{Subdivisions, Mask, Measure, CentreLength, MissingNeighbour, NeighboursTooLong, BadSample, FaceMismatch, IndexStoreTooShort, NoRoom, RecordLength, Version, SampleCount, BufferTooShort, PointNeverSampled, StlLength, NoVertex, BadFiller, ChangesTooShort, VolumeSize, VolumeLength, FirstPoint, EdgesTooShort}
+use Rattle.model.specs.declared.Refusal.the-variants.{Subdivisions, Mask, Measure, CentreLength, MissingNeighbour, NeighboursTooLong, BadSample, FaceMismatch, IndexStoreTooShort, NoRoom, RecordLength, Version, SampleCount, BufferTooShort, PointNeverSampled, StlLength, NoVertex, BadFiller, ChangesTooShort, VolumeSize, VolumeLength, FirstPoint, EdgesTooShort, LayerDiffers}
 use Rattle.model.specs.declared.Verdict.{Verdict}
 use Rattle.model.specs.declared.Verdict.the-variants.{Passed, Refused}
 use Rattle.model.specs.Refusals.{numbersOf}
@@ -38,6 +38,7 @@ number-small VolumeSize = lit≤ tt
 number-small VolumeLength = lit≤ tt
 number-small FirstPoint = lit≤ tt
 number-small (EdgesTooShort wanted) = lit≤ tt
+number-small (LayerDiffers layer) = lit≤ tt
 
 module _ (base : ℕ) (v : Verdict) (answer : ℕ) where
   pub packed-refused : (r : Refusal) → v ≡ Refused r → base + numbersOf r .number ≡ packed base v answer

@@ -16,7 +16,7 @@ use Rattle.algorithm.proofs.extract_mesh.Tie as tie
 
 -- the entry, from the place where the mesh is counted
 abbrev start : tie.After-count-mesh → tie.Start
-start k = k .before .before .before .before .before .before .before
+start k = k .before .before .before .before .before .before .before .before
 
 abbrev starOf : tie.Start → Star
 starOf b = star (b .args .header) (b .args .centre .now) (b .args .neighbours .now)
@@ -39,7 +39,7 @@ returns c =
     let k = n .before in
     let a = start k .args in
     let s = starOf (start k) in
-    rw (c .refused .ensures) (no-list (a .numbered) s (a .store .now) (a .vertices .now) (a .triangles .now) (a .edges .now) (k .count-mesh .result) (k .count-mesh .ensures .1) (n .judge-numbers .result) (n .judge-numbers .ensures) _ (cc))
+    rw (c .refused .ensures) (no-list (a .numbered) s (a .summary .now) (a .store .now) (a .vertices .now) (a .triangles .now) (a .edges .now) (k .count-mesh .result) (k .count-mesh .ensures .1) (n .judge-numbers .result) (n .judge-numbers .ensures) _ (cc))
 
 enum-told : tie.Need-enum-told
 enum-told c = search needs
@@ -64,7 +64,7 @@ returns-2 c =
     let k = n .before in
     let a = start k .args in
     let s = starOf (start k) in
-    rw (c .refused2 .ensures) (no-room (a .numbered) s (a .store .now) (a .vertices .now) (a .triangles .now) (a .edges .now) (k .count-mesh .result) (k .count-mesh .ensures .1) (n .judge-numbers .result) (n .judge-numbers .ensures) (listed (r .before))
+    rw (c .refused2 .ensures) (no-room (a .numbered) s (a .summary .now) (a .store .now) (a .vertices .now) (a .triangles .now) (a .edges .now) (k .count-mesh .result) (k .count-mesh .ensures .1) (n .judge-numbers .result) (n .judge-numbers .ensures) (listed (r .before))
     (r .judge-room .result) (r .judge-room .ensures) _ (cc))
 
 enum-told-2 : tie.Need-enum-told-2
@@ -99,7 +99,7 @@ room c =
     let s = starOf (start (counting c)) in
     let r = c .before .before in
     let n = r .before .before .before in
-    has-room (a .numbered) s (a .store .now) (a .vertices .now) (a .triangles .now) (a .edges .now) (k .result) (k .ensures .1) (n .judge-numbers .result) (n .judge-numbers .ensures) (listed (r .before)) (r .judge-room .result) (r .judge-room .ensures) (passed c)
+    has-room (a .numbered) s (a .summary .now) (a .store .now) (a .vertices .now) (a .triangles .now) (a .edges .now) (k .result) (k .ensures .1) (n .judge-numbers .result) (n .judge-numbers .ensures) (listed (r .before)) (r .judge-room .result) (r .judge-room .ensures) (passed c)
 
 -- the further list has the places that are written
 long : (c : tie.After-enum-told2) →
@@ -121,52 +121,42 @@ exact c =
     let s = starOf b in
     let r = c .before .before .before in
     let n = r .before .before .before in
-    parts (a .numbered) s (a .store .now) (a .vertices .now) (a .triangles .now) (a .edges .now) (k .result) (k .ensures .1) (n .judge-numbers .result) (n .judge-numbers .ensures) (listed (r .before)) (r .judge-room .result) (r .judge-room .ensures) (passed (c .before))
-    (c .store-length .result) (c .store-length .ensures) (k .ensures .0) (b .pre .1)
+    parts (a .numbered) s (a .summary .now) (a .store .now) (a .vertices .now) (a .triangles .now) (a .edges .now) (k .result) (k .ensures .1) (n .judge-numbers .result) (n .judge-numbers .ensures) (listed (r .before)) (r .judge-room .result) (r .judge-room .ensures) (passed (c .before))
+    (c .store-length .result) (c .store-length .ensures) (k .ensures .0) (b .pre .1 .1)
 
 -- the store's part, from the place where it is measured
 store-long : (c : tie.After-store-length) → c .store-length .result ≤ length (start (counting (c .before)) .args .store .now)
-store-long c = omega (arith, c .store-length .ensures, start (counting (c .before)) .pre .1)
-
--- where it is measured, and where all has passed, from where it is told how many numbers are asked for
-abbrev measured : tie.After-numbers-asked → tie.After-store-length
-measured c = c .before .before .before
-
-abbrev past : tie.After-numbers-asked → tie.After-enum-told2
-past c = measured c .before
+store-long c = omega (arith, c .store-length .ensures, start (counting (c .before)) .pre .1 .1)
 
 slice-relend-prefix-write-mesh : tie.Need-slice-relend-prefix-write-mesh
-slice-relend-prefix-write-mesh c = store-long (measured c)
+slice-relend-prefix-write-mesh c = store-long (c .before .before .before)
 
 slice-aggregate-write-mesh : tie.Need-slice-aggregate-write-mesh
-slice-aggregate-write-mesh c = sym (length-take-le _ _ (store-long (measured (c .before))))
+slice-aggregate-write-mesh c = sym (length-take-le _ _ (store-long (c .before .before .before .before)))
 
 slice-relend-prefix-write-mesh-2 : tie.Need-slice-relend-prefix-write-mesh-2
-slice-relend-prefix-write-mesh-2 c = room (past (c .before)) .0
+slice-relend-prefix-write-mesh-2 c = room (c .before .before .before .before .before) .0
 
 slice-aggregate-write-mesh-2 : tie.Need-slice-aggregate-write-mesh-2
-slice-aggregate-write-mesh-2 c = sym (length-take-le _ _ (room (past (c .before .before)) .0))
+slice-aggregate-write-mesh-2 c = sym (length-take-le _ _ (room (c .before .before .before .before .before .before) .0))
 
 slice-relend-prefix-write-mesh-3 : tie.Need-slice-relend-prefix-write-mesh-3
-slice-relend-prefix-write-mesh-3 c = room (past (c .before .before)) .1
+slice-relend-prefix-write-mesh-3 c = room (c .before .before .before .before .before .before) .1
 
 slice-aggregate-write-mesh-3 : tie.Need-slice-aggregate-write-mesh-3
-slice-aggregate-write-mesh-3 c = sym (length-take-le _ _ (room (past (c .before .before .before)) .1))
-
--- the numbers' part
-numbers-long : (c : tie.After-numbers-asked) → c .numbers-asked .result ≤ length (start (counting (past c)) .args .edges .now)
-numbers-long c = omega (arith, c .numbers-asked .ensures, long (past c))
+slice-aggregate-write-mesh-3 c = sym (length-take-le _ _ (room (c .before .before .before .before .before .before .before) .1))
 
 slice-relend-prefix-write-mesh-4 : tie.Need-slice-relend-prefix-write-mesh-4
-slice-relend-prefix-write-mesh-4 c = numbers-long (c .before .before .before)
+slice-relend-prefix-write-mesh-4 c = omega (arith, c .before .before .before .numbers-asked .ensures, long (c .before .before .before .before .before .before .before))
 
 slice-aggregate-write-mesh-4 : tie.Need-slice-aggregate-write-mesh-4
-slice-aggregate-write-mesh-4 c = sym (length-take-le _ _ (numbers-long (c .before .before .before .before)))
+slice-aggregate-write-mesh-4 c = sym (length-take-le _ _ (omega (arith, c .before .before .before .before .numbers-asked .ensures, long (c .before .before .before .before .before .before .before .before))))
 
 write-mesh-requires : tie.Need-write-mesh-requires
 write-mesh-requires c κs =
-    let place = measured (c .before .before .before .before) in
-    (start (counting (place .before)) .pre .0, exact place)
+    let place = c .before .before .before .before .before .before .before in
+    let pre = start (counting (place .before)) .pre in
+    (pre .0, (pre .1 .0, exact place))
 
 same-length : tie.Need-same-length
 same-length c = search needs
@@ -184,7 +174,7 @@ returns-3 : tie.Need-returns-3
 returns-3 c =
     let written = c .before .before .before .before .before .before .before .before in
     let asked = written .before .before .before .before .before in
-    let place = measured asked in
+    let place = asked .before .before .before in
     let told = place .before in
     let b = start (counting told) in
     let a = b .args in
@@ -195,13 +185,13 @@ returns-3 c =
     let w = written .write-mesh in
     let count-is = asked .numbers-asked .ensures in
     rw count-is
-    (done (a .numbered) s (a .store .now) (a .vertices .now) (a .triangles .now) (a .edges .now) (k .result) (k .ensures .1) (n .judge-numbers .result) (n .judge-numbers .ensures) (listed (r .before)) (r .judge-room .result) (r .judge-room .ensures) (passed told)
+    (done (a .numbered) s (a .summary .now) (a .store .now) (a .vertices .now) (a .triangles .now) (a .edges .now) (k .result) (k .ensures .1) (n .judge-numbers .result) (n .judge-numbers .ensures) (listed (r .before)) (r .judge-room .result) (r .judge-room .ensures) (passed told)
     (place .store-length .result) (place .store-length .ensures) _ _ _ _ _
     (exact-still {edges₀ = a .edges .now} {edges = a .edges .now}
-    (record { vertices-same = w .kept .1 .1 .1 .1 .0; triangles-same = w .kept .1 .1 .1 .1 .1 .0; store-same = w .kept .1 .1 .1 .0; edges-same = refl })
+    (record { vertices-same = w .kept .1 .1 .1 .1 .1 .0; triangles-same = w .kept .1 .1 .1 .1 .1 .1 .0; store-same = w .kept .1 .1 .1 .1 .0; edges-same = refl })
     (exact place))
     (w .ensures .0) (w .ensures .1 .0)
-    (w .kept .1 .1 .1 .1 .1 .1 .0 ∙ length-take-le _ _ (numbers-long asked) ∙ count-is)
+    (w .kept .1 .1 .1 .1 .1 .1 .1 .0 ∙ length-take-le _ _ (omega (arith, count-is, long told)) ∙ count-is)
     (w .ensures .1 .1))
 
 pub extract-mesh-spec : {M : Type 1} → statement M

@@ -5,7 +5,7 @@ use lib.ListN.{length}
 use Rattle.model.specs.declared.Verdict.the-variants.{Passed}
 use Rattle.model.specs.Star.{Star, star}
 use Rattle.algorithm.specs.Passes.{judged}
-use Rattle.algorithm.proofs.Answers.{shaped, store-held, refused, passed}
+use Rattle.algorithm.proofs.Answers.{shaped, trusted-there, store-held, refused, passed}
 use Rattle.algorithm.proofs.extract_numbered.Statement.{statement}
 use Rattle.algorithm.proofs.extract_numbered.Tie as tie
 
@@ -13,7 +13,7 @@ use Rattle.algorithm.proofs.extract_numbered.Tie as tie
 abbrev start : tie.After-judge → tie.Start
 start c =
     let lists = c .before .before .before .before .before in
-    lists .before .before
+    lists .before .before .before
 
 abbrev starOf : tie.Start → Star
 starOf b = let a = b .args in star (a .header) (a .centre .now) (a .neighbours .now)
@@ -31,7 +31,7 @@ returns : tie.Need-returns
 returns c =
     let b = start (c .before .before .before .before) in
     let a = b .args in
-    rw (c .refused .ensures) (refused (a .numbered) (starOf b) (a .store .now) (a .vertices .now) (a .triangles .now) (a .edges .now) _ (cc))
+    rw (c .refused .ensures) (refused (a .numbered) (starOf b) (a .summary .now) (a .store .now) (a .vertices .now) (a .triangles .now) (a .edges .now) (a .layered) _ (cc))
 
 enum-told : tie.Need-enum-told
 enum-told c = search needs
@@ -41,13 +41,19 @@ module _ (c : tie.After-enum-told) where
   abbrev entry : tie.Start
   entry = start (c .before .before)
 
-  judged-passed : judged (starOf entry) (length (entry .args .store .now)) ≡ Passed
+  judged-passed : let a = entry .args in judged (a .layered) (starOf entry) (a .summary .now) (length (a .store .now)) ≡ Passed
   judged-passed = cc
 
 extract-mesh-requires : tie.Need-extract-mesh-requires
 extract-mesh-requires c κs =
-    let e = judged-passed (c .before .before .before .before) in
-    (shaped _ _ e, store-held _ _ e)
+    let told = c .before .before .before .before in
+    let a = entry told .args in
+    let s = starOf (entry told) in
+    let held = length (a .store .now) in
+    let e = judged-passed told in (
+      shaped (a .layered) s (a .summary .now) held e,
+      (trusted-there (a .layered) s (a .summary .now) held e, store-held (a .layered) s (a .summary .now) held e),
+    )
 
 same-length : tie.Need-same-length
 same-length c = search needs
@@ -67,7 +73,7 @@ returns-2 c =
     let extracted = two-back .before .before .before .before in
     let told = extracted .before .before .before .before .before in
     let a = entry told .args in
-    rw (passed (a .numbered) (starOf (entry told)) (a .store .now) (a .vertices .now) (a .triangles .now) (a .edges .now) (judged-passed told))
+    rw (passed (a .numbered) (starOf (entry told)) (a .summary .now) (a .store .now) (a .vertices .now) (a .triangles .now) (a .edges .now) (a .layered) (judged-passed told))
     (extracted .extract-mesh .ensures)
 
 pub extract-numbered-spec : {M : Type 1} → statement M

@@ -16,7 +16,7 @@ plus-requires c κs = search needs
 
 returns : tie.Need-returns
 returns c =
-    let a = c .before .before .before .before .before .args in
+    let a = c .before .before .before .before .before .before .args in
     let regular = c .before .before .count-regular-cells .ensures in
     let transition = c .before .count-transition-cells .ensures in
     rw (c .plus .ensures)

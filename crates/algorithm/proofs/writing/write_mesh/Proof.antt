@@ -16,7 +16,7 @@ abbrev start : tie.After-clear → tie.Start
 start c =
     let buffers = c .before .before in
     let lists = buffers .before .before .before .before in
-    lists .before .before
+    lists .before .before .before
 
 -- where the fractions are made, from where the regular cells are to be written, and where it is cleared
 abbrev halved : tie.After-write-regular-cells-arg4 → tie.After-fractions-of
@@ -43,11 +43,14 @@ write-regular-cells-requires c κs =
     let made = halved c in
     let empty = cleared made in
     let b = start empty in
-    let fits = b .pre .1 .fits in (
+    let fits = b .pre .1 .1 .fits in (
       (b .pre .0, made .fractions-of .ensures),
       (
-        fits-still {edges₀ = b .args .edges .now} {edges = b .args .edges .now} (record { vertices-same = refl; triangles-same = refl; store-same = empty .clear .kept .0; edges-same = refl }) fits,
-        empty .clear .ensures ∙ ap (λ (k : ℕ). replicate k 0) (fits .store-fits),
+        b .pre .1 .0,
+        (
+          fits-still {edges₀ = b .args .edges .now} {edges = b .args .edges .now} (record { vertices-same = refl; triangles-same = refl; store-same = empty .clear .kept .0; edges-same = refl }) fits,
+          empty .clear .ensures ∙ ap (λ (k : ℕ). replicate k 0) (fits .store-fits),
+        ),
       ),
     )
 
@@ -56,17 +59,17 @@ abbrev began : tie.After-write-regular-cells → tie.Start
 began c = start (cleared (halved (c .before)))
 
 same : (c : tie.After-write-regular-cells) → let a = began c .args in let w = c .write-regular-cells in
-    let after = w .last .1 .1 .1 .1 in
+    let after = w .last .1 .1 .1 .1 .1 in
     SameLengths (a .vertices .now) (after .1 .0) (a .triangles .now) (after .1 .1 .0) (a .store .now) (after .0) (a .edges .now) (after .1 .1 .1 .0)
 same c =
-    let kept = c .write-regular-cells .kept .1 .1 .1 .1 in
+    let kept = c .write-regular-cells .kept .1 .1 .1 .1 .1 in
     record { vertices-same = kept .1 .0; triangles-same = kept .1 .1 .0; store-same = kept .0 ∙ cleared (halved (c .before)) .clear .kept .0; edges-same = kept .1 .1 .1 .0 }
 
 write-transition-cells-requires : tie.Need-write-transition-cells-requires
 write-transition-cells-requires c κs =
     let r = regular c in
     let b = began r in
-    ((b .pre .0, halved (r .before) .fractions-of .ensures), (fits-still (same r) (b .pre .1 .fits), (r .write-regular-cells .ensures .0, r .write-regular-cells .ensures .1)))
+    ((b .pre .0, halved (r .before) .fractions-of .ensures), (fits-still (same r) (b .pre .1 .1 .fits), (r .write-regular-cells .ensures .0, r .write-regular-cells .ensures .1 .few)))
 
 -- where all cells are written; there too the buffers are as long as they were
 abbrev written : tie.After-struct-known → tie.After-write-transition-cells
@@ -85,7 +88,7 @@ add-result : tie.Need-add-result
 add-result c =
     let t = written c in
     let w = t .write-transition-cells .ensures in
-    omega (arith, w .1 .few, w .0 .read-so-far, w .0 .vertex-count, began (regular (t .before)) .pre .1 .fits .vertices-fit .short)
+    omega (arith, w .1 .few, w .0 .read-so-far, w .0 .vertex-count, began (regular (t .before)) .pre .1 .1 .fits .vertices-fit .short)
 
 same-length : tie.Need-same-length
 same-length c = same-still (written c) .store-same
@@ -102,8 +105,10 @@ same-length-4 c = same-still (written c) .edges-same
 returns : tie.Need-returns
 returns c =
     let t = written c in
+    let r = regular (t .before) in
     let w = t .write-transition-cells .ensures in
-    (holds-all _ _ _ _ _ _ (exact-still (same-still t) (began (regular (t .before)) .pre .1)) (w .0), (read-all _ _ _ _ _ _ _ (w .1) (w .0), w .0 .numbered))
+    let pre = began r .pre in
+    (holds-all _ _ _ _ _ _ (exact-still (same-still t) (pre .1 .1)) (w .0), (read-all _ _ _ _ _ _ _ _ _ (pre .1 .0) (r .write-regular-cells .ensures .1) (w .1) (w .0), w .0 .numbered))
 
 pub write-mesh-spec : {M : Type 1} → statement M
 write-mesh-spec =

@@ -8,8 +8,10 @@ use mathlib.Core.List.{[]}
 use lib.ListN.{length, length-replicate}
 use Rattle.model.specs.Limits.{mostSubdivisions, sideCount}
 use Rattle.model.specs.Sides.{named}
+use Rattle.laws.specs.Steps.{total}
 use Rattle.model.specs.Star.{Star, star}
 use Rattle.model.specs.Mesh.{transitionTo}
+use Rattle.model.specs.Reads.{sideReads}
 use Rattle.cases.specs.Sheets.{sheetPlaces}
 use Rattle.cells.specs.declared.SheetIndex.the-variants.{Side}
 use Rattle.algorithm.specs.Passes.{Held, Holds, ReadTo, SameLengths}
@@ -26,7 +28,7 @@ Inv-loop header fractions centre neighbours store₀ vertices₀ triangles₀ ed
     × (((length cases ≡ sheetPlaces) × (length marks ≡ sheetPlaces))
     × (SameLengths vertices₀ vertices triangles₀ triangles store₀ store edges₀ edges
     × (Holds (transitionTo (star header centre neighbours) side 0 0) counts vertices triangles store edges
-    × ReadTo (transitionTo (star header centre neighbours) side 0 0) (mostSubdivisions + side) reads)))
+    × ReadTo (reads₀ + total (sideReads (star header centre neighbours)) side) (mostSubdivisions + side) reads)))
 
 abbrev μ-loop : tie.MeasureT-loop
 μ-loop header fractions centre neighbours store₀ vertices₀ triangles₀ edges₀ mask classes cells codes cases₀ marks₀ counts₀ reads₀ side₀ none store vertices triangles edges cases marks counts reads side =
@@ -179,7 +181,7 @@ loop-again c =
               record { vertices-same = omega (arith, w .kept); triangles-same = omega (arith, w .kept); store-same = omega (arith, w .kept); edges-same = omega (arith, w .kept) },
           (
             rw (← transition-skip s (l .side + 1) _ next) (w .ensures),
-            read-side s (l .side) _ (l .reads) _ (l .inv .0 .1 (below here)) next (told .0) (told .1) (l .inv .1 .1 .1 .1),
+            read-side s _ (l .side) _ (l .reads) _ (l .inv .0 .1 (below here)) next (told .0) (told .1) (l .inv .1 .1 .1 .1),
           ),
         ),
       ),
@@ -202,7 +204,7 @@ returns c =
     let b = c .before .before .before .before .before .before .before .before .before .before .before .before .before in
     let l = c .before .loop in
     let end : l .side ≡ sideCount = omega arith in
-    (rw (← transition-end (starOf b) (l .side) end) (l .inv .1 .1 .1 .0), read-sides (starOf b) (l .side) (l .reads) end (l .inv .1 .1 .1 .1))
+    (rw (← transition-end (starOf b) (l .side) end) (l .inv .1 .1 .1 .0), read-sides (starOf b) _ (l .side) (l .reads) end (l .inv .1 .1 .1 .1))
 
 pub write-named-sides-spec : {M : Type 1} → statement M
 write-named-sides-spec =

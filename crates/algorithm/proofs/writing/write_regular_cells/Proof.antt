@@ -1,39 +1,44 @@
--- `writing::write_regular_cells` meets its contract: the mesh grows by one layer in each turn, and what its case numbers read is counted.
-use Prim.Native.Nat.{ℕ, _-_, _≤_}
+-- `writing::write_regular_cells` meets its contract: the mesh grows by one layer in each turn, the layers that are passed over make nothing, and what the case
+-- numbers of the others read is counted.
+use Prim.Native.Nat.{ℕ, _+_, _-_, _≤_, _<_}
 use mathlib.Core.Path.{_≡_, refl, sym, _∙_}
+use mathlib.Core.Bool.{false}
 use native.Mathlib.Omega.{arith}
 use borrow.Author.Needs.{needs}
 use mathlib.Core.List.{[]}
 use lib.ListN.{length, length-replicate}
+use Rattle.laws.specs.Steps.{total}
 use Rattle.model.specs.Star.{Star, star}
 use Rattle.model.specs.Mesh.{regularTo}
+use Rattle.model.specs.Layers.{passedOver}
+use Rattle.model.specs.LayeredReads.{layerReads}
 use Rattle.cases.specs.Sheets.{sheetPlaces}
 use Rattle.cells.specs.declared.SheetIndex.the-variants.{Layer}
 use Rattle.algorithm.specs.Passes.{Held, Holds, ReadTo, SameLengths}
 use Rattle.algorithm.specs.Numbers.{held-sheeted}
-use Rattle.algorithm.proofs.Walk.{regular-start, regular-end}
-use Rattle.algorithm.proofs.Holding.{holds-none, same-then, fits-still}
+use Rattle.algorithm.proofs.Walk.{regular-start, regular-end, regular-skip}
+use Rattle.algorithm.proofs.Holding.{holds-none, holds-same, same-then, fits-still}
 use Rattle.algorithm.proofs.Reading.{read-none, read-layer, read-layers}
 use Rattle.algorithm.proofs.writing.write_regular_cells.Statement.{statement}
 use Rattle.algorithm.proofs.writing.write_regular_cells.Tie as tie
 
 abbrev Inv-loop : tie.InvT-loop
-Inv-loop header fractions centre neighbours store₀ vertices₀ triangles₀ edges₀ n classes cells codes cases₀ marks₀ counts₀ reads₀ x₀ none store vertices triangles edges cases marks counts reads x =
-    (x ≤ n)
+Inv-loop header fractions centre neighbours summary store₀ vertices₀ triangles₀ edges₀ n classes cells codes cases₀ marks₀ counts₀ reads₀ x₀ none store vertices triangles edges cases marks counts reads x =
+    ((x ≤ n) × (x < n → passedOver (header .threshold) summary x ≡ false))
     × (((length cases ≡ sheetPlaces) × (length marks ≡ sheetPlaces))
     × (SameLengths vertices₀ vertices triangles₀ triangles store₀ store edges₀ edges
     × (Holds (regularTo (star header centre neighbours) x 0 0) counts vertices triangles store edges
-    × ReadTo (regularTo (star header centre neighbours) x 0 0) x reads)))
+    × ReadTo (total (layerReads (star header centre neighbours) summary) x) x reads)))
 
 abbrev μ-loop : tie.MeasureT-loop
-μ-loop header fractions centre neighbours store₀ vertices₀ triangles₀ edges₀ n classes cells codes cases₀ marks₀ counts₀ reads₀ x₀ none store vertices triangles edges cases marks counts reads x = n - x
+μ-loop header fractions centre neighbours summary store₀ vertices₀ triangles₀ edges₀ n classes cells codes cases₀ marks₀ counts₀ reads₀ x₀ none store vertices triangles edges cases marks counts reads x = n - x
 
 -- the entry, from a turn of the loop
 abbrev Entry : Type 0
 Entry = tie.Start Inv-loop μ-loop
 
 abbrev start : tie.In-loop Inv-loop μ-loop → Entry
-start c = c .before .before .before .before .before .before .before .before .before .before .before
+start c = c .before .before .before .before .before .before .before .before .before .before .before .before .before
 
 abbrev starOf : Entry → Star
 starOf b = star (b .args .header) (b .args .centre .now) (b .args .neighbours .now)
@@ -67,18 +72,23 @@ regular-cell-data-requires c κs = search needs
 regular-vertex-data-requires : tie.Need-regular-vertex-data-requires Inv-loop μ-loop
 regular-vertex-data-requires c κs = search needs
 
+next-layer-requires : tie.Need-next-layer-requires Inv-loop μ-loop
+next-layer-requires c κs = (omega arith, c .before .before .before .before .before .before .before .before .before .before .pre .0 .0 .few)
+
 loop-holds : tie.Need-loop-holds Inv-loop μ-loop
 loop-holds c =
-    let b = c .before .before .before .before .before .before .before .before .before in
-    let a = b .args in (
-      omega arith,
+    let b = c .before .before .before .before .before .before .before .before .before .before .before in
+    let a = b .args in
+    let next = c .next-layer .ensures in (
+      (next .within, next .not-over),
       (
         (length-replicate {A = ℕ} sheetPlaces 0, length-replicate {A = ℕ} sheetPlaces 0),
         (
           record { vertices-same = refl; triangles-same = refl; store-same = refl; edges-same = refl },
           (
-            rw (regular-start (starOf b), b .pre .1 .1) (holds-none (a .header .block .subdivisions) (a .vertices .now) (a .triangles .now) (a .edges .now)),
-            read-none (starOf b),
+            holds-same (regular-skip (starOf b) (a .summary .now) (b .pre .1 .0) 0 _ next)
+                (rw (regular-start (starOf b), b .pre .1 .1 .1) (holds-none (a .header .block .subdivisions) (a .vertices .now) (a .triangles .now) (a .edges .now))),
+            read-none (starOf b) (a .summary .now) _ next,
           ),
         ),
       ),
@@ -125,7 +135,7 @@ write-sheet-requires c κs =
     let filled = c .before .before .before .before .before .before .before .before .before .before .before .before in
     let here = turn filled in
     let long = still-long filled in
-    let codes = here .before .before in
+    let codes = here .before .before .before in
     let b = start here in
     let l = here .before .loop in (
       record { classes-are = codes .before .before .regular-cell-class .ensures; cells-are = codes .before .regular-cell-data .ensures; codes-are = codes .regular-vertex-data .ensures },
@@ -133,34 +143,51 @@ write-sheet-requires c κs =
         b .pre .0,
         (
           (held-sheeted (starOf b) (Layer (l .x)) (held filled) (b .pre .0 .0 .few) (long .0) (long .1), held filled),
-          (omega (arith, here .loop-test .taken), (fits-still (l .inv .1 .1 .0) (b .pre .1 .0), l .inv .1 .1 .1 .0)),
+          (omega (arith, here .loop-test .taken), (fits-still (l .inv .1 .1 .0) (b .pre .1 .1 .0), l .inv .1 .1 .1 .0)),
         ),
       ),
     )
 
-add-x : tie.Need-add-x Inv-loop μ-loop
-add-x c =
-    let here = turn (c .before .before .before .before .before .before .before .before .before .before .before .before .before .before .before .before .before .before .before .before .before) in
+-- the turn, from the place where the next layer is looked for
+abbrev ended : tie.After-write-sheet Inv-loop μ-loop → tie.In-loop Inv-loop μ-loop
+ended c = turn (c .before .before .before .before .before .before .before .before .before .before .before .before .before)
+
+add-next-layer : tie.Need-add-next-layer Inv-loop μ-loop
+add-next-layer c =
+    let here = ended (c .before .before .before .before .before .before .before .before) in
     omega (arith, here .loop-test .taken, start here .pre .0 .0 .few)
 
+next-layer-requires-2 : tie.Need-next-layer-requires-2 Inv-loop μ-loop
+next-layer-requires-2 c κs =
+    let here = ended (c .before .before .before .before .before .before .before .before) in
+    (omega (arith, here .loop-test .taken), start here .pre .0 .0 .few)
+
 loop-less : tie.Need-loop-less Inv-loop μ-loop
-loop-less c = omega (arith, turn (c .before .before .before .before .before .before .before .before .before .before .before .before .before .before .before .before .before .before .before .before .before) .loop-test .taken)
+loop-less c =
+    omega (arith, c .next-layer2 .ensures .ordered, ended (c .before .before .before .before .before .before .before .before .before) .loop-test .taken)
 
 loop-again : tie.Need-loop-again Inv-loop μ-loop
 loop-again c =
-    let put = c .before .before .before .before .before .before .before .before in
+    let put = c .before .before .before .before .before .before .before .before .before in
     let filled = put .before .before .before .before .before .before .before .before .before .before .before .before .before in
     let here = turn filled in
     let l = here .before .loop in
+    let b = start here in
+    let s = starOf b in
+    let summary = b .args .summary .now in
     let told = filled .layer-cases .ensures .1 .1 in
-    let w = put .write-sheet in (
-      omega (arith, here .loop-test .taken),
+    let w = put .write-sheet in
+    let next = c .next-layer2 .ensures in (
+      (next .within, next .not-over),
       (
         still-long filled,
         (
           same-then (l .inv .1 .1 .0)
               record { vertices-same = omega (arith, w .kept); triangles-same = omega (arith, w .kept); store-same = omega (arith, w .kept); edges-same = omega (arith, w .kept) },
-          (w .ensures, read-layer (starOf (start here)) (l .x) (l .reads) _ (told .0) (told .1) (l .inv .1 .1 .1 .1)),
+          (
+            holds-same (regular-skip s summary (b .pre .1 .0) (l .x + 1) _ next) (w .ensures),
+            read-layer s summary (l .x) _ (l .reads) _ (l .inv .0 .1 (omega (arith, here .loop-test .taken))) next (told .0) (told .1) (l .inv .1 .1 .1 .1),
+          ),
         ),
       ),
     )
@@ -179,11 +206,11 @@ same-length-4 c = c .before .loop .inv .1 .1 .0 .edges-same
 
 returns : tie.Need-returns Inv-loop μ-loop
 returns c =
-    let b = c .before .before .before .before .before .before .before .before .before .before .before in
+    let b = c .before .before .before .before .before .before .before .before .before .before .before .before .before in
     let l = c .before .loop in
-    let end : l .x ≡ b .args .header .block .subdivisions = omega arith in (
+    let end : l .x ≡ b .args .header .block .subdivisions = omega (arith, l .inv .0 .0) in (
       rw (← regular-end (starOf b) (l .x) end) (l .inv .1 .1 .1 .0),
-      read-layers (starOf b) (l .x) (l .reads) end (omega (arith, b .pre .0 .0 .few)) (l .inv .1 .1 .1 .1),
+      read-layers (starOf b) (b .args .summary .now) (l .x) (l .reads) end (omega (arith, b .pre .0 .0 .few)) (l .inv .1 .1 .1 .1),
     )
 
 pub write-regular-cells-spec : {M : Type 1} → statement M
@@ -195,6 +222,7 @@ write-regular-cells-spec =
     regular-cell-class-requires
     regular-cell-data-requires
     regular-vertex-data-requires
+    next-layer-requires
     loop-holds
     slice-aggregate-layer-cases
     slice-aggregate-layer-cases-2
@@ -207,7 +235,8 @@ write-regular-cells-spec =
     slice-aggregate-write-sheet-5
     slice-aggregate-write-sheet-6
     write-sheet-requires
-    add-x
+    add-next-layer
+    next-layer-requires-2
     loop-less
     loop-again
     same-length

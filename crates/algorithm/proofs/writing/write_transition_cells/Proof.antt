@@ -12,7 +12,7 @@ unfolding meshOf
 returns c =
     let b = c .before .before .before .before .before .before .before .before in
     let s = star (b .args .header) (b .args .centre .now) (b .args .neighbours .now) in
-    (rw (no-sides s (c .if1 .taken) (regularMesh s)) (b .pre .1 .1 .0), read-unnamed s (c .if1 .taken) _ (b .pre .1 .1 .1))
+    (rw (no-sides s (c .if1 .taken) (regularMesh s)) (b .pre .1 .1 .0), read-unnamed s _ (c .if1 .taken) (b .pre .1 .1 .1))
 
 write-named-sides-requires : tie.Need-write-named-sides-requires
 write-named-sides-requires c κs = search needs

@@ -1,0 +1,12 @@
+pub mod Definition
+pub mod Order
+pub mod Best
+pub mod Held
+pub mod Passing
+pub mod Places
+pub mod Made
+pub mod OneSided
+pub mod Holding
+pub mod Setting
+pub mod Over
+pub mod Layered
