@@ -24,9 +24,11 @@ class Ours(Program):
     def __init__(self):
         super().__init__("whole_answers")
 
-    def answer(self, call):
+    def answer(self, call, summary=None):
         head, lengths = [call.n, call.mask, call.threshold, *call.base, call.size], call.lengths()
-        words = [*head, len(call.centre), len(call.neighbours), *lengths, *call.centre, *call.neighbours]
+        told = [0] if summary is None else [len(summary) + 1]
+        samples = [*call.centre, *call.neighbours]
+        words = [*head, len(call.centre), len(call.neighbours), *lengths, *told, *samples, *(summary or [])]
         answer = self.ask(struct.pack("<%dI" % len(words), *words), 56 + 4 * sum(lengths))
         places = list(struct.unpack("<%dI" % sum(lengths), answer[56:]))
         buffers = []
@@ -52,9 +54,9 @@ class WholeCall(Call):
     def lengths(self):
         return [self.store, self.vertices, self.triangles, self.edges]
 
-    def wanted(self):
+    def wanted(self, summary=None):
         store, vertices, triangles, edges = ([MARK] * length for length in self.lengths())
-        answer = reference.extract(self.block(), vertices, triangles, store, edges)
+        answer = reference.extract(self.block(), vertices, triangles, store, edges, summary)
         numbers = [*answer, 0, 0, 0] if isinstance(answer, reference.Refusal) else [0, 0, 0, 0, *answer]
         return numbers, [store, vertices, triangles, edges]
 

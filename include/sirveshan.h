@@ -83,6 +83,7 @@
  *   21  volume length not four times its sizes' product
  *   22  first point not in the volume
  *   23  edge list too short                                 places wanted
+ *   26  an unmarked layer is not as made afresh             layer
  * [end of refusals]
  *
  * The u and v of 8 run 0 to n over the face's grid points. The point is, by side: 0 (0, v, n-u), 1 (n, v, u), 2 (u, 0, n-v),
@@ -182,6 +183,9 @@ extern "C" {
 #define SIRVESHAN_MOST_ACROSS 1024
 #define SIRVESHAN_VOLUME_LENGTH(x, y, z) (4 * (size_t)(x) * (size_t)(y) * (size_t)(z))
 
+/* Floats of a summary by layer. */
+#define SIRVESHAN_SUMMARY_LENGTH(n) (2 * (size_t)(n))
+
 /* Places of the index store: 4 n^3 + 60 n^2. */
 #define SIRVESHAN_STORE_LENGTH(n) ((size_t)(n) * (size_t)(n) * (4 * (size_t)(n) + 60))
 
@@ -265,6 +269,20 @@ sirveshan_extracted sirveshan_extract_whole(sirveshan_header header, const float
                                             const float *neighbours, size_t neighbours_length, uint32_t *store,
                                             size_t store_length, float *vertices, size_t vertices_length, uint32_t *triangles,
                                             size_t triangles_length, uint32_t *edges, size_t edges_length);
+
+/*
+ * The same with a summary by layer, as sirveshan_make_summary and sirveshan_set_sample leave it. A layer of cells that is not marked
+ * and lies wholly inside (its least sample at or above the threshold) or wholly outside (its greatest below it) is passed over:
+ * its cells are not looked at. Answer and lists, store included, are the same as without the summary; reads are fewer by eight for
+ * each cell passed over. With every layer marked it is sirveshan_extract_whole. Judged are 1 to 8, then 14 where summary has fewer
+ * floats than SIRVESHAN_SUMMARY_LENGTH(n), then 26 with the first layer that is not marked and differs in value from one made
+ * afresh, then 9, 23 and 10. Judging 26 reads all samples of the layers that are not marked.
+ */
+sirveshan_extracted sirveshan_extract_layered(sirveshan_header header, const float *centre, size_t centre_length,
+                                              const float *neighbours, size_t neighbours_length, const float *summary,
+                                              size_t summary_length, uint32_t *store, size_t store_length, float *vertices,
+                                              size_t vertices_length, uint32_t *triangles, size_t triangles_length,
+                                              uint32_t *edges, size_t edges_length);
 
 /*
  * Welds a mesh, in its own lists: of the vertices with one number in edges only the first is kept, the kept close up in their
@@ -384,6 +402,26 @@ typedef struct sirveshan_samples_cut {
 
 sirveshan_samples_cut sirveshan_cut(const uint8_t *src, size_t length, sirveshan_point sizes, size_t n, sirveshan_point first,
                                     float *samples, size_t samples_length);
+
+/*
+ * A summary by layer, for a block whose samples change. The layer x of cells, 0 to n-1, lies between the planes x and x + 1; of
+ * the samples of both planes the summary has the least and the greatest, two floats a layer, SIRVESHAN_SUMMARY_LENGTH(n) in all.
+ * +0 and -0 count as equal, and of equals the first in the list of samples is kept. A NaN in either float marks a layer that is
+ * not worked out: write one where many samples of a layer are about to change by other means than sirveshan_set_sample.
+ *
+ * sirveshan_make_summary fills the first places of summary; all beyond stays. Judged are 1, 4, 7 and 14, in that order.
+ *
+ * sirveshan_set_sample sets the sample of a grid point, each coordinate 0 to n but one of the three, which may be -1 or n+1, and
+ * makes each layer that holds the point afresh, marked or not; a point of a face outside is in no layer. All other samples and
+ * layers stay. Judged are 1, 4, 7 (samples), 15, 7 (the new value, with its place) and 14, in that order.
+ *
+ * The answer's number is 0 where nothing is refused; on a refusal no lent place is altered. 14 tells the floats of a summary.
+ */
+sirveshan_refusal sirveshan_make_summary(size_t n, const float *samples, size_t samples_length, float *summary,
+                                         size_t summary_length);
+
+sirveshan_refusal sirveshan_set_sample(size_t n, float *samples, size_t samples_length, int32_t x, int32_t y, int32_t z,
+                                       float value, float *summary, size_t summary_length);
 
 /*
  * Four calls for a viewer. Each takes the bytes of one record, judges it whole (11, 12, 1, 2, 3, 13, 7) and writes nowhere. The

@@ -597,11 +597,13 @@ class Mesher:
             self.triangles.append(triangle[::-1] if kind & 0x80 else triangle)
 
 
-def mesh_of(block, mesher=Mesher):
-    """The mesh of a block that passes 1 to 8."""
+def mesh_of(block, mesher=Mesher, over=()):
+    """The mesh of a block that passes 1 to 8, with the layers of regular cells that are passed over left out."""
     mesher = mesher(block)
     steps = range(block.n)
     for x in steps:
+        if x in over:
+            continue
         for y in steps:
             for z in steps:
                 mesher.regular_cell((x, y, z))
@@ -614,17 +616,18 @@ def mesh_of(block, mesher=Mesher):
 
 # Extraction
 
-def extract(block, vertices, triangles, store, edges=None):
+def extract(block, vertices, triangles, store, edges=None, summary=None):
     """Counts or a refusal, 1 to 10; fills the three lent lists when nothing is refused.  With the further list of document 02, [10],
-    23 comes before 10, and that list is filled too.
+    23 comes before 10, and that list is filled too.  With a summary by layer, [12], 14 and 26 come before 9, and layers are passed over.
 
     A refusal reports no reads: they are those made once every check has passed."""
     refusal = (refuse_block(block)
                or refuse_face_mismatch(block)
+               or summary is not None and refuse_summary(block.n, block.centre, summary)
                or refuse_store(block.n, len(store)))
     if refusal:
         return refusal
-    mesh = mesh_of(block)
+    mesh = mesh_of(block, over=() if summary is None else layers_over(block, summary))
     refusal = (edges is not None and refuse_edges(len(edges), len(mesh.vertices))
                or refuse_room(mesh, len(vertices), len(triangles)))
     if refusal:
@@ -1010,6 +1013,83 @@ def sheet_total(run):
         return Refusal(11)
     counted = [line for line in sheet(run) if isinstance(line, Figures)]
     return Figures(*(sum(column) for column in zip(*counted))) if counted else Figures(0, 0, 0, 0, 0, 0)
+
+
+# Summaries by layer: document 02, [12].  Two f32 patterns a layer of cells along x, its least and its greatest in-block sample; a NaN in
+# either is the mark that they are not worked out
+
+def summary_length(n):
+    return 2 * n
+
+
+def layer_extent(n, samples, layer):
+    """The least and the greatest of the samples of its two planes, of equals the first in storage order."""
+    held = [samples[sample_place(n, (x, y, z))]
+            for x in (layer, layer + 1) for y in range(n + 1) for z in range(n + 1)]
+    return min(held, key=value), max(held, key=value)
+
+
+def layers_holding(n, point):
+    """The layers that a grid point is in: none for one of an extension face."""
+    if place_kind(n, point) != IN_BLOCK:
+        return []
+    return [layer for layer in (point[0] - 1, point[0]) if 0 <= layer < n]
+
+
+def make_layers(n, samples, layers, summary):
+    for layer in layers:
+        summary[2 * layer:2 * layer + 2] = layer_extent(n, samples, layer)
+
+
+def make_summary(n, samples, summary):
+    """None, or a refusal: 1, 4, 7, 14; fills the first places of the lent list."""
+    refusal = (refuse_subdivisions(n)
+               or refuse_centre_length(n, len(samples))
+               or refuse_samples(samples)
+               or refuse_buffer(len(summary), summary_length(n)))
+    if refusal is None:
+        make_layers(n, samples, range(n), summary)
+    return refusal
+
+
+def refuse_value(place, pattern):
+    return None if within_limit(value(pattern)) else Refusal(7, place)
+
+
+def set_sample(n, samples, point, pattern, summary):
+    """None, or a refusal: 1, 4, 7, 15, 7 of the new value, 14; alters the lent lists in place."""
+    refusal = refuse_subdivisions(n) or refuse_centre_length(n, len(samples)) or refuse_samples(samples)
+    if refusal:
+        return refusal
+    place = sample_place(n, point)
+    if place is None:
+        return Refusal(15, len(axes_outside(n, point)))
+    refusal = refuse_value(place, pattern) or refuse_buffer(len(summary), summary_length(n))
+    if refusal:
+        return refusal
+    samples[place] = pattern
+    make_layers(n, samples, layers_holding(n, point), summary)
+    return None
+
+
+def refuse_summary(n, samples, summary):
+    """14, 26, of samples that 1, 4 and 7 let pass."""
+    refusal = refuse_buffer(len(summary), summary_length(n))
+    if refusal:
+        return refusal
+    for layer in range(n):
+        told = values(summary[2 * layer:2 * layer + 2])
+        if not any(map(math.isnan, told)) and told != values(layer_extent(n, samples, layer)):
+            return Refusal(26, layer)
+    return None
+
+
+def layers_over(block, summary):
+    """The layers that are passed over: not marked, and wholly inside or wholly outside."""
+    threshold = value(block.threshold)
+    told = [values(summary[2 * layer:2 * layer + 2]) for layer in range(block.n)]
+    return [layer for layer, (least, greatest) in enumerate(told)
+            if not math.isnan(least) and not math.isnan(greatest) and (least >= threshold or greatest < threshold)]
 
 
 # The viewer's calls

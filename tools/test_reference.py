@@ -487,6 +487,82 @@ class Weld(unittest.TestCase):
         self.assertEqual([[welded.vertices[corner] for corner in triangle] for triangle in welded.triangles], corners)
 
 
+class Layers(unittest.TestCase):
+    """Document 02, [12]."""
+
+    def block(self, n=2):
+        """Samples that grow along x, and faces outside that are far below."""
+        samples = [reference.bits(-9.0)] * reference.block_length(n)
+        for x in range(n + 1):
+            for y in range(n + 1):
+                for z in range(n + 1):
+                    samples[reference.sample_place(n, (x, y, z))] = reference.bits(x + (y + z) % 2 / 2)
+        return samples
+
+    def extents(self, summary):
+        return list(reference.values(summary))
+
+    def test_made_of_both_planes(self):
+        summary = [7] * 6
+        self.assertIsNone(reference.make_summary(2, self.block(), summary))
+        self.assertEqual((self.extents(summary[:4]), summary[4:]), ([0.0, 1.5, 1.0, 2.5], [7, 7]))
+
+    def test_of_equals_the_first_is_kept(self):
+        samples = [ZERO] * reference.block_length(1)
+        samples[3] = 0x80000000
+        self.assertEqual(reference.layer_extent(1, samples, 0), (ZERO, ZERO))
+        samples[0] = 0x80000000
+        self.assertEqual(reference.layer_extent(1, samples, 0), (0x80000000, 0x80000000))
+
+    def test_set_touches_the_layers_that_hold_the_point(self):
+        for x, touched in [(0, [0]), (1, [0, 1]), (2, [1])]:
+            self.assertEqual(reference.layers_holding(2, (x, 0, 2)), touched)
+        self.assertEqual(reference.layers_holding(2, (-1, 0, 2)), [])
+        samples, summary = self.block(), [reference.NAN] * 4
+        self.assertIsNone(reference.set_sample(2, samples, (2, 1, 1), reference.bits(9.0), summary))
+        self.assertEqual((summary[:2], self.extents(summary[2:])), ([reference.NAN] * 2, [1.0, 9.0]))
+        self.assertIsNone(reference.refuse_summary(2, samples, summary))
+
+    def test_refusals_of_making(self):
+        samples = self.block()
+        for n, held, room, wanted in [(0, samples, 4, (1, 0)), (2, samples[1:], 4, (4, 81)), (2, samples, 3, (14, 4)),
+                                      (2, samples[:80] + [reference.NAN], 3, (7, 80))]:
+            summary = [7] * room
+            self.assertEqual(reference.make_summary(n, held, summary), reference.Refusal(*wanted))
+            self.assertEqual(summary, [7] * room)
+
+    def test_refusals_of_setting_in_their_order(self):
+        for fault, point, pattern, room, wanted in [(0, (0, 0, 9), 0, 0, (7, 0)), (None, (-1, 3, 0), reference.NAN, 0, (15, 2)),
+                                                    (None, (-1, 1, 2), reference.NAN, 0, (7, 32)), (None, (0, 0, 0), 0, 3, (14, 4))]:
+            samples, summary = self.block(), [7] * room
+            if fault is not None:
+                samples[fault] = reference.NAN
+            before = list(samples)
+            self.assertEqual(reference.set_sample(2, samples, point, pattern, summary), reference.Refusal(*wanted))
+            self.assertEqual((samples, summary), (before, [7] * room))
+
+    def test_a_layer_that_differs(self):
+        samples, summary = self.block(), [7] * 4
+        reference.make_summary(2, samples, summary)
+        self.assertEqual(reference.refuse_summary(2, samples, summary[:3]), reference.Refusal(14, 4))
+        summary[3] = reference.bits(2.0)
+        self.assertEqual(reference.refuse_summary(2, samples, summary), reference.Refusal(26, 1))
+        summary[2] = reference.NAN
+        self.assertIsNone(reference.refuse_summary(2, samples, summary))
+
+    def test_passed_over(self):
+        """The surface is in the second of three layers: the mesh is the same, and two layers' cells are not read."""
+        samples, summary = self.block(3), [7] * 6
+        reference.make_summary(3, samples, summary)
+        block = reference.Block(3, 0, reference.bits(1.75), (0, 0, 0), reference.bits(1.0), samples, [])
+        self.assertEqual(reference.layers_over(block, summary), [0, 2])
+        plain, layered = reference.mesh_of(block), reference.mesh_of(block, over=[0, 2])
+        self.assertEqual(layered._replace(reads=plain.reads), plain)
+        self.assertEqual(plain.reads - layered.reads, 2 * 8 * 9)
+        summary[5] = reference.NAN
+        self.assertEqual(reference.layers_over(block, summary), [0])
+
+
 class Viewer(unittest.TestCase):
     def test_answers(self):
         record = reference.record_of(case_a())

@@ -21,11 +21,11 @@ else
     echo "no g++: the header was not tried as C++"
 fi
 
-for program in check_viewer check_extract check_record check_stl check_repair check_volume check_sheet check_weld check_whole stack mesh_record; do
+for program in check_viewer check_extract check_record check_stl check_repair check_volume check_sheet check_weld check_whole check_layers stack mesh_record; do
     "${x86_cc[@]}" -std=c99 "${strict[@]}" "$here/$program.c" "$archive" -lm -pthread -o "$work/$program"
 done
 failures=0
-for program in check_viewer check_extract check_record check_stl check_repair check_volume check_sheet check_weld check_whole stack; do
+for program in check_viewer check_extract check_record check_stl check_repair check_volume check_sheet check_weld check_whole check_layers stack; do
     said=$("${x86_static[@]}" "$work/$program" "$root/examples/ledge.record") || failures=$((failures + 1))
     echo "$program: $said"
 done

@@ -82,6 +82,14 @@ static void *calls(void *unused)
     if (sirveshan_sheet_line(bytes, written.length, 0).figures.vertices != meshed.vertices ||
         sirveshan_sheet_total(bytes, written.length).figures.triangles != meshed.triangles)
         abort();
+    if (sirveshan_make_summary(subdivisions, samples, centre, positions, sizeof positions / 4).number != 0 ||
+        sirveshan_set_sample(subdivisions, samples, centre, 0, 0, 0, samples[0], positions, sizeof positions / 4).number != 0)
+        abort();
+    meshed = sirveshan_extract_layered(h, samples, centre, samples + centre, rest, positions, sizeof positions / 4, store,
+                                       sizeof store / 4, vertices, sizeof vertices / 4, triangles, sizeof triangles / 4, edges,
+                                       sizeof edges / 4);
+    if (meshed.refused.number != 0)
+        abort();
     look(&here);
     (void)unused;
     return NULL;

@@ -83,6 +83,45 @@ pub fn extract_whole(
     counts_of(answer)
 }
 
+/// The same with a summary by layer, as [`make_summary`](crate::make_summary) and
+/// [`set_sample`](crate::set_sample) leave it: layers that are not marked and lie wholly on one side
+/// of the threshold are passed over. Mesh, store and edges are the same; the reads are fewer by eight
+/// for each cell passed over. Refusal 14 where the summary has too few layers, 26 with the first layer
+/// that is not marked and not as made afresh, both before 9.
+#[allow(clippy::too_many_arguments)]
+pub fn extract_layered(
+    header: &Header,
+    centre: &[f32],
+    neighbours: &[f32],
+    summary: &[f32],
+    store: &mut [u32],
+    vertices: &mut [f32],
+    triangles: &mut [u32],
+    edges: &mut [u32],
+) -> Result<Counts, Refusal> {
+    // SAFETY: as in `extract`.
+    let answer = unsafe {
+        linked::sirveshan_extract_layered(
+            header.into(),
+            centre.as_ptr(),
+            centre.len(),
+            neighbours.as_ptr(),
+            neighbours.len(),
+            summary.as_ptr(),
+            summary.len(),
+            store.as_mut_ptr(),
+            store.len(),
+            vertices.as_mut_ptr(),
+            vertices.len(),
+            triangles.as_mut_ptr(),
+            triangles.len(),
+            edges.as_mut_ptr(),
+            edges.len(),
+        )
+    };
+    counts_of(answer)
+}
+
 fn counts_of(answer: linked::Extracted) -> Result<Counts, Refusal> {
     answer.refused.check()?;
     let linked::Extracted { vertices, triangles, reads, .. } = answer;

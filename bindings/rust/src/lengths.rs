@@ -48,6 +48,11 @@ pub fn store_length(subdivisions: usize) -> usize {
     square.saturating_mul(n.saturating_mul(4).saturating_add(60))
 }
 
+/// How many f32 the summary by layer of a block of `subdivisions` has.
+pub fn summary_length(subdivisions: usize) -> usize {
+    subdivisions.saturating_mul(2)
+}
+
 /// How many bytes the record of such a block has.
 pub fn record_length(subdivisions: usize, mask: u8) -> usize {
     let samples = sample_length(subdivisions).saturating_add(neighbours_length(subdivisions, mask));

@@ -7,7 +7,9 @@
 //! writes a mesh as an STL file and reads one. [`Volume`] cuts blocks from a raw volume.
 //! [`sheet()`] tells the figures of each record of a run. [`repair()`] mends a damaged delivery and
 //! lists what it changed. [`weld()`] takes out the vertices that were made twice, by the grid edges
-//! that [`extract_whole`] tells; [`Mesher::welded`] does both.
+//! that [`extract_whole`] tells; [`Mesher::welded`] does both. [`Summary`] keeps the least and the
+//! greatest sample of each layer of a block whose samples change, and [`Mesher::mesh_layers`] passes
+//! over the layers that it shows to hold no surface.
 //!
 //! What is proved is the library below: this crate hands its slices over and names its answers.
 //!
@@ -41,16 +43,17 @@ mod refusals;
 mod repair;
 mod sheet;
 mod stl;
+mod summary;
 pub mod viewer;
 mod volume;
 mod weld;
 
 pub use block::{Block, Header, Side};
-pub use extract::{extract, extract_whole, Counts};
+pub use extract::{extract, extract_layered, extract_whole, Counts};
 pub use lengths::{
     most_reads, most_triangles, most_vertices, neighbours_length, record_length, sample_length,
-    sample_place, sample_point, stl_length, store_length, volume_length, MOST_ACROSS, MOST_RUN,
-    MOST_SIZE, MOST_SUBDIVISIONS, RECORD_HEADER, STL_HEADER, STL_TRIANGLE,
+    sample_place, sample_point, stl_length, store_length, summary_length, volume_length,
+    MOST_ACROSS, MOST_RUN, MOST_SIZE, MOST_SUBDIVISIONS, RECORD_HEADER, STL_HEADER, STL_TRIANGLE,
 };
 pub use mesher::{Mesh, Mesher};
 pub use record::{read_record, write_record, Record};
@@ -58,6 +61,7 @@ pub use refusal::Refusal;
 pub use repair::{repair, Change};
 pub use sheet::{sheet, sheet_line, sheet_total, Figures, SheetLine, SheetLines};
 pub use stl::{read_stl, write_stl, Facet, Stl};
+pub use summary::{make_summary, set_sample, Summary};
 pub use volume::{cut_block, Volume};
 pub use weld::{weld, NO_EDGE};
 

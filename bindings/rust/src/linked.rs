@@ -129,6 +129,23 @@ extern "C" {
         edges: *mut u32,
         edges_length: usize,
     ) -> Extracted;
+    pub fn sirveshan_extract_layered(
+        header: CHeader,
+        centre: *const f32,
+        centre_length: usize,
+        neighbours: *const f32,
+        neighbours_length: usize,
+        summary: *const f32,
+        summary_length: usize,
+        store: *mut u32,
+        store_length: usize,
+        vertices: *mut f32,
+        vertices_length: usize,
+        triangles: *mut u32,
+        triangles_length: usize,
+        edges: *mut u32,
+        edges_length: usize,
+    ) -> Extracted;
     pub fn sirveshan_read(
         src: *const u8,
         length: usize,
@@ -189,6 +206,24 @@ extern "C" {
         edges: *mut u32,
         edges_length: usize,
     ) -> Welded;
+    pub fn sirveshan_make_summary(
+        n: usize,
+        samples: *const f32,
+        samples_length: usize,
+        summary: *mut f32,
+        summary_length: usize,
+    ) -> CRefusal;
+    pub fn sirveshan_set_sample(
+        n: usize,
+        samples: *mut f32,
+        samples_length: usize,
+        x: i32,
+        y: i32,
+        z: i32,
+        value: f32,
+        summary: *mut f32,
+        summary_length: usize,
+    ) -> CRefusal;
 }
 
 impl From<[usize; 3]> for CPoint {

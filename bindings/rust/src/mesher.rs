@@ -1,6 +1,7 @@
 //! Extraction with buffers that are kept.
 
-use crate::{extract, extract_whole, weld, Counts, Header, Record, Refusal};
+use crate::{extract, extract_layered, extract_whole, weld};
+use crate::{Counts, Header, Record, Refusal, Summary};
 
 /// A mesh that a [`Mesher`] lends out.
 #[derive(Clone, Copy, Debug, PartialEq)]
@@ -63,8 +64,45 @@ impl Mesher {
         centre: &[f32],
         neighbours: &[f32],
     ) -> Result<Mesh<'_>, Refusal> {
+        self.extract_by(header, centre, neighbours, None)
+    }
+
+    /// The same, and layers that a summary of the centre's samples shows to lie on one side of the
+    /// threshold are passed over: the mesh is the same, its reads are fewer.
+    ///
+    /// ```
+    /// use sirveshan::{sample_length, sample_place, Block, Header, Mesher, Summary};
+    ///
+    /// // A surface in the last of four layers.
+    /// let mut centre = vec![-1.0; sample_length(4)];
+    /// centre[sample_place(4, [4, 2, 2]).unwrap()] = 1.0;
+    /// let summary = Summary::make(4, &centre).unwrap();
+    /// let block = Block { base: [0.0; 3], size: 1.0, subdivisions: 4 };
+    /// let header = Header { block, mask: 0, threshold: 0.0 };
+    /// let mut mesher = Mesher::new();
+    /// let reads = mesher.extract(&header, &centre, &[]).unwrap().reads;
+    /// let fewer = mesher.mesh_layers(&header, &centre, &[], &summary).unwrap().reads;
+    /// assert_eq!(reads - fewer, 3 * 8 * 4 * 4);
+    /// ```
+    pub fn mesh_layers(
+        &mut self,
+        header: &Header,
+        centre: &[f32],
+        neighbours: &[f32],
+        summary: &Summary,
+    ) -> Result<Mesh<'_>, Refusal> {
+        self.extract_by(header, centre, neighbours, Some(summary.as_slice()))
+    }
+
+    fn extract_by(
+        &mut self,
+        header: &Header,
+        centre: &[f32],
+        neighbours: &[f32],
+        summary: Option<&[f32]>,
+    ) -> Result<Mesh<'_>, Refusal> {
         let counts = loop {
-            match self.try_extract(header, centre, neighbours) {
+            match self.try_extract(header, centre, neighbours, summary) {
                 Err(Refusal { number: 9, values: [places, ..] }) => self.store.resize(places, 0),
                 Err(Refusal { number: 23, values: [places, ..] }) => self.edges.resize(places, 0),
                 Err(Refusal { number: 10, values: [vertices, triangles, _] }) => {
@@ -87,9 +125,15 @@ impl Mesher {
         header: &Header,
         centre: &[f32],
         neighbours: &[f32],
+        summary: Option<&[f32]>,
     ) -> Result<Counts, Refusal> {
         let Mesher { store, vertices, triangles, edges, welds } = self;
         let (vertices, triangles) = (vertices.as_flattened_mut(), triangles.as_flattened_mut());
+        if let Some(told) = summary {
+            return extract_layered(
+                header, centre, neighbours, told, store, vertices, triangles, edges,
+            );
+        }
         if *welds {
             return extract_whole(header, centre, neighbours, store, vertices, triangles, edges);
         }

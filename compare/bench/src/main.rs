@@ -3,6 +3,7 @@
 mod before;
 mod blank;
 mod faces;
+mod layers;
 mod ours;
 mod sheet;
 mod stl;
@@ -27,6 +28,7 @@ bench blank                               the viewer's question whether a block 
 bench volume [SIZE]                       a raw volume of SIZE samples a side (512) cut whole, against reading its file once
 bench sheet                               the sheet of a run against extraction of the same blocks
 bench weld                                the weld beside extraction of the same block
+bench layers                              a tall block with a summary by layer and without, and a sample set
 bench ours|before|rust TIMES N MASK FACE  meshes one block that often and prints nothing
                                           (FACE: smooth, wavy, noisy); compare/instructions counts it";
 const SIZES: [usize; 3] = [4, 8, 16];
@@ -197,6 +199,7 @@ fn run(words: &[&str]) -> Outcome {
         ["volume", size] => volume::table(number(size)?),
         ["sheet"] => sheet::table(),
         ["weld"] => weld::table(),
+        ["layers"] => layers::table(),
         ["parts"] => parts(16),
         ["parts", n] => parts(number(n)?),
         ["ours" | "before" | "rust", times, n, mask, face @ ("smooth" | "wavy" | "noisy")] => {
