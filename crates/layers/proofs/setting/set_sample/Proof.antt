@@ -49,11 +49,14 @@ enum-told c = search needs
 
 -- 1, 4 and 7 are passed
 module _ (c : tie.After-enum-told) where
+  abbrev judged : tie.After-judge-own
+  judged = c .before .before
+
   abbrev start : tie.Start
-  start = c .before .before .before .before .before .before
+  start = judged .before .before .before .before
 
   own-passed : judgeOwn (start .args .n) (samples start) ≡ Passed
-  own-passed = sym (c .before .before .judge-own .ensures) ∙ c .enum-told .given .1
+  own-passed = sym (judged .judge-own .ensures) ∙ c .enum-told .given .1
 
   is-own : Own (start .args .n) (samples start)
   is-own = own (start .args .n) (samples start) own-passed
