@@ -9,7 +9,7 @@ ghost use mathlib.Core.Bool.{cond};
 ghost use Rattle.model.specs.declared.Verdict.the-variants.{Passed};
 ghost use Rattle.model.specs.Limits.{mostSubdivisions};
 ghost use Rattle.model.specs.Judging.{judgeBuffer};
-ghost use Rattle.model.specs.Layers.{bestOf, less, more, summaryLength, entryOf, marked, layerStands, judgeLayers, passedOver};
+ghost use Rattle.model.specs.Layers.{bestOf, less, more, entryOf, marked, layerStands, judgeLayers, passedOver};
 ghost use Rattle.layers.specs.Held.{Held, AllNumbers};
 ghost use Rattle.layers.specs.Over.{summaryJudged, NextLayer};
 use crate::extents::layer_count;
