@@ -33,7 +33,9 @@ use Rattle.judge.specs.First.{or-else-assoc, both-passed, unless-passed}
 use Rattle.judge.specs.Passing.{star-shaped}
 use Rattle.layers.specs.Over.{summaryJudged, no-summary, Trusted, trusted}
 use Rattle.layers.specs.Layered.{spared, extract-spared}
-use Rattle.algorithm.specs.Passes.{mostCells, judged, edgesJudged, roomJudged, numbersLeft, allJudged, refusedReport, Counted, Exact, Numbered, Written, Leaves}
+use Rattle.counting.specs.Counting.{mostCells, Counted}
+use Rattle.writing.specs.Writing.{Exact, Numbered, Written}
+use Rattle.algorithm.specs.Passes.{judged, edgesJudged, roomJudged, numbersLeft, allJudged, refusedReport, Leaves}
 
 -- the contract's five claims
 pub told : {o : Outcome} {report : Report} {store : List ℕ} {vertices : List Float} {triangles : List ℕ}

@@ -4,21 +4,9 @@ use mathlib.Core.Path.{_≡_}
 use contract.Lifetimes.{Lfts}
 use denote.Ref.{now}
 use Rattle.model.specs.Pinned.{pinned}
-use Rattle.algorithm.proofs.counting.plus.Reads as plus
-use Rattle.algorithm.proofs.counting.count_mesh.Reads as count-mesh
 use Rattle.algorithm.proofs.extract.Reads as extract
 use Rattle.algorithm.proofs.extract_whole.Reads as extract-whole
 use Rattle.algorithm.proofs.extract_layered.Reads as extract-layered
-
-pub plus-pinned : (κs : Lfts 0) (a : _) (r r′ : _) (e e′ : _) → plus.Learnt κs a r e → plus.Learnt κs a r′ e′ → r ≡ r′
-plus-pinned κs a r r′ e e′ h k = pinned h k
-
-pub count-mesh-pinned : (κs : Lfts 3) (a : _) (r r′ : _) (e e′ : _) → count-mesh.Learnt κs a r e → count-mesh.Learnt κs a r′ e′ → r ≡ r′
-count-mesh-pinned κs a r r′ e e′ h k =
-    λ i. record {
-      vertices = pinned (h .1 .vertices-are) (k .1 .vertices-are) i;
-      triangles = pinned (h .1 .triangles-are) (k .1 .triangles-are) i;
-    }
 
 pub extract-pinned : (κs : Lfts 5) (a : _) (r r′ : _) (e e′ : _) → extract.Learnt κs a r e → extract.Learnt κs a r′ e′
     → (r ≡ r′)

@@ -13,10 +13,6 @@ ghost use Rattle.layers.specs.Over.{Trusted};
 ghost use Rattle.layers.specs.Layered.{spared};
 ghost use Rattle.grid.specs.Shape.{Shaped};
 ghost use Rattle.algorithm.specs.Passes.{judged, edgesJudged, roomJudged, numbersLeft, allJudged, refusedReport, Leaves};
-
-pub mod counting;
-mod writing;
-
 use counting::count_mesh;
 use grid::shared_vertex_indices::store_length;
 use judge::faces::judge_faces;
@@ -25,23 +21,12 @@ use judge::judge_room;
 use judge::judge_star;
 use judge::judge_store;
 use layers::judging::judge_summary;
-use model::Counts;
 use model::Extraction;
 use model::Header;
 use model::Refusal;
 use model::Report;
 use model::Verdict;
 use writing::write_mesh;
-
-pub const NONE: Counts = Counts {
-    vertices: 0,
-    triangles: 0,
-};
-
-// In the place of the sheet that the other kind of cell has.
-pub const NO_LAYER: [u8; 0] = [];
-
-pub const NO_SIDE: [u16; 0] = [];
 
 // In the place of a summary that is not asked for.
 const NO_SUMMARY: [f32; 0] = [];

@@ -30,8 +30,8 @@ use Rattle.lines.specs.declared.Line.{Line}
 use Rattle.lines.specs.Lines.{byOne, placeOn, OnLine, NamedSide, fineLine, fine-on, fine-read}
 use Rattle.cases.specs.Faces.{linesAt, Walked, OnWalk}
 use Rattle.cases.specs.Fine.{cells-are}
-use Rattle.algorithm.specs.Passes.{Grows}
-use Rattle.algorithm.specs.Passes as Passes
+use Rattle.counting.specs.Counting.{Grows}
+use Rattle.counting.specs.Counting as Counting
 use Rattle.sheet.specs.Definition.{madeOnSide}
 use Rattle.sheet.specs.Counted.{side-vertices, side-triangles}
 
@@ -162,7 +162,7 @@ module _ (s : Star) where
   sides-start side step = record { vertices-are = skip (madeOnSide s) 0 side step; triangles-are = skip (trianglesOnSide s) 0 side step }
 
   pub sides-more : (side next : ℕ) (counts more : Counts) → Grows (transitionSide s side) more → NextSide (s .mask) (side + 1) next
-      → SideCounts s side counts → SideCounts s next (Passes.plus counts more)
+      → SideCounts s side counts → SideCounts s next (Counting.plus counts more)
   sides-more side next counts more g step so-far =
       let m = emptyMesh (subdivisions s) in
       record {

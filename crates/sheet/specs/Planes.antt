@@ -29,7 +29,7 @@ use Rattle.grid.specs.Places.{in-block}
 use Rattle.grid.specs.Kinds.{in-block-reading}
 use Rattle.cases.specs.Sheets.{Measured, Plane}
 use Rattle.cases.specs.RowPlaces.{row-before}
-use Rattle.algorithm.specs.Passes.{Grows}
+use Rattle.counting.specs.Counting.{Grows}
 use Rattle.sheet.specs.declared.Figures.{Figures}
 use Rattle.sheet.specs.Definition.{insideAt, insideSamples, crossesX, crossesY, crossesZ, xEdges, yEdges, zEdges, madeAt, plus}
 use Rattle.sheet.specs.Counted.{layer-vertices, layer-triangles}

@@ -17,11 +17,10 @@ use crate::Figures;
 use crate::plus;
 use crate::points::crossings;
 use crate::points::insides;
-use algorithm::NO_SIDE;
-use algorithm::counting::count_sheet;
 use cases::SHEET;
 use cases::regular::cases_between;
 use cells::SheetIndex;
+use counting::count_sheet;
 use grid::voxel_blocks::MOST_SUBDIVISIONS;
 use grid::voxel_blocks::in_block;
 use model::Counts;
@@ -30,6 +29,7 @@ use record::fields::sample_of;
 use tables::regular_cell_class;
 use tables::regular_cell_data;
 use tables::regular_vertex_data;
+use walk::NO_SIDE;
 
 const PLANE: usize = (MOST_SUBDIVISIONS + 1) * (MOST_SUBDIVISIONS + 1);
 

@@ -13,15 +13,14 @@ ghost use Rattle.lines.specs.Lines.{placeOn, OnLine, NamedSide};
 ghost use Rattle.cases.specs.Sheets.{sheetPlaces};
 ghost use Rattle.cells.specs.Puts.{Few};
 ghost use Rattle.cells.specs.declared.SheetIndex.the-variants.{Side};
-ghost use Rattle.algorithm.specs.Passes.{Held};
+ghost use Rattle.walk.specs.Order.{Held};
 ghost use Rattle.sheet.specs.Fine.{threeLines, FineLines, SideCounts};
-use algorithm::NO_LAYER;
-use algorithm::NONE;
-use algorithm::counting::count_sheet;
-use algorithm::counting::plus;
 use cases::SHEET;
 use cases::transition::rows_on;
 use cells::SheetIndex;
+use counting::NONE;
+use counting::count_sheet;
+use counting::plus;
 use grid::face_walk::FaceWalk;
 use grid::face_walk::Stride;
 use grid::transition_sides::SIDES;
@@ -36,6 +35,7 @@ use model::Header;
 use tables::transition_cell_class;
 use tables::transition_cell_data;
 use tables::transition_vertex_data;
+use walk::NO_LAYER;
 
 const THREE_LINES: usize = 3 * (2 * MOST_SUBDIVISIONS + 1);
 

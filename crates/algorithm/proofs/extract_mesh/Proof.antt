@@ -8,8 +8,8 @@ use lib.ListN.{length, take}
 use lib.Seq.{length-take-le}
 use Rattle.model.specs.declared.Verdict.the-variants.{Passed}
 use Rattle.model.specs.Star.{Star, star}
-use Rattle.algorithm.specs.Passes.{Exact}
-use Rattle.algorithm.proofs.Holding.{exact-still}
+use Rattle.writing.specs.Writing.{Exact}
+use Rattle.writing.specs.Lengths.{exact-still}
 use Rattle.algorithm.proofs.Answers.{no-list, no-room, has-room, numbers-there, parts, done}
 use Rattle.algorithm.proofs.extract_mesh.Statement.{statement}
 use Rattle.algorithm.proofs.extract_mesh.Tie as tie

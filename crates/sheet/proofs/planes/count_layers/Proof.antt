@@ -14,8 +14,8 @@ use Rattle.model.specs.Record.{starOf}
 use Rattle.model.specs.Star.{Star}
 use Rattle.cases.specs.Sheets.{sheetPlaces, Measured, Plane}
 use Rattle.cells.specs.declared.SheetIndex.the-variants.{Layer}
-use Rattle.algorithm.specs.Passes.{Held}
-use Rattle.algorithm.specs.Numbers.{held-sheeted}
+use Rattle.walk.specs.Order.{Held}
+use Rattle.walk.specs.Numbers.{held-sheeted}
 use Rattle.sheet.specs.declared.Figures.{Figures}
 use Rattle.sheet.specs.Definition.{plus}
 use Rattle.cases.specs.RowPlaces.{layer-fits}
