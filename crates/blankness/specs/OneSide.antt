@@ -27,7 +27,7 @@ use Rattle.model.specs.Judging.{facesAgree, judgeFaces}
 use Rattle.model.specs.Mesh.{meshOf}
 use Rattle.grid.specs.Places.{Within}
 use Rattle.grid.specs.RotationLaws.{turned}
-use Rattle.judge.specs.Faces.{faces-agree}
+use Rattle.agreement.specs.Faces.{faces-agree}
 use Rattle.blankness.specs.Weights.{taken, taken-most, alike, of-alike}
 use Rattle.blankness.specs.Linked.{cube-alike, square-alike}
 use Rattle.blankness.specs.Counted.{ofSide, triangles-counted}

@@ -1,4 +1,2 @@
-mod Rows
-mod Lines
 mod Marking
-mod Pairing
+pub mod Pinned

@@ -4,9 +4,9 @@ ghost use Prim.Native.Nat.{_+_, _≤_};
 ghost use lib.ListN.{length, getD};
 ghost use Rattle.cases.specs.Sheets.{sideBySide, RowPut};
 
-pub(crate) const SIDE_BY_SIDE: usize = 16;
+pub const SIDE_BY_SIDE: usize = 16;
 
-pub(crate) fn put_sixteen(places: &mut [u8], start: usize, numbers: &[u8; SIDE_BY_SIDE])
+pub fn put_sixteen(places: &mut [u8], start: usize, numbers: &[u8; SIDE_BY_SIDE])
     requires { ⌜ start + sideBySide ≤ length (now places) ⌝ }
     ensures { λ _. ⌜ RowPut (λ k. getD (now (numbers .entry)) k 0) start sideBySide (now (places .entry)) (now (places .exit)) ⌝ }
 {

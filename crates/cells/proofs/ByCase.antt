@@ -16,13 +16,14 @@ use Rattle.tables.specs.RulesSlots.{regular-code-right}
 use Rattle.tables.specs.RulesBorder.{transition-code-right}
 use Rattle.model.specs.Star.{Star}
 use Rattle.model.specs.Mesh.{Cell, fillTo, regularCell, transitionCell}
-use Rattle.cells.specs.declared.CellIndex.{CellIndex}
+use Rattle.codes.specs.declared.CellIndex.{CellIndex}
 use Rattle.cells.specs.declared.SheetIndex.{SheetIndex}
 use Rattle.cells.specs.declared.SheetIndex.the-variants.{Layer, Side}
-use Rattle.cells.specs.Buffers.{layEdges}
-use Rattle.cells.specs.Puts.{Room, CellPut, Adds}
+use Rattle.vertices.specs.Buffers.{layEdges}
+use Rattle.vertices.specs.Puts.{Room}
+use Rattle.cells.specs.Puts.{CellPut, Adds}
 use Rattle.cells.specs.Rows.{Followed}
-use Rattle.cells.specs.Kinds.{Usable, cellOf, Coded}
+use Rattle.codes.specs.Kinds.{Usable, cellOf, Coded}
 use Rattle.cells.specs.SheetCells.{cellAt, sheetCell, caseAt, allOf, codesOf, rowOf, turnedOf}
 
 -- ---- the same cell under two names

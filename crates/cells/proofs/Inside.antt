@@ -16,15 +16,15 @@ use Rattle.laws.specs.Steps.{total}
 use Rattle.model.specs.declared.Xyz.{Xyz}
 use Rattle.model.specs.Star.{Star}
 use Rattle.model.specs.Mesh.{regularLeaves}
-use Rattle.cells.specs.declared.CellIndex.the-variants.{Regular}
+use Rattle.codes.specs.declared.CellIndex.the-variants.{Regular}
 use Rattle.cells.specs.declared.SheetIndex.{SheetIndex}
 use Rattle.cells.specs.declared.SheetIndex.the-variants.{Layer, Side}
-use Rattle.cells.specs.Fills.{made-total}
-use Rattle.cells.specs.Kinds.{makesAt, cellOf}
+use Rattle.vertices.specs.Fills.{made-total}
+use Rattle.codes.specs.Kinds.{makesAt, cellOf}
 use Rattle.cells.specs.Puts.{Adds}
 use Rattle.cells.specs.SheetCells.{cellAt, sheetCell, caseAt, allOf, rowOf, awayFromLow}
 use Rattle.cells.proofs.ByCase.{adds-as, sheet-is}
-use Rattle.cells.proofs.Uses.{use-count}
+use Rattle.vertices.specs.Uses.{use-count}
 
 all-three : (a b c : Bool) → a && (b && c) ≡ true → (a ≡ true) × ((b ≡ true) × (c ≡ true))
 all-three true true c e = (refl, (refl, e))

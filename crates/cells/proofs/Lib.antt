@@ -1,8 +1,4 @@
 pub mod Pinned
 mod Windings
-mod Staying
-mod Uses
-mod Making
 mod ByCase
 mod Inside
-mod Inners

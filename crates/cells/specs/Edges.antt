@@ -12,7 +12,7 @@ use Rattle.laws.specs.Steps.{each}
 use Rattle.laws.specs.Laying.{lay, lay-none, lay-append}
 use Rattle.model.specs.Mesh.{CodeUse, Made, Cell, madeBy, fillStep, fillTo}
 use Rattle.model.specs.Edges.{edgeNumber}
-use Rattle.cells.specs.Buffers.{layEdges}
+use Rattle.vertices.specs.Buffers.{layEdges}
 
 -- one code's vertex, if it makes one, after next others
 pub record EdgePut (t : CodeUse) (next : ℕ) (edges : List ℕ) (next′ : ℕ) (edges′ : List ℕ) : Type 0 where

@@ -1,8 +1,5 @@
-pub mod Buffers
 pub mod Puts
 pub mod Rows
-pub mod Kinds
-pub mod Inner
 pub mod SheetCells
 pub mod Fills
 pub mod Edges

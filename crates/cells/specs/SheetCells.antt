@@ -11,8 +11,8 @@ use Rattle.model.specs.Star.{Star}
 use Rattle.model.specs.Points.{regularCase, transitionCase}
 use Rattle.model.specs.Mesh.{Cell, regularCell, transitionCell}
 use Rattle.cases.specs.Marks.{allRegular, allTransition}
-use Rattle.cells.specs.declared.CellIndex.{CellIndex}
-use Rattle.cells.specs.declared.CellIndex.the-variants.{Regular, Transition}
+use Rattle.codes.specs.declared.CellIndex.{CellIndex}
+use Rattle.codes.specs.declared.CellIndex.the-variants.{Regular, Transition}
 use Rattle.cells.specs.declared.SheetIndex.{SheetIndex}
 use Rattle.cells.specs.declared.SheetIndex.the-variants.{Layer, Side}
 

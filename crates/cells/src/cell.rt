@@ -6,21 +6,22 @@ ghost use lib.ListN.{length};
 ghost use Rattle.tables.specs.Cases.{verticesOf, trianglesOf};
 ghost use Rattle.model.specs.Star.{Star, star};
 ghost use Rattle.model.specs.Mesh.{storeLength, fillTo};
-ghost use Rattle.cells.specs.Buffers.{layEdges};
-ghost use Rattle.cells.specs.Puts.{Room, ReadSoFar, CellPut, Adds, Few};
+ghost use Rattle.vertices.specs.Buffers.{layEdges};
+ghost use Rattle.vertices.specs.Puts.{Room};
+ghost use Rattle.cells.specs.Puts.{ReadSoFar, CellPut, Adds, Few};
 ghost use Rattle.cells.specs.Rows.{Followed};
-ghost use Rattle.cells.specs.Kinds.{Ready, Coded, cellOf};
-use crate::CellIndex;
+ghost use Rattle.codes.specs.Kinds.{Ready, Coded, cellOf};
 use crate::Progress;
-use crate::codes::count_made;
 use crate::edges::put_edges;
 use crate::triangles::put_triangles;
 use crate::triangles::triangle_count;
-use crate::triangles::vertex_count;
-use crate::vertices::fill_cell;
+use codes::CellIndex;
+use codes::count_made;
 use model::Counts;
 use model::Header;
 use points::fractions::FRACTIONS;
+use vertices::fill_cell;
+use vertices::vertex_count;
 
 pub fn write_cell(
     header: Header,

@@ -9,18 +9,18 @@ ghost use Rattle.tables.specs.Cases.{verticesOf};
 ghost use Rattle.model.specs.Limits.{mostSubdivisions};
 ghost use Rattle.model.specs.Star.{Star, subdivisions};
 ghost use Rattle.model.specs.Mesh.{regularEdge, fillTo};
-ghost use Rattle.cells.specs.Buffers.{layEdges};
-ghost use Rattle.cells.specs.Kinds.{useAt, InBlock, Placed, cellOf, Coded};
+ghost use Rattle.vertices.specs.Buffers.{layEdges};
+ghost use Rattle.codes.specs.Kinds.{useAt, InBlock, Placed, cellOf, Coded};
 ghost use Rattle.cells.specs.Edges.{EdgePut};
-use crate::CellIndex;
-use crate::codes::makes;
-use crate::triangles::vertex_count;
-use crate::vertices::corner_point;
+use codes::CellIndex;
+use codes::makes;
 use grid::voxel_blocks::in_block;
 use model::NO_EDGE;
 use model::Xyz;
 use tables::tables_wrapper::voxel_a_index;
 use tables::tables_wrapper::voxel_b_index;
+use vertices::corner_point;
+use vertices::vertex_count;
 
 // 0, 1, 2 for x, y, z, from the two corners of an edge.
 fn axis(a: usize, b: usize) -> usize

@@ -1,27 +1,15 @@
-// The cells of both kinds: a vertex code, a cell's vertices, a cell's triangles. One set of functions serves both kinds: to them a
+// The cells of both kinds: a cell's vertices and triangles. One set of functions serves both kinds: to them a
 // cell is where it lies, its case's row of codes, its class's row of cell data and its winding.
-mod buffers;
 mod cell;
-mod codes;
 mod edges;
 pub mod sheet_cells;
 mod triangles;
-mod vertices;
-
-use model::FacePoint;
-use model::Xyz;
 
 // What the writing pass has made so far, and the samples that its vertices have read.
 pub struct Progress {
     pub vertices: usize,
     pub triangles: usize,
     pub reads: u64,
-}
-
-// Where a cell lies: a regular cell in the block, a transition cell on a side.
-pub enum CellIndex {
-    Regular(Xyz),
-    Transition(FacePoint),
 }
 
 // The cells whose case numbers a sheet holds: the layer of regular cells at x, or the transition cells of a side.

@@ -1,27 +1,15 @@
 // A cell's triangles, from its class's row of cell data and the indices of its vertices. Both kinds of cell have such a row.
 ghost use mathlib.Core.Path.{_≡_};
-ghost use Prim.Native.Nat.{_+_, _*_, _<_};
+ghost use mathlib.Core.List.{[], _∷_};
+ghost use Prim.Native.Nat.{_+_, _*_, _≤_, _<_};
 ghost use lib.ListN.{length, getD};
-ghost use Rattle.tables.specs.Cases.{verticesOf, trianglesOf, cornerOf};
+ghost use Rattle.tables.specs.Cases.{trianglesOf, cornerOf};
 ghost use Rattle.laws.specs.Steps.{listed};
-ghost use Rattle.cells.specs.Buffers.{layTriangles};
-ghost use Rattle.cells.specs.Puts.{Room};
+ghost use Rattle.vertices.specs.Buffers.{layTriangles};
+ghost use Rattle.vertices.specs.Puts.{Room};
 ghost use Rattle.cells.specs.Rows.{Followed, rowTriangle};
-use crate::buffers::put_triangle;
 use model::Triangle;
-
-pub fn wide(byte: u8) -> usize
-    ensures { λ r. ⌜ (r ≡ byte) × (r < 256) ⌝ }
-{
-    byte as usize
-}
-
-pub fn vertex_count(row: &[u8]) -> usize
-    requires { ⌜ 0 < length (now row) ⌝ }
-    ensures { λ r. ⌜ r ≡ verticesOf (now (row .entry)) ⌝ }
-{
-    wide(row[0]) / 16
-}
+use vertices::wide;
 
 pub fn triangle_count(row: &[u8]) -> usize
     requires { ⌜ 0 < length (now row) ⌝ }
@@ -52,6 +40,17 @@ fn triangle(row: &[u8], turned: bool, index: &[u32; 12], t: usize) -> Triangle
         return Triangle { a: c, b: b, c: a };
     }
     Triangle { a: a, b: b, c: c }
+}
+
+// One triangle into its place of a lent buffer.
+fn put_triangle(triangles: &mut [u32], at: usize, triangle: Triangle)
+    requires { ⌜ 3 * (at + 1) ≤ length (now triangles) ⌝ }
+    ensures { λ _. ⌜ now (triangles .exit) ≡ layTriangles (now (triangles .entry)) at (triangle ∷ []) ⌝ }
+{
+    let i = 3 * at;
+    triangles[i] = triangle.a;
+    triangles[i + 1] = triangle.b;
+    triangles[i + 2] = triangle.c;
 }
 
 pub fn put_triangles(

@@ -16,9 +16,7 @@ use Rattle.judge.proofs.judge_star.Reads as judge-star
 use Rattle.judge.proofs.samples.judge_list.Reads as judge-list
 use Rattle.judge.proofs.samples.judge_samples.Reads as judge-samples
 use Rattle.judge.proofs.point_read.judge_block.Reads as judge-block
-use Rattle.judge.proofs.faces.judge_faces.Reads as judge-faces
 use Rattle.judge.proofs.point_read.answered.Reads as answered
-use Rattle.judge.proofs.corners.judge_named.Reads as judge-named
 use Rattle.judge.proofs.point_read.read_point.Reads as read-point
 
 pub numbers-of-pinned : (κs : Lfts 0) (a : _) (r r′ : _) (e e′ : _) → numbers-of.Learnt κs a r e → numbers-of.Learnt κs a r′ e′ → r ≡ r′
@@ -63,14 +61,8 @@ judge-samples-pinned κs a r r′ e e′ h k = pinned h k
 pub judge-block-pinned : (κs : Lfts 0) (a : _) (r r′ : _) (e e′ : _) → judge-block.Learnt κs a r e → judge-block.Learnt κs a r′ e′ → r ≡ r′
 judge-block-pinned κs a r r′ e e′ h k = pinned h k
 
-pub judge-faces-pinned : (κs : Lfts 2) (a : _) (r r′ : _) (e e′ : _) → judge-faces.Learnt κs a r e → judge-faces.Learnt κs a r′ e′ → r ≡ r′
-judge-faces-pinned κs a r r′ e e′ h k = pinned h k
-
 pub answered-pinned : (κs : Lfts 0) (a : _) (r r′ : _) (e e′ : _) → answered.Learnt κs a r e → answered.Learnt κs a r′ e′ → r ≡ r′
 answered-pinned κs a r r′ e e′ h k = pinned h k
-
-pub judge-named-pinned : (κs : Lfts 1) (a : _) (r r′ : _) (e e′ : _) → judge-named.Learnt κs a r e → judge-named.Learnt κs a r′ e′ → r ≡ r′
-judge-named-pinned κs a r r′ e e′ h k = pinned h k
 
 pub read-point-pinned : (κs : Lfts 1) (a : _) (r r′ : _) (e e′ : _) → read-point.Learnt κs a r e → read-point.Learnt κs a r′ e′ → r ≡ r′
 read-point-pinned κs a r r′ e e′ h k = pinned h k

@@ -5,5 +5,3 @@ pub mod Counted
 pub mod Lengths
 pub mod Passing
 pub mod PointReads
-pub mod Faces
-pub mod Corners

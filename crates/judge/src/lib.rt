@@ -8,8 +8,6 @@ ghost use Rattle.model.specs.Edges.{judgeEdges};
 ghost use Rattle.model.specs.Star.{star};
 ghost use Rattle.judge.specs.Parts.{judgeBase};
 
-pub mod corners;
-pub mod faces;
 mod lengths;
 pub mod point_read;
 pub mod samples;

@@ -1,6 +1,6 @@
 // The blocks that are judged: 1 to 8 of a block and its neighbours.
 ghost use mathlib.Core.Path.{_≡_};
-use judge::faces::judge_faces;
+use agreement::judge_faces;
 use judge::judge_star;
 use model::Block;
 use model::Header;

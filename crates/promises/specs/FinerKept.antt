@@ -18,7 +18,7 @@ use Rattle.model.specs.Points.{regularPoint}
 use Rattle.model.specs.Judging.{judgeStar}
 use Rattle.model.specs.Mesh.{Made, Mesh, meshOf}
 use Rattle.model.specs.Extraction.{vertexFloats, triangleIndices}
-use Rattle.judge.specs.Faces.{faces-agree}
+use Rattle.agreement.specs.Faces.{faces-agree}
 use Rattle.closed.specs.Clauses.{high, Crossed, noVertex, vertexAt, edgeAt, vertexOn, noTriangle, sides, runs}
 use Rattle.finer.specs.Labels.{labelledMesh, SameBut}
 use Rattle.finer.specs.Clauses.{Agreed, vertexBack, runsDown, NoGap, SameBits}

@@ -17,7 +17,7 @@ use Rattle.grid.specs.Places.{Within}
 use Rattle.grid.specs.Nesting.{in-block-digits}
 use Rattle.grid.specs.RotationLaws.{OnFace, by-side, point-in}
 use Rattle.grid.specs.Walks.{sidePlace}
-use Rattle.judge.specs.Faces.{fine-on}
+use Rattle.agreement.specs.Faces.{fine-on}
 use Rattle.repair.specs.Definition.{placeAt, finePlace}
 use Rattle.repair.specs.Faces.{spotCount, spotOf, spot-on, fine-is, fine-in}
 

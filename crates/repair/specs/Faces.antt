@@ -28,7 +28,7 @@ use Rattle.grid.specs.SideLaws.{NeighbourThere, named-below, part-ends}
 use Rattle.grid.specs.Counts.{mostSamples, count-small}
 use Rattle.grid.specs.RotationLaws.{OnFace, point-in}
 use Rattle.grid.specs.Walks.{sidePlace, spot-in}
-use Rattle.judge.specs.Faces.{coarse-on, fine-on}
+use Rattle.agreement.specs.Faces.{coarse-on, fine-on}
 use Rattle.repair.specs.declared.Change.{Change}
 use Rattle.repair.specs.declared.faces.Places.{Places}
 use Rattle.repair.specs.Definition.{Delivery, valueOf, asStar, placeAt, changeUnless, coarsePlace, finePlace, mismatchAt, mismatchesAt, mismatches}

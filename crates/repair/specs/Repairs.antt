@@ -22,7 +22,7 @@ use Rattle.model.specs.Formulas.{inside}
 use Rattle.model.specs.Judging.{usable, judgeSamples, facesAgree, judgeFaces}
 use Rattle.grid.specs.Shape.{Shaped}
 use Rattle.grid.specs.RotationLaws.{OnFace}
-use Rattle.judge.specs.Faces.{AllAgree, faces-agree, faces-pass}
+use Rattle.agreement.specs.Faces.{AllAgree, faces-agree, faces-pass}
 use Rattle.repair.specs.declared.Change.{Change}
 use Rattle.repair.specs.Definition.{Delivery, valueOf, asStar, applied, changeUnless, fillerAt, fillersIn, fillers, coarsePlace, mismatchAt, mismatches, changesOf}
 use Rattle.repair.specs.Spots.{applied-append, length-applied, Row, turn, after, applied-spots, after-here, length-after}

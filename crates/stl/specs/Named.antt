@@ -8,7 +8,7 @@ use lib.Ieee.{Float}
 use lib.ListN.{getD}
 use Rattle.model.specs.declared.Verdict.the-variants.{Passed}
 use Rattle.model.specs.Corners.{triangleCount, cornerOf, judgeNamed}
-use Rattle.judge.specs.Corners.{corner-named, by-place, places-named}
+use Rattle.naming.specs.Corners.{corner-named, by-place, places-named}
 use Rattle.stl.specs.Definition.{vertexCount}
 
 -- each corner of a triangle names a vertex

@@ -16,11 +16,11 @@ use crate::layout::CORNER;
 use crate::layout::HEADER;
 use crate::layout::NORMAL;
 use crate::layout::file_length;
-use judge::corners::judge_named;
 use judge::judge_buffer;
 use judge::unless;
 use model::Refusal;
 use model::Verdict;
+use naming::judge_named;
 use words::floats::bits_of;
 use words::little::put_word;
 

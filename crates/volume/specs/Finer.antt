@@ -19,7 +19,7 @@ use Rattle.model.specs.Star.{Star, subdivisions}
 use Rattle.model.specs.Points.{fineSample}
 use Rattle.model.specs.Judging.{facesAgree, judgeFaces}
 use Rattle.grid.specs.Places.{Within, steps-sampled}
-use Rattle.judge.specs.Faces.{AllAgree, faces-pass}
+use Rattle.agreement.specs.Faces.{AllAgree, faces-pass}
 use Rattle.volume.specs.Definition.{volumePlace, volumeSample, nearest, nearestPoint}
 use Rattle.volume.specs.Neighbours.{doubled, TwiceAsFine, beyond, Begins, Ends, FineStar}
 use Rattle.volume.specs.Known.{near, near-in}

@@ -25,7 +25,7 @@ use Rattle.model.specs.Points.{cornerPoint, regularCase, regularPoint, fineGrid
 use Rattle.model.specs.Judging.{judgeStar, facesAgree, judgeFaces}
 use Rattle.grid.specs.Places.{Within}
 use Rattle.grid.specs.RotationLaws.{OnFace, OnFineFace, face-point-in, fine-point-in}
-use Rattle.judge.specs.Faces.{faces-agree}
+use Rattle.agreement.specs.Faces.{faces-agree}
 use Rattle.points.specs.CellPoints.{InCell, cell-point-in}
 use Rattle.closed.specs.Clauses.{insideAt, IsCell}
 use Rattle.closed.specs.Cells.{high-is, code-right, code-crossed}

@@ -25,7 +25,7 @@ use Rattle.model.specs.Corners.{triangleCount, judgeNamed}
 use Rattle.model.specs.Mesh.{noEdge}
 use Rattle.model.specs.Edges.{judgeEdges}
 use Rattle.judge.specs.First.{both-passed, unless-passed}
-use Rattle.judge.specs.Corners.{place-named, places-named}
+use Rattle.naming.specs.Corners.{place-named, places-named}
 use Rattle.weld.specs.declared.Welded.{Welded}
 use Rattle.weld.specs.declared.Welded.the-variants as Welded
 use Rattle.weld.specs.Definition.{numberOf, kept, keptBefore, keeper, newIndex, closedUp, edgeOf, vertexOf, edgesAt, verticesAt, renumbered, judgeWeld, weldAnswer, weld}

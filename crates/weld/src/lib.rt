@@ -9,12 +9,12 @@ mod pass;
 mod places;
 mod seen;
 
-use judge::corners::judge_named;
 use judge::judge_buffer;
 use judge::judge_edges;
 use model::Counts;
 use model::Refusal;
 use model::Verdict;
+use naming::judge_named;
 use pass::pass;
 
 // The new counts.

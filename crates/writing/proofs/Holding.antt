@@ -20,14 +20,15 @@ use Rattle.points.specs.CellPoints.{centred}
 use Rattle.cells.specs.declared.Progress.{Progress}
 use Rattle.cells.specs.declared.SheetIndex.{SheetIndex}
 use Rattle.cells.specs.declared.SheetIndex.the-variants.{Layer, Side}
-use Rattle.cells.specs.Kinds.{Ready as CellReady}
+use Rattle.codes.specs.Kinds.{Ready as CellReady}
 use Rattle.cells.specs.SheetCells.{cellAt, sheetCell}
-use Rattle.cells.specs.Buffers.{layVertices, layTriangles, layEdges}
+use Rattle.vertices.specs.Buffers.{layVertices, layTriangles, layEdges}
 use Rattle.laws.specs.Lists.{length-listed, each-append}
 use Rattle.laws.specs.Laying.{lay-none, lay-append, take-lay}
 use Rattle.cases.specs.Sheets.{rowStart}
 use Rattle.cases.specs.Marks.{NextMarked}
-use Rattle.cells.specs.Puts.{Room, CellPut, SameMade}
+use Rattle.vertices.specs.Puts.{Room}
+use Rattle.cells.specs.Puts.{CellPut, SameMade}
 use Rattle.walk.specs.Order.{Held, SheetIn, rowTo, rowBefore, sheetBefore}
 use Rattle.writing.specs.Writing.{Fits, Holds, Exact, Written}
 use Rattle.walk.specs.Walk.{cell-made, Upto, upto-trans, row-skip, cell-upto, sheet-after, after-upto}

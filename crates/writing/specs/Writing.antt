@@ -11,8 +11,9 @@ use Rattle.model.specs.Mesh.{Mesh, storeLength, meshOf}
 use Rattle.model.specs.Extraction.{vertexFloats, triangleIndices}
 use Rattle.cases.specs.Sheets.{mostSheetReads}
 use Rattle.cells.specs.declared.Progress.{Progress}
-use Rattle.cells.specs.Buffers.{layEdges}
-use Rattle.cells.specs.Puts.{Room, ReadSoFar}
+use Rattle.vertices.specs.Buffers.{layEdges}
+use Rattle.vertices.specs.Puts.{Room}
+use Rattle.cells.specs.Puts.{ReadSoFar}
 
 -- the buffers have room for the mesh, of which each index fits a u32
 pub record Fits (s : Star) (vertices : List Float) (triangles store : List ℕ) : Type 0 where

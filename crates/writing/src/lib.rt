@@ -19,7 +19,6 @@ ghost use Rattle.walk.specs.Order.{Sheeted, Held, SheetIn, rowBefore, sheetBefo
 ghost use Rattle.writing.specs.Writing.{Fits, Holds, ReadTo, mostSheets, Exact, Written, Numbered};
 use cases::SHEET;
 use cases::marks::next_marked;
-use cases::regular::layer_cases;
 use cases::transition::face_cases;
 use cells::Progress;
 use cells::SheetIndex;
@@ -31,6 +30,7 @@ use layers::judging::next_layer;
 use model::Header;
 use points::fractions::FRACTIONS;
 use points::fractions::fractions_of;
+use regular::layer_cases;
 use tables::regular_cell_class;
 use tables::regular_cell_data;
 use tables::regular_vertex_data;

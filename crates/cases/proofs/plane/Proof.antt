@@ -9,7 +9,7 @@ use lib.ListN.{length, take, drop, length-take, length-drop}
 use Rattle.model.specs.Samples.{inBlock}
 use Rattle.grid.specs.Places.{in-block}
 use Rattle.cases.specs.Sheets.{Plane}
-use Rattle.cases.proofs.Lines.{part-is-plane}
+use Rattle.cases.specs.Lines.{part-is-plane}
 use Rattle.cases.proofs.plane.Statement.{statement}
 use Rattle.cases.proofs.plane.Tie as tie
 

@@ -8,7 +8,7 @@ use Rattle.model.specs.Limits.{mostSubdivisions}
 use Rattle.cases.specs.Sheets.{RowPut}
 use Rattle.cases.specs.Marks.{allRegular, markOf}
 use Rattle.cases.specs.RowPlaces.{rows-fit}
-use Rattle.cases.proofs.Rows.{none-put, first-more}
+use Rattle.cases.specs.Rows.{none-put, first-more}
 use Rattle.cases.proofs.marks.mark_layer.Statement.{statement}
 use Rattle.cases.proofs.marks.mark_layer.Tie as tie
 

@@ -5,7 +5,7 @@ use Prim.Native.Nat.{_-_, _≤_}
 use mathlib.Core.Path.{_≡_, refl}
 use lib.ListN.{length, length-set, getD}
 use Rattle.cases.specs.Sheets.{sideBySide, RowPut}
-use Rattle.cases.proofs.Rows.{none-put, one-more}
+use Rattle.cases.specs.Rows.{none-put, one-more}
 use Rattle.cases.proofs.sixteens.put_sixteen.Statement.{statement}
 use Rattle.cases.proofs.sixteens.put_sixteen.Tie as tie
 

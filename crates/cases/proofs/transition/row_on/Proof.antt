@@ -7,7 +7,7 @@ use lib.ListN.{length, length-set}
 use Rattle.cases.specs.Sheets.{RowPut}
 use Rattle.cases.specs.Marks.{allTransition, markOf}
 use Rattle.cases.specs.Faces.{nineInside}
-use Rattle.cases.proofs.Rows.{none-put, one-more}
+use Rattle.cases.specs.Rows.{none-put, one-more}
 use Rattle.cases.proofs.transition.row_on.Statement.{statement}
 use Rattle.cases.proofs.transition.row_on.Tie as tie
 

@@ -15,7 +15,7 @@ use Rattle.cases.specs.Sheets.{rowStart, sheetPlaces, Sheet}
 use Rattle.cases.specs.Marks.{allTransition, markOf}
 use Rattle.cases.specs.Faces.{nineInside, OnWalk}
 use Rattle.cases.specs.RowPlaces.{row-fits}
-use Rattle.cases.proofs.Rows.{row-as, one-more-row}
+use Rattle.cases.specs.Rows.{row-as, one-more-row}
 use Rattle.cases.proofs.transition.rows_on.Statement.{statement}
 use Rattle.cases.proofs.transition.rows_on.Tie as tie
 

@@ -5,9 +5,9 @@ use native.Mathlib.Omega.{arith}
 use borrow.Author.Needs.{needs}
 use lib.ListN.{getD}
 use Rattle.tables.specs.Cases.{verticesOf}
-use Rattle.cells.specs.Fills.{made-total}
-use Rattle.cells.specs.Kinds.{makesAt, cellOf}
-use Rattle.cells.proofs.Uses.{use-count}
+use Rattle.vertices.specs.Fills.{made-total}
+use Rattle.codes.specs.Kinds.{makesAt, cellOf}
+use Rattle.vertices.specs.Uses.{use-count}
 use Rattle.cells.proofs.cell.count_cell.Statement.{statement}
 use Rattle.cells.proofs.cell.count_cell.Tie as tie
 

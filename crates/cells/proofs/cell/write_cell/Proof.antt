@@ -6,7 +6,7 @@ use borrow.Author.Needs.{needs}
 use Rattle.model.specs.Mesh.{fillTo, triangleOf}
 use Rattle.model.specs.Star.{star}
 use Rattle.cells.specs.Fills.{cell-put}
-use Rattle.cells.specs.Kinds.{cellOf}
+use Rattle.codes.specs.Kinds.{cellOf}
 use Rattle.cells.specs.Rows.{rowTriangle}
 use Rattle.cells.proofs.cell.write_cell.Statement.{statement}
 use Rattle.cells.proofs.cell.write_cell.Tie as tie

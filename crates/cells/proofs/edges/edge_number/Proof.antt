@@ -1,7 +1,7 @@
 -- `edges::edge_number` meets its contract, for each kind of cell. Assumes nothing.
 use borrow.Author.Needs.{needs}
 use Rattle.model.specs.Mesh.{regularUse, transitionUse}
-use Rattle.cells.proofs.Uses.{regular-in}
+use Rattle.vertices.specs.Uses.{regular-in}
 use Rattle.cells.proofs.edges.edge_number.Statement.{statement}
 use Rattle.cells.proofs.edges.edge_number.Tie as tie
 

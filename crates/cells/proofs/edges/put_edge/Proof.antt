@@ -2,9 +2,9 @@
 use mathlib.Core.Path.{sym, _∙_}
 use native.Mathlib.Omega.{arith}
 use borrow.Author.Needs.{needs}
-use Rattle.cells.specs.Kinds.{useAt}
+use Rattle.codes.specs.Kinds.{useAt}
 use Rattle.cells.specs.Edges.{edge-set, edge-out, edge-none}
-use Rattle.cells.proofs.Uses.{use-makes}
+use Rattle.vertices.specs.Uses.{use-makes}
 use Rattle.cells.proofs.edges.put_edge.Statement.{statement}
 use Rattle.cells.proofs.edges.put_edge.Tie as tie
 

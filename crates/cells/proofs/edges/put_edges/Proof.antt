@@ -8,7 +8,7 @@ use borrow.Author.Needs.{needs}
 use lib.ListN.{length}
 use Rattle.tables.specs.Cases.{verticesOf}
 use Rattle.model.specs.Star.{Star, subdivisions}
-use Rattle.cells.specs.Kinds.{cellOf}
+use Rattle.codes.specs.Kinds.{cellOf}
 use Rattle.cells.specs.Edges.{EdgesTo, edges-none, edges-more, edges-out}
 use Rattle.cells.proofs.edges.put_edges.Statement.{statement}
 use Rattle.cells.proofs.edges.put_edges.Tie as tie

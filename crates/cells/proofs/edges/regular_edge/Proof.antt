@@ -2,7 +2,7 @@
 use native.Mathlib.Omega.{arith}
 use borrow.Author.Needs.{needs}
 use Rattle.grid.specs.Places.{Small, small}
-use Rattle.cells.proofs.Making.{corner-within, edge-made}
+use Rattle.vertices.specs.Making.{corner-within, edge-made}
 use Rattle.cells.proofs.edges.regular_edge.Statement.{statement}
 use Rattle.cells.proofs.edges.regular_edge.Tie as tie
 

@@ -4,7 +4,7 @@ use mathlib.Core.Path.{_≡_}
 use native.Mathlib.Omega.{arith}
 use borrow.Author.Needs.{needs}
 use Rattle.model.specs.Star.{Star, star}
-use Rattle.cells.specs.Kinds.{cellOf}
+use Rattle.codes.specs.Kinds.{cellOf}
 use Rattle.cells.specs.SheetCells.{allOf, sheetCell}
 use Rattle.cells.specs.SheetNumbers.{case-small}
 use Rattle.cells.proofs.ByCase.{vertex-room, triangle-room, put-as, edges-as, sheet-coded, sheet-followed, sheet-is}

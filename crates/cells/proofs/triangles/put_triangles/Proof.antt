@@ -7,7 +7,7 @@ use lib.ListN.{length}
 use Rattle.tables.specs.Cases.{trianglesOf}
 use Rattle.model.specs.Extraction.{triangleIndices}
 use Rattle.laws.specs.Steps.{listed}
-use Rattle.cells.specs.Buffers.{layTriangles}
+use Rattle.vertices.specs.Buffers.{layTriangles}
 use Rattle.cells.specs.Fills.{triangles-more}
 use Rattle.laws.specs.Laying.{lay-none, length-lay}
 use Rattle.cells.specs.Rows.{rowTriangle}

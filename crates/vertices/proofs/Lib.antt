@@ -1,0 +1,2 @@
+mod Inners
+pub mod Pinned
