@@ -1,5 +1,4 @@
 -- `count_mesh` meets its contract: what the regular cells add and what the transition cells add make up the mesh.
-use native.Mathlib.Omega.{arith}
 use borrow.Author.Needs.{needs}
 use Rattle.model.specs.Star.{star}
 use Rattle.counting.proofs.Growth.{few-more, counted-mesh}

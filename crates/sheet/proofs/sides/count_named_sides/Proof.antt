@@ -14,7 +14,6 @@ use Rattle.lines.specs.Lines.{NamedSide}
 use Rattle.cases.specs.Sheets.{sheetPlaces}
 use Rattle.cells.specs.declared.SheetIndex.the-variants.{Side}
 use Rattle.cells.specs.Puts.{Few}
-use Rattle.walk.specs.Order.{Held}
 use Rattle.walk.specs.Numbers.{held-sheeted}
 use Rattle.sheet.specs.Fine.{SideCounts, sides-start, sides-more}
 use Rattle.sheet.proofs.sides.count_named_sides.Statement.{statement}
