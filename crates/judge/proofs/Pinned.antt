@@ -14,7 +14,6 @@ use Rattle.judge.proofs.is_usable.Reads as is-usable
 use Rattle.judge.proofs.judge_lent.Reads as judge-lent
 use Rattle.judge.proofs.judge_star.Reads as judge-star
 use Rattle.judge.proofs.samples.judge_list.Reads as judge-list
-use Rattle.judge.proofs.samples.judge_samples.Reads as judge-samples
 use Rattle.judge.proofs.point_read.judge_block.Reads as judge-block
 use Rattle.judge.proofs.point_read.answered.Reads as answered
 use Rattle.judge.proofs.point_read.read_point.Reads as read-point
@@ -54,9 +53,6 @@ judge-star-pinned κs a r r′ e e′ h k = pinned h k
 
 pub judge-list-pinned : (κs : Lfts 1) (a : _) (r r′ : _) (e e′ : _) → judge-list.Learnt κs a r e → judge-list.Learnt κs a r′ e′ → r ≡ r′
 judge-list-pinned κs a r r′ e e′ h k = pinned h k
-
-pub judge-samples-pinned : (κs : Lfts 2) (a : _) (r r′ : _) (e e′ : _) → judge-samples.Learnt κs a r e → judge-samples.Learnt κs a r′ e′ → r ≡ r′
-judge-samples-pinned κs a r r′ e e′ h k = pinned h k
 
 pub judge-block-pinned : (κs : Lfts 0) (a : _) (r r′ : _) (e e′ : _) → judge-block.Learnt κs a r e → judge-block.Learnt κs a r′ e′ → r ≡ r′
 judge-block-pinned κs a r r′ e e′ h k = pinned h k

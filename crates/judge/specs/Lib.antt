@@ -4,4 +4,5 @@ pub mod Parts
 pub mod Counted
 pub mod Lengths
 pub mod Passing
+pub mod Usable
 pub mod PointReads

@@ -58,7 +58,7 @@ pub fn judge_list(samples: &[f32]) -> Verdict
     first_bad(samples, 0)
 }
 
-pub fn judge_samples(centre: &[f32], neighbours: &[f32]) -> Verdict
+pub(crate) fn judge_samples(centre: &[f32], neighbours: &[f32]) -> Verdict
     ensures { λ r. ⌜ r ≡ judgeSamples (now (centre .entry) ++ now (neighbours .entry)) ⌝ }
 {
     if all_usable(centre) & all_usable(neighbours) {

@@ -1,7 +1,7 @@
 -- What holds of a record that no judge refuses, by name, and that this is all that the judges ask. Assumes nothing.
-use Prim.Native.Nat.{ℕ, zero, suc, _+_, _-_, _*_, _/_, _≤_, _<_, zero-le}
+use Prim.Native.Nat.{ℕ, zero, suc, _+_, _-_, _*_, _/_, _≤_, _<_}
 use native.Mathlib.Omega.{arith}
-use mathlib.Core.Path.{_≡_, refl, sym, ap, _∙_}
+use mathlib.Core.Path.{_≡_, sym, ap, _∙_}
 use mathlib.Core.Bool.{true, not, and-eq-true-iff}
 use mathlib.Core.List.{List}
 use borrow.Author.Tests.{leb-true, eqb-true, le-leb, eq-eqb}
@@ -9,16 +9,15 @@ use lib.Dec.{T, leb, eqb}
 use lib.Ieee.{Float, nan, isNan}
 use lib.ListN.{length, getD}
 use Rattle.model.specs.declared.Block.{Block}
-use Rattle.model.specs.declared.Refusal.the-variants.{Subdivisions, Mask, Measure, BadSample, RecordLength, Version, SampleCount}
+use Rattle.model.specs.declared.Refusal.the-variants.{Subdivisions, Mask, RecordLength, Version, SampleCount}
 use Rattle.model.specs.declared.Verdict.the-variants.{Passed}
 use Rattle.model.specs.Limits.{mostSubdivisions, mostMask}
-use Rattle.model.specs.Refusals.{unless}
-use Rattle.model.specs.Judging.{usable, measureUsable, judgeMeasures, judgeSamples, sampleUsable}
+use Rattle.model.specs.Judging.{usable, judgeMeasures, judgeSamples}
 use Rattle.model.specs.Words.{wordAt, floatAt}
 use Rattle.model.specs.Record.{versionAt, thresholdAt, headerLength, sampleFrom, headerOf, countOf, samplesOf, judgeRecord}
 use Rattle.laws.specs.Lists.{length-listed, getD-listed}
-use Rattle.judge.specs.First.{unless-passed, both-passed, each-passed, passed-over}
-use Rattle.record.specs.Usable.{usable-number, size-number}
+use Rattle.judge.specs.First.{unless-passed, both-passed}
+use Rattle.judge.specs.Usable.{usable-number, size-number, measure-usable, samples-usable, samples-pass}
 
 -- ---- samples
 
@@ -30,22 +29,7 @@ pub sample-is : (bytes : List ℕ) (k : ℕ) → k < countOf bytes → getD (sam
 unfolding samplesOf
 sample-is bytes k h = getD-listed (λ k. floatAt bytes (sampleFrom k)) (countOf bytes) k nan h
 
-pub samples-usable : (samples : List Float) (k : ℕ) → judgeSamples samples ≡ Passed → k < length samples → usable (getD samples k nan) ≡ true
-unfolding judgeSamples
-samples-usable samples k e h =
-    unless-passed (usable (getD samples k nan)) (BadSample k) (each-passed (sampleUsable samples) (length samples) k e h)
-
-pub samples-pass : (samples : List Float) → ((k : ℕ) → k < length samples → usable (getD samples k nan) ≡ true) → judgeSamples samples ≡ Passed
-unfolding judgeSamples
-samples-pass samples h = passed-over (sampleUsable samples) 0 (length samples) refl (λ k from l. rw (h k l)) zero-le
-
 -- ---- measures
-
-measure-usable : (block : Block) (threshold : Float) (k : ℕ) → judgeMeasures block threshold ≡ Passed → k < 5 → measureUsable block threshold k ≡ true
-unfolding judgeMeasures
-measure-usable block threshold k e h =
-    unless-passed (measureUsable block threshold k) (Measure k)
-    (each-passed (λ i. unless (measureUsable block threshold i) (Measure i)) 5 k e h)
 
 -- the five floats of a header, in the record's order
 abbrev pub measure : Block → Float → ℕ → Float

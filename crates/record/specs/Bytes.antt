@@ -15,7 +15,7 @@ use Rattle.model.specs.Record.{versionAt, subdivisionsAt, maskAt, thresholdAt, 
 use Rattle.laws.specs.Lists.{each-append, length-each, listed-is, sets-append, sets-first}
 use Rattle.words.specs.Orders.{Bytes, big}
 use Rattle.words.specs.Floats.{Fit, floats-back, floats-after}
-use Rattle.record.specs.Usable.{usable-number}
+use Rattle.judge.specs.Usable.{usable-number}
 use Rattle.record.specs.Accepted.{Accepted, length-samples, measured}
 
 -- the five floats of a header

@@ -1,5 +1,4 @@
 pub mod Patterns
-pub mod Usable
 pub mod Accepted
 pub mod ReadingOrder
 pub mod Bytes

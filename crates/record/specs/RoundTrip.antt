@@ -30,9 +30,10 @@ use Rattle.grid.specs.Shape.{Shaped}
 use Rattle.grid.specs.SideLaws.{named-below}
 use Rattle.judge.specs.First.{both-passed, passed-over}
 use Rattle.judge.specs.Passing.{star-measures, star-samples, star-shaped}
+use Rattle.judge.specs.Usable.{samples-usable, samples-pass}
 use Rattle.words.specs.Orders.{Bytes}
 use Rattle.words.specs.Floats.{Fit}
-use Rattle.record.specs.Accepted.{Accepted, passes, length-samples, sample-is, samples-pass, samples-usable}
+use Rattle.record.specs.Accepted.{Accepted, passes, length-samples, sample-is}
 use Rattle.record.specs.Reading.{was-read}
 use Rattle.record.specs.Bytes.{measuresOf, length-record, length-told, version-told, header-back, samples-back, record-back}
 

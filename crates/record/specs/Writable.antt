@@ -15,9 +15,9 @@ use Rattle.model.specs.Star.{star}
 use Rattle.model.specs.Judging.{judgeMeasures, judgeStar}
 use Rattle.judge.specs.Passing.{star-measures, star-samples, star-shaped}
 use Rattle.words.specs.Floats.{Numbers}
-use Rattle.record.specs.Usable.{usable-number}
+use Rattle.judge.specs.Usable.{usable-number, samples-usable}
 use Rattle.grid.specs.Counts.{mostSamples, count-small}
-use Rattle.record.specs.Accepted.{measure-number, samples-usable}
+use Rattle.record.specs.Accepted.{measure-number}
 use Rattle.record.specs.Bytes.{measuresOf}
 
 pub record Writable (h : Header) (centre neighbours : List Float) : Type 0 where

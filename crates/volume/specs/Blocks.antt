@@ -19,7 +19,7 @@ use Rattle.model.specs.Formulas.{_⊖_, vector, gradientAt}
 use Rattle.model.specs.Judging.{judgeCentre, judgeSamples}
 use Rattle.grid.specs.Places as places
 use Rattle.grid.specs.Places.{Within, Inner, outside-by, not-outside-inner, acrossOf, place-across-x, place-across-y, place-across-z, place-inner, sampled-sum, place-in, steps-sampled}
-use Rattle.record.specs.Accepted.{samples-pass}
+use Rattle.judge.specs.Usable.{samples-pass}
 use Rattle.volume.specs.Definition.{volumePlace, volumeSample, pointBeside, pointOf, nearest, nearestPoint, takenPlace, takenSample, blockIn}
 use Rattle.volume.specs.Neighbours.{across, onward, valueAcross, SideBySide}
 use Rattle.volume.specs.Known.{Ready}

@@ -8,22 +8,20 @@ use lib.Ieee.{nan}
 use lib.ListN.{length, getD, length-append, List·getD-append}
 use lib.Seq.{getD-append-add, getD-take, getD-drop}
 use Rattle.model.specs.declared.Xyz.{Xyz}
-use Rattle.model.specs.declared.Refusal.the-variants.{Measure, BadSample}
 use Rattle.model.specs.declared.Verdict.the-variants.{Passed}
 use Rattle.model.specs.Limits.{mostSize}
-use Rattle.model.specs.Refusals.{unless}
 use Rattle.model.specs.Samples.{sampleLength, sampleOf, inBlock}
 use Rattle.model.specs.Sides.{named, namedBelow, neighbourLength, neighbourOf}
 use Rattle.model.specs.Rotations.{neighbourPoint}
 use Rattle.model.specs.Star.{Star, subdivisions, neighbourAt}
 use Rattle.model.specs.Points.{fineSample}
-use Rattle.model.specs.Judging.{usable, measureUsable, judgeMeasures, sampleUsable, judgeSamples, judgeStar}
+use Rattle.model.specs.Judging.{usable, measureUsable, judgeStar}
 use Rattle.grid.specs.Shape.{Shaped}
 use Rattle.grid.specs.Places.{Within, in-block, sample-is}
 use Rattle.grid.specs.RotationLaws.{OnFineFace, neighbour-point-in}
 use Rattle.grid.specs.SideLaws.{NeighbourThere, part-ends}
-use Rattle.judge.specs.First.{unless-passed, each-passed}
 use Rattle.judge.specs.Passing.{star-measures, star-samples, star-shaped}
+use Rattle.judge.specs.Usable.{measure-usable, samples-usable}
 use Rattle.weights.specs.Clauses.{AreF32}
 use Rattle.weights.specs.Small.{Small}
 use Rattle.weights.specs.Coordinates.{Measured, usable-small, usable-size-small}
@@ -40,9 +38,7 @@ module _ (s : Star) (fit : AreF32 s) (passed : judgeStar s ≡ Passed) where
   -- ---- 3
 
   measure : (k : ℕ) → k < 5 → measureUsable (s .block) (s .threshold) k ≡ true
-  unfolding judgeMeasures
-  measure k h =
-      unless-passed _ (Measure k) (each-passed (λ k. unless (measureUsable (s .block) (s .threshold) k) (Measure k)) 5 k (star-measures s passed) h)
+  measure k h = measure-usable (s .block) (s .threshold) k (star-measures s passed) h
 
   pub threshold-small : Small mostSize (s .threshold)
   threshold-small = usable-small _ (fit .threshold) (measure 4 (omega arith))
@@ -61,8 +57,7 @@ module _ (s : Star) (fit : AreF32 s) (passed : judgeStar s ≡ Passed) where
   -- ---- 7
 
   all-usable : (i : ℕ) → i < length (s .centre ++ s .neighbours) → usable (getD (s .centre ++ s .neighbours) i nan) ≡ true
-  unfolding judgeSamples
-  all-usable i h = unless-passed _ (BadSample i) (each-passed (sampleUsable (s .centre ++ s .neighbours)) _ i (star-samples s passed) h)
+  all-usable i h = samples-usable (s .centre ++ s .neighbours) i (star-samples s passed) h
 
   in-centre : (i : ℕ) → i < length (s .centre) → Small mostSize (getD (s .centre) i nan)
   in-centre i h =

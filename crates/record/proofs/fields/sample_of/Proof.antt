@@ -4,7 +4,7 @@ use native.Mathlib.Omega.{arith}
 use borrow.Author.Needs.{needs}
 use Rattle.model.specs.Words.{floatAt}
 use Rattle.model.specs.Record.{sampleFrom}
-use Rattle.record.specs.Usable.{usable-number}
+use Rattle.judge.specs.Usable.{usable-number}
 use Rattle.record.specs.Accepted.{sample-is}
 use Rattle.record.proofs.fields.sample_of.Statement.{statement}
 use Rattle.record.proofs.fields.sample_of.Tie as tie

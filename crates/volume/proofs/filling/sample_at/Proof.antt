@@ -3,7 +3,7 @@ use mathlib.Core.Path.{ap}
 use borrow.Author.Needs.{needs}
 use lib.Ieee.{binary32, ofBits}
 use lib.Ieee.Bits.{nanBits-is}
-use Rattle.record.specs.Usable.{usable-number}
+use Rattle.judge.specs.Usable.{usable-number}
 use Rattle.volume.proofs.filling.sample_at.Statement.{statement}
 use Rattle.volume.proofs.filling.sample_at.Tie as tie
 
