@@ -1,11 +1,13 @@
--- A cell that is all inside or all outside has no vertex and no triangle, and its step only reads its samples.
-use Prim.Native.Nat.{ℕ}
+-- A cell that is all inside or all outside has no vertex and no triangle, and its step only reads its samples: such steps are stepped over.
+use Prim.Native.Nat.{ℕ, _≤_, _<_}
 use mathlib.Core.Path.{_≡_, refl}
 use mathlib.Core.Bool.{Bool, true, false, _||_}
 use mathlib.Core.List.{append-nil}
 use native.Mathlib.Omega.{arith}
 use borrow.Author.Tests.{eqb-true}
 use lib.Dec.{eqb}
+use Rattle.laws.specs.Steps.{iterate}
+use Rattle.laws.specs.Iterated.{part-skip}
 use Rattle.tables.specs.RegularRows as regular
 use Rattle.tables.specs.TransitionRows as transition
 use Rattle.tables.specs.Cases.{regularClass, regularVertices, regularTriangles, transitionClass, transitionVertices, transitionTriangles}
@@ -23,6 +25,16 @@ nothing-step c none m =
       made-same = rw (none .no-vertices, append-nil (m .made));
       triangles-same = rw (none .no-triangles, append-nil (m .triangles));
       store-same = rw (none .no-vertices);
+    }
+
+-- steps that make nothing are stepped over
+pub made-skip : (f : ℕ → Mesh → Mesh) (m : Mesh) (from next : ℕ) → from ≤ next → ((i : ℕ) → from ≤ i → i < next → (m : Mesh) → SameMade (f i m) m)
+    → SameMade (iterate f from m) (iterate f next m)
+made-skip f m from next l none =
+    record {
+      made-same = part-skip (λ (m : Mesh). m .made) f m from next l (λ i a b m. none i a b m .made-same);
+      triangles-same = part-skip (λ (m : Mesh). m .triangles) f m from next l (λ i a b m. none i a b m .triangles-same);
+      store-same = part-skip (λ (m : Mesh). m .store) f m from next l (λ i a b m. none i a b m .store-same);
     }
 
 -- what holds of the case with no point inside and of that with all of them

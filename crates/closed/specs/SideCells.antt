@@ -11,7 +11,7 @@ use borrow.Author.Tests.{ltb-false}
 use lib.Dec.{T, eqb, ltb, eqb→eq, ltb→lt}
 use lib.ListN.{getD}
 use Rattle.laws.specs.Steps.{total}
-use Rattle.laws.specs.Tests.{eq→eqb, both, both-left, both-right, then, then-holds, below, all}
+use Rattle.laws.specs.Tests.{eq→eqb, neither, both, both-left, both-right, then, then-holds, below, all}
 use Rattle.laws.specs.Counting.{has, withEach, eachTwo}
 use Rattle.laws.specs.Ranges.{beq-eq}
 use Rattle.tables.specs.Codes.{pointA, pointB, stepX, stepY, isNew, reuseIndex, edgeOf}
@@ -30,7 +30,7 @@ use Rattle.model.specs.Points.{fineSample, transitionCase}
 use Rattle.model.specs.Mesh.{transitionLeaves, transitionUse}
 use Rattle.closed.specs.Clauses.{insideAt}
 use Rattle.closed.specs.Cells.{bits-small, bits-are, bit-small, byte-points, one-of-edge}
-use Rattle.closed.specs.Stored.{or-none, back-in}
+use Rattle.closed.specs.Stored.{back-in}
 
 -- ---- the case number
 
@@ -198,8 +198,8 @@ module _ (s : Star) (side : ℕ) where
   pub steps-back : (u v code : ℕ) → transitionLeaves u v code ≡ false → StepsBack u v code
   unfolding transitionLeaves
   steps-back u v code e =
-      let stays = or-none _ _ e in
-      let within = or-none _ _ (stays .1) in
+      let stays = neither _ _ e in
+      let within = neither _ _ (stays .1) in
       record { u-in = ltb-false _ _ (within .0); v-in = ltb-false _ _ (within .1); some = some-back _ _ (stays .0) }
 
   -- the edge of such a code is crossed in the cell that it steps to as well
@@ -216,7 +216,7 @@ module _ (s : Star) (side : ℕ) where
 
   makes-none : (u v code : ℕ) → transitionUse s side u v code .makes ≡ false → transitionLeaves u v code ≡ false
   unfolding transitionUse
-  makes-none u v code e = or-none (eqb (isNew code) 1) (transitionLeaves u v code) e .1
+  makes-none u v code e = neither (eqb (isNew code) 1) (transitionLeaves u v code) e .1
 
   -- the cell (u, v) makes a vertex
   abbrev pub Makes : ℕ → ℕ → Type 0

@@ -1,7 +1,7 @@
 -- The index store's invariant, over a code and over the codes of a cell: for every finished cell and every index whose edge is crossed, the
 -- stored index names a vertex on that edge. So an index that is taken from the store names the edge that its code stands for.
 use mathlib.Core.Path.{_≡_, refl, sym, ap, _∙_, subst}
-use mathlib.Core.Bool.{Bool, true, false, _||_}
+use mathlib.Core.Bool.{true, false}
 use mathlib.Core.List.{List}
 use Prim.Native.Nat.{ℕ, _+_, _-_, _%_, _≤_, _<_}
 use native.Mathlib.Decide.{ℕ-discrete}
@@ -9,6 +9,7 @@ use native.Mathlib.Omega.{arith}
 use borrow.Author.Tests.{eqb-true, eqb-false, ltb-false}
 use lib.Dec.{eqb}
 use lib.ListN.{getD}
+use Rattle.laws.specs.Tests.{neither}
 use Rattle.tables.specs.Codes.{stepX, stepY, stepZ, isNew, reuseIndex}
 use Rattle.tables.specs.RulesSlots.{RegularCode}
 use Rattle.model.specs.declared.Xyz.{Xyz}
@@ -62,16 +63,12 @@ pub record LiesOn (s : Star) (m : Made) : Type 0 where
 
 -- ---- a code
 
-pub or-none : (a b : Bool) → a || b ≡ false → (a ≡ false) × (b ≡ false)
-or-none true b e = (e, cc)
-or-none false b e = (refl, e)
-
 -- a code that does not leave the block steps to a cell of it
 stays : (x y z code : ℕ) → regularLeaves x y z code ≡ false → (stepX code ≤ x) × (stepY code ≤ y) × (stepZ code ≤ z)
 unfolding regularLeaves
 stays x y z code e =
-    let p = or-none _ _ e in
-    let q = or-none _ _ (p .1) in
+    let p = neither _ _ e in
+    let q = neither _ _ (p .1) in
     (ltb-false _ _ (p .0), ltb-false _ _ (q .0), ltb-false _ _ (q .1))
 
 some-step : (k steps : ℕ) → (k % 2 ≡ 1 → ⊥) → 1 ≤ k % 2 + steps → 0 < steps

@@ -1,9 +1,10 @@
 -- What is known of a code that makes no vertex: it is not new, and its steps stay inside.
 use Prim.Native.Nat.{ℕ, _≤_}
-use mathlib.Core.Path.{_≡_, refl}
-use mathlib.Core.Bool.{Bool, true, false, _&&_, _||_}
+use mathlib.Core.Path.{_≡_}
+use mathlib.Core.Bool.{false, _&&_}
 use borrow.Author.Tests.{ltb-false}
 use lib.Dec.{eqb, ltb}
+use Rattle.laws.specs.Tests.{neither}
 use Rattle.tables.specs.Codes.{stepX, stepY, stepZ, isNew}
 use Rattle.model.specs.declared.Xyz.{Xyz}
 use Rattle.model.specs.declared.FacePoint.{FacePoint}
@@ -11,10 +12,6 @@ use Rattle.model.specs.Mesh.{regularLeaves, transitionLeaves}
 use Rattle.codes.specs.declared.CellIndex.{CellIndex}
 use Rattle.codes.specs.declared.CellIndex.the-variants.{Regular, Transition}
 use Rattle.codes.specs.Kinds.{makesAt}
-
-pub neither : (a b : Bool) → a || b ≡ false → (a ≡ false) × (b ≡ false)
-neither true b e = (e, cc)
-neither false b e = (refl, e)
 
 pub regular-stays : (x y z code : ℕ) → regularLeaves x y z code ≡ false → (stepX code ≤ x) × (stepY code ≤ y) × (stepZ code ≤ z)
 unfolding regularLeaves

@@ -8,7 +8,7 @@ use mathlib.Core.Path.{_≡_, refl, sym, ap, ap₂, _∙_}
 use mathlib.Core.List.{List, [], _∷_, _++_, append-assoc, append-nil}
 use mathlib.Core.Logic.{⊎-elim}
 use lib.ListN.{length, getD, drop, set, replicate, length-append, length-drop, drop-of-length-le, List·getD-append}
-use lib.Seq.{sets, sets-eq, ext-getD, getD-at, set-at, drop-cons, append-snoc}
+use lib.Seq.{sets, sets-eq, ext-getD, getD-at, getD-set-other, set-at, drop-cons, append-snoc}
 use Rattle.laws.specs.Steps.{listed, each, laid}
 
 module _ {A : Type 0} where
@@ -46,6 +46,10 @@ module _ {A : Type 0} where
   pub sets-append : (l : List A) (i : ℕ) (a b : List A) → sets (sets l i a) (i + length a) b ≡ sets l i (a ++ b)
   sets-append l i [] b = rw add-zero
   sets-append l i (x ∷ a) b = rw (add-suc, ← suc-add) (sets-append (set l i x) (suc i) a b)
+
+  pub sets-beyond : (l : List A) (i j : ℕ) (d : A) (vs : List A) → i + length vs ≤ j → getD (sets l i vs) j d ≡ getD l j d
+  sets-beyond l i j d [] h = refl
+  sets-beyond l i j d (v ∷ vs) h = sets-beyond (set l i v) (suc i) j d vs (omega arith) ∙ getD-set-other l i j v d (λ e. omega arith)
 
   -- from the first place on: all beyond stays
   pub sets-first : (l written : List A) → length written ≤ length l → sets l 0 written ≡ laid written l

@@ -1,6 +1,6 @@
 -- Tests as Bools, and one computed test carried to each number below a bound. Assumes nothing.
-use mathlib.Core.Path.{_≡_, subst}
-use mathlib.Core.Bool.{Bool, true, false}
+use mathlib.Core.Path.{_≡_, refl, subst}
+use mathlib.Core.Bool.{Bool, true, false, _||_}
 use Prim.Native.Nat.{ℕ, zero, suc, _<_}
 use native.Mathlib.Nat.{not-suc-le-zero}
 use native.Mathlib.Decide.{decLt}
@@ -9,6 +9,10 @@ use lib.Dec.{T, eqb, eqb-refl}
 
 pub eq→eqb : (m n : ℕ) → m ≡ n → T (eqb m n)
 eq→eqb m n e = rw e (eqb-refl n)
+
+pub neither : (a b : Bool) → a || b ≡ false → (a ≡ false) × (b ≡ false)
+neither true b e = (e, cc)
+neither false b e = (refl, e)
 
 unfoldable pub both : Bool → Bool → Bool
 both true b = b

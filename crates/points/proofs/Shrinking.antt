@@ -5,16 +5,13 @@ use mathlib.Core.Bool.{Bool, true, false, cond, _&&_, _||_}
 use Prim.Native.Nat.{ℕ}
 use lib.Dec.{eqb}
 use lib.Ieee.{Float}
+use Rattle.laws.specs.Tests.{neither}
 use Rattle.model.specs.declared.Xyz.{Xyz}
 use Rattle.model.specs.declared.Vector.{Vector}
 use Rattle.model.specs.declared.Block.{Block}
 use Rattle.model.specs.Sides.{named}
 use Rattle.model.specs.Formulas.{_⊕_, _⊖_, vector, heldBy, held, moved, shrinkAmount, regularPosition}
 use Rattle.points.specs.Positions.{originalPosition}
-
-neither : (a b : Bool) → (a || b) ≡ false → (a ≡ false) × (b ≡ false)
-neither true b e = (e, cc)
-neither false b e = (refl, e)
 
 -- an axis that touches neither of its faces moves nothing
 untouched : (low high : Bool) (added taken at : Float) → (low && true || high && true) ≡ false → cond low added (cond high taken at) ≡ at

@@ -20,10 +20,10 @@ use Rattle.codes.specs.declared.CellIndex.the-variants.{Regular, Transition}
 use Rattle.vertices.specs.Buffers.{layVertices}
 use Rattle.laws.specs.Counting.{one}
 use Rattle.laws.specs.Laying.{lay-none}
+use Rattle.laws.specs.Tests.{neither}
 use Rattle.codes.specs.Kinds.{useAt, makesAt, backFrom, placeAt, InBlock, OnSide, Placed, slots, Usable}
 use Rattle.vertices.specs.Puts.{CodePut}
 use Rattle.vertices.specs.Fills.{made-one}
-use Rattle.codes.specs.Staying.{neither}
 
 -- ---- any use of a code
 

@@ -9,7 +9,7 @@ use mathlib.Core.List.{List}
 use lib.Ieee.{Float}
 use lib.ListN.{length, length-append}
 use Rattle.laws.specs.Steps.{iterate}
-use Rattle.laws.specs.Iterated.{iterate-upto, part-skip, steps-skip}
+use Rattle.laws.specs.Iterated.{iterate-upto, steps-skip}
 use Rattle.model.specs.Limits.{sideCount}
 use Rattle.model.specs.Sides.{named}
 use Rattle.model.specs.Star.{Star, subdivisions}
@@ -21,7 +21,7 @@ use Rattle.cells.specs.declared.SheetIndex.{SheetIndex}
 use Rattle.cells.specs.declared.SheetIndex.the-variants.{Layer, Side}
 use Rattle.cells.specs.SheetCells.{sheetCell, caseAt, allOf}
 use Rattle.cells.specs.Puts.{Nothing, SameMade}
-use Rattle.cells.specs.Uncut.{nothing-step, regular-nothing, transition-nothing}
+use Rattle.cells.specs.Uncut.{nothing-step, made-skip, regular-nothing, transition-nothing}
 use Rattle.layers.specs.Over.{Trusted, NextLayer}
 use Rattle.layers.specs.Layered.{layer-nothing}
 use Rattle.walk.specs.Order.{Held, SheetIn, rowTo, rowsTo, rowBefore, wholeSheet, sheetAfter}
@@ -54,16 +54,6 @@ module _ (f : ℕ → Mesh → Mesh) (grows : (k : ℕ) (m : Mesh) → Upto m (f
         vertices = iterate-upto (λ (m : Mesh). length (m .made)) f (λ k m. grows k m .vertices) m j k h;
         triangles = iterate-upto (λ (m : Mesh). length (m .triangles)) f (λ k m. grows k m .triangles) m j k h;
       }
-
--- steps that make nothing are stepped over
-made-skip : (f : ℕ → Mesh → Mesh) (m : Mesh) (from next : ℕ) → from ≤ next → ((i : ℕ) → from ≤ i → i < next → (m : Mesh) → SameMade (f i m) m)
-    → SameMade (iterate f from m) (iterate f next m)
-made-skip f m from next l none =
-    record {
-      made-same = part-skip (λ (m : Mesh). m .made) f m from next l (λ i a b m. none i a b m .made-same);
-      triangles-same = part-skip (λ (m : Mesh). m .triangles) f m from next l (λ i a b m. none i a b m .triangles-same);
-      store-same = part-skip (λ (m : Mesh). m .store) f m from next l (λ i a b m. none i a b m .store-same);
-    }
 
 -- ---- a sheet of cells
 

@@ -1,22 +1,18 @@
 -- `closing::move_down` meets its contract. The invariant: the first k numbers have gone down, and those that are left stand as they were.
 -- Assumes nothing.
-use Prim.Native.Nat.{ℕ, suc, _+_, _*_, _-_, _≤_}
-use mathlib.Core.Path.{_≡_, refl, ap, _∙_}
-use mathlib.Core.List.{List, [], _∷_}
+use Prim.Native.Nat.{ℕ, _+_, _*_, _-_, _≤_}
+use mathlib.Core.Path.{_≡_, ap, _∙_}
+use mathlib.Core.List.{List}
 use native.Mathlib.Omega.{arith}
 use borrow.Author.Needs.{needs}
 use lib.Ieee.{Float, nan}
 use lib.ListN.{length, getD, set, length-set}
-use lib.Seq.{sets, getD-set-other}
+use lib.Seq.{sets}
 use Rattle.laws.specs.Steps.{listed}
-use Rattle.laws.specs.Lists.{length-listed}
+use Rattle.laws.specs.Lists.{length-listed, sets-beyond}
 use Rattle.laws.specs.Gathered.{sets-listed}
 use Rattle.weld.proofs.closing.move_down.Statement.{statement}
 use Rattle.weld.proofs.closing.move_down.Tie as tie
-
-sets-beyond : {A : Type 0} (l : List A) (i j : ℕ) (d : A) (vs : List A) → i + length vs ≤ j → getD (sets l i vs) j d ≡ getD l j d
-sets-beyond l i j d [] h = refl
-sets-beyond l i j d (v ∷ vs) h = sets-beyond (set l i v) (suc i) j d vs (omega arith) ∙ getD-set-other l i j v d (λ e. omega arith)
 
 abbrev six : List Float → ℕ → ℕ → Float
 six vertices from j = getD vertices (6 * from + j) nan
