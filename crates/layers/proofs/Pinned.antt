@@ -7,7 +7,6 @@ use Rattle.model.specs.Pinned.{pinned}
 use Rattle.layers.proofs.making.make_summary.Reads as make-summary
 use Rattle.layers.proofs.setting.set_sample.Reads as set-sample
 use Rattle.layers.proofs.judging.judge_summary.Reads as judge-summary
-use Rattle.layers.proofs.judging.is_passed_over.Reads as is-passed-over
 use Rattle.layers.proofs.judging.next_layer.Reads as next-layer
 use Rattle.layers.specs.Over.{one-next}
 
@@ -21,9 +20,6 @@ set-sample-pinned κs a r r′ e e′ h k = (λ i. pinned h k i .answer, (λ i. 
 
 pub judge-summary-pinned : (κs : Lfts 2) (a : _) (r r′ : _) (e e′ : _) → judge-summary.Learnt κs a r e → judge-summary.Learnt κs a r′ e′ → r ≡ r′
 judge-summary-pinned κs a r r′ e e′ h k = pinned h k
-
-pub is-passed-over-pinned : (κs : Lfts 1) (a : _) (r r′ : _) (e e′ : _) → is-passed-over.Learnt κs a r e → is-passed-over.Learnt κs a r′ e′ → r ≡ r′
-is-passed-over-pinned κs a r r′ e e′ h k = pinned h k
 
 pub next-layer-pinned : (κs : Lfts 1) (a : _) (r r′ : _) (e e′ : _) → next-layer.Learnt κs a r e → next-layer.Learnt κs a r′ e′ → r ≡ r′
 next-layer-pinned κs a r r′ e e′ h k = one-next h k

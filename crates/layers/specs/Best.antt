@@ -1,13 +1,14 @@
 -- Document 02, [12]: the least and the greatest of several samples, none of them a NaN: which one it is, and how a number is known to be it in value with
 -- no search. Said once for both, of an order up or down.
 use Prim.Native.Nat.{ℕ, zero, suc, _<_}
-use native.Mathlib.Nat.{not-suc-le-zero, le-of-suc-le-suc, eq-or-lt-of-le, le-refl, le-step}
+use native.Mathlib.Nat.{not-suc-le-zero, le-refl, le-step}
+use native.Mathlib.Omega.{arith}
 use mathlib.Core.Path.{_≡_, refl, sym, ap, _∙_}
-use mathlib.Core.Logic.{⊎-elim}
 use mathlib.Core.Bool.{Bool, true, false, cond, not, _&&_, and-eq-true-iff, true≢false}
+use borrow.Author.Count.{below-none, below-more}
 use borrow.Author.Tests.{not-true, not-false}
 use lib.Ieee.{Float, isNan, le, eq, ne}
-use Rattle.laws.specs.Below.{allBelow, each-below}
+use Rattle.laws.specs.Below.{allBelow, each-below, all-below}
 use Rattle.model.specs.Layers.{better, bestOf, less, more}
 use Rattle.layers.specs.Order.{le-on, not-lt, le-not, lt-le, eq-le, eq-ge, le-both, eq-self}
 
@@ -22,10 +23,6 @@ same-bool false true f g = g refl
 same-bool false false f g = refl
 
 module _ (P : ℕ → Bool) where
-  all-hold : (n : ℕ) → ((k : ℕ) → k < n → P k ≡ true) → allBelow P n ≡ true
-  all-hold zero h = refl
-  all-hold (suc n) h = rw (all-hold n (λ k l. h k (le-step l)), h n (le-refl _))
-
   one-fails : (n k : ℕ) → k < n → P k ≡ false → allBelow P n ≡ false
   one-fails n k l e = go (allBelow P n) refl
     where
@@ -93,10 +90,6 @@ cond-same : {A : Type 0} (b : Bool) (a : A) → cond b a a ≡ a
 cond-same true a = refl
 cond-same false a = refl
 
--- below one more
-last-or-before : {P : ℕ → Type 0} (n k : ℕ) → P n → ((i : ℕ) → i < n → P i) → k < suc n → P k
-last-or-before {P} n k here before h = ⊎-elim (λ e. rw e here) (before k) (eq-or-lt-of-le (le-of-suc-le-suc h))
-
 module _ (beats unbeaten : Float → Float → Bool) (order : Ordered beats unbeaten) where
   itself : (x : Float) → Number x → unbeaten x x ≡ true
   itself x number = order .equal x x (eq-self x number)
@@ -124,8 +117,8 @@ module _ (beats unbeaten : Float → Float → Bool) (order : Ordered beats unbe
               within = le-refl _;
               is = refl;
               none-beats = λ k h.
-                  last-or-before {P = λ k. unbeaten (f n) (f k) ≡ true} n k (itself (f n) nn)
-                  (λ i l. order .on (f n) v (f i) (order .beaten (f n) v e) (best .none-beats i l)) h;
+                  below-more (λ k. unbeaten (f n) (f k) ≡ true) n
+                  (λ i l. order .on (f n) v (f i) (order .beaten (f n) v e) (best .none-beats i l)) (itself (f n) nn) k (omega arith);
               first = λ k h. beats-on (f n) v (f k) nn (number k (le-step h)) e (best .none-beats k h);
             }
         go false e =
@@ -134,7 +127,7 @@ module _ (beats unbeaten : Float → Float → Bool) (order : Ordered beats unbe
               within = le-step (best .within);
               is = best .is;
               none-beats = λ k h.
-                  last-or-before {P = λ k. unbeaten v (f k) ≡ true} n k (order .one-way v (f n) nv (number n (le-refl _)) e) (best .none-beats) h;
+                  below-more (λ k. unbeaten v (f k) ≡ true) n (best .none-beats) (order .one-way v (f n) nv (number n (le-refl _)) e) k (omega arith);
               first = best .first;
             }
 
@@ -147,7 +140,7 @@ module _ (beats unbeaten : Float → Float → Bool) (order : Ordered beats unbe
           is = alone;
           none-beats = λ k h.
               ap (λ (v : Float). unbeaten v (f k)) alone
-              ∙ last-or-before {P = λ k. unbeaten (f 0) (f k) ≡ true} 0 k (itself (f 0) (number 0 (le-refl _))) (λ i l. absurd (not-suc-le-zero l)) h;
+              ∙ below-more (λ k. unbeaten (f 0) (f k) ≡ true) 0 (below-none (λ k. unbeaten (f 0) (f k) ≡ true)) (itself (f 0) (number 0 (le-refl _))) k h;
           first = λ k h. absurd (not-suc-le-zero h);
         }
     best-from (suc n) number =
@@ -178,7 +171,7 @@ module _ (beats unbeaten : Float → Float → Bool) (order : Ordered beats unbe
       known : eq v best ≡ true → isBest n v ≡ true
       unfolding ne
       known h =
-          let none = all-hold (λ k. unbeaten v (f k)) n (λ k l. order .on v best (f k) (order .equal v best h) (b .none-beats k l)) in
+          let none = all-below (λ k. unbeaten v (f k)) n (λ k l. order .on v best (f k) (order .equal v best h) (b .none-beats k l)) in
           let one : ne v (f (b .at)) ≡ false = ap not (ap (eq v) (sym (b .is)) ∙ h) in
           let some = one-fails (λ k. ne v (f k)) n (b .at) (b .within) one in
           rw (none, some)

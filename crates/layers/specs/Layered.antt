@@ -1,6 +1,6 @@
 -- Document 02, [12]: passing over changes a mesh's reads and nothing else. A layer that is passed over makes nothing, steps look at all of a mesh but its
 -- reads, and so extraction with a summary that is not refused is extraction without it, but for the reads that it reports.
-use Prim.Native.Nat.{ℕ, zero, suc, _<_}
+use Prim.Native.Nat.{ℕ, zero, suc, _<_, zero-le}
 use native.Mathlib.Nat.{le-refl, le-step}
 use mathlib.Core.Path.{_≡_, refl, sym, ap, _∙_}
 use mathlib.Core.Bool.{Bool, true, false, cond}
@@ -22,7 +22,7 @@ use Rattle.model.specs.Edges.{judgeEdges, WholeOutcome, edgesLeft}
 use Rattle.model.specs.Layers.{summaryLength, passedOver, judgeLayers, judgeSummary}
 use Rattle.model.specs.Layered.{layerStep, layeredMesh, judgeLayered, extractLayered}
 use Rattle.cells.specs.Puts.{SameMade}
-use Rattle.cells.specs.Uncut.{nothing-step, regular-nothing}
+use Rattle.cells.specs.Uncut.{nothing-step, made-skip, regular-nothing}
 use Rattle.judge.specs.First.{or-else-assoc, both-passed}
 use Rattle.layers.specs.OneSided.{not-cut}
 use Rattle.layers.specs.Over.{none-over, Trusted, trusted}
@@ -40,7 +40,7 @@ same-then h k =
       store-same = h .store-same ∙ k .store-same;
     }
 
-pub same-back : {a b : Mesh} → SameMade a b → SameMade b a
+same-back : {a b : Mesh} → SameMade a b → SameMade b a
 same-back h = record { made-same = sym (h .made-same); triangles-same = sym (h .triangles-same); store-same = sym (h .store-same) }
 
 abbrev Alike : (Mesh → Mesh) → Type 0
@@ -84,11 +84,6 @@ module _ (s : Star) where
 
 -- ---- a layer that is passed over
 
--- steps that make nothing
-steps-nothing : (f : ℕ → Mesh → Mesh) (k : ℕ) → ((i : ℕ) → i < k → (m : Mesh) → SameMade (f i m) m) → (m : Mesh) → SameMade (iterate f k m) m
-steps-nothing f zero none m = same-mesh m
-steps-nothing f (suc k) none m = same-then (none k (le-refl _) (iterate f k m)) (steps-nothing f k (λ i h. none i (le-step h)) m)
-
 -- the mesh of the whole block with the reads of the layers that are not passed over
 abbrev pub spared : Star → List Float → Mesh
 spared s summary =
@@ -103,9 +98,10 @@ module _ (s : Star) (summary : List Float) (t : Trusted (subdivisions s) (s .cen
 
     pub layer-nothing : (m : Mesh) → SameMade (regularLayer s x m) m
     unfolding regularLayer regularColumn
-    layer-nothing =
-        steps-nothing (regularColumn s x) (subdivisions s)
-        (λ y hy. steps-nothing (λ z. cellStep (regularCell s x y z)) (subdivisions s) (λ z hz. cell-nothing y z hy hz))
+    layer-nothing m =
+        same-back
+        (made-skip (regularColumn s x) m 0 (subdivisions s) zero-le
+        (λ y _ hy m. same-back (made-skip (λ z. cellStep (regularCell s x y z)) m 0 (subdivisions s) zero-le (λ z _ hz. cell-nothing y z hy hz))))
 
   layers-same : (m : Mesh) (k : ℕ) → ((x : ℕ) → x < k → x < subdivisions s) → SameMade (iterate (layerStep s summary) k m) (iterate (regularLayer s) k m)
   unfolding layerStep

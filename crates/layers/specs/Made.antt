@@ -8,6 +8,7 @@ use mathlib.Core.List.{List, [], _∷_}
 use lib.Ieee.{Float, nan}
 use lib.ListN.{length, getD, set, length-set}
 use lib.Seq.{sets, length-sets, getD-set-same, getD-set-other}
+use Rattle.laws.specs.Lists.{sets-beyond}
 use Rattle.laws.specs.Counting.{gather}
 use Rattle.laws.specs.Gathered.{length-gather, getD-gather}
 use Rattle.model.specs.Layers.{extentOf, layerExtent, entryOf}
@@ -19,12 +20,6 @@ module _ {A : Type 0} (d : A) where
   sets-before : (l : List A) (i : ℕ) (vs : List A) (j : ℕ) → j < i → getD (sets l i vs) j d ≡ getD l j d
   sets-before l i [] j h = refl
   sets-before l i (a ∷ vs) j h = sets-before (set l i a) (suc i) vs j (le-step h) ∙ getD-set-other l i j a d (λ e. omega arith)
-
-  sets-after : (l : List A) (i : ℕ) (vs : List A) (j : ℕ) → i + length vs ≤ j → getD (sets l i vs) j d ≡ getD l j d
-  sets-after l i [] j h = refl
-  sets-after l i (a ∷ vs) j h =
-      let past : i + suc (length vs) ≤ j = h in
-      sets-after (set l i a) (suc i) vs j (omega arith) ∙ getD-set-other l i j a d (λ e. omega arith)
 
   sets-in : (l : List A) (i : ℕ) (vs : List A) (j : ℕ) → j < length vs → i + length vs ≤ length l → getD (sets l i vs) (i + j) d ≡ getD vs j d
   sets-in l i [] j h room = absurd (not-suc-le-zero h)
@@ -81,7 +76,7 @@ module _ (n : ℕ) (samples : List Float) (from to : ℕ) (summary : List Float)
       ⊎-elim (sets-before nan summary (2 * from) stretch k)
       (λ past.
       let far : 2 * to ≤ k = past in
-      sets-after nan summary (2 * from) stretch k (rw long (omega arith)))
+      sets-beyond summary (2 * from) k nan stretch (rw long (omega arith)))
 
   pub entry-stays : (x : ℕ) → (x < from) ⊎ (to ≤ x) → entryOf (layersMade n samples from to summary) x ≡ entryOf summary x
   entry-stays x out =

@@ -278,10 +278,3 @@ ne-self nan = refl
 ne-self (inf true) = refl
 ne-self (inf false) = refl
 ne-self (fin s a e) = ap not (level-self s (a * up e * down e))
-
--- what is at most a number is one, and so is what a number is at most
-pub le-number : (x y : Float) → le x y ≡ true → isNan x ≡ false
-unfolding le isNan
-le-number nan y h = cc
-le-number (inf s) y h = refl
-le-number (fin s a e) y h = refl

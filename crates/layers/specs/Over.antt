@@ -7,6 +7,7 @@ use mathlib.Core.List.{List, []}
 use borrow.Author.Tests.{ltb-true, ltb-false}
 use lib.Dec.{ltb}
 use lib.Ieee.{Float, isNan}
+use lib.Ieee.Bits.{is-false}
 use lib.ListN.{length}
 use Rattle.model.specs.declared.Verdict.{Verdict}
 use Rattle.model.specs.declared.Verdict.the-variants.{Passed}
@@ -16,7 +17,9 @@ use Rattle.model.specs.Judging.{judgeStar, judgeBuffer}
 use Rattle.model.specs.Star.{Star, subdivisions}
 use Rattle.model.specs.Layers.{summaryLength, layerStands, judgeLayers, passedOver}
 use Rattle.judge.specs.First.{passed-over}
-use Rattle.judge.specs.Passing.{star-shaped, star-samples}
+use Rattle.judge.specs.Passing.{star-measures, star-shaped, star-samples}
+use Rattle.judge.specs.Usable.{usable-number, measure-usable}
+use Rattle.layers.specs.Best.{Number}
 use Rattle.layers.specs.Held.{Held, AllNumbers, first-numbers}
 use Rattle.layers.specs.Setting.{each-stands}
 
@@ -48,6 +51,9 @@ module _ (s : Star) (passed : judgeStar s ≡ Passed) where
 
   pub numbers-there : AllNumbers (s .centre)
   numbers-there = first-numbers (s .centre) (s .neighbours) (star-samples s passed)
+
+  pub threshold-number : Number (s .threshold)
+  threshold-number = is-false _ (usable-number _ (measure-usable (s .block) (s .threshold) 4 (star-measures s passed) (omega arith)))
 
   pub trusted : (summary : List Float) → judgeLayers (subdivisions s) (s .centre) summary ≡ Passed → Trusted (subdivisions s) (s .centre) summary
   trusted summary e = record { held = held-there; numbers = numbers-there; stands = each-stands (subdivisions s) (s .centre) summary e }

@@ -1,6 +1,6 @@
 -- Document 02, [12]: 1, 4, 7 and what comes after them, in the parts that they are judged in; what is known of what they let pass; and that samples one of
 -- which is set still pass.
-use Prim.Native.Nat.{ℕ, _≤_, _<_, zero-le}
+use Prim.Native.Nat.{ℕ, _≤_, _<_}
 use mathlib.Core.Path.{_≡_, refl, sym, ap, _∙_}
 use mathlib.Core.Bool.{Bool, true, false}
 use mathlib.Core.List.{List}
@@ -14,11 +14,12 @@ use Rattle.model.specs.declared.Refusal.the-variants.{BadSample, PointNeverSamp
 use Rattle.model.specs.declared.Verdict.{Verdict}
 use Rattle.model.specs.declared.Verdict.the-variants.{Passed}
 use Rattle.model.specs.Samples.{sampled}
-use Rattle.model.specs.Refusals.{unless, orElse}
-use Rattle.model.specs.Judging.{judgeSubdivisions, judgeCentre, usable, sampleUsable, judgeSamples, judgeBuffer}
+use Rattle.model.specs.Refusals.{orElse}
+use Rattle.model.specs.Judging.{judgeSubdivisions, judgeCentre, usable, judgeSamples, judgeBuffer}
 use Rattle.model.specs.Layers.{summaryLength}
-use Rattle.judge.specs.First.{or-else-assoc, both-passed, unless-passed, each-passed, passed-over}
+use Rattle.judge.specs.First.{or-else-assoc, both-passed, unless-passed}
 use Rattle.judge.specs.PointReads.{read-passed}
+use Rattle.judge.specs.Usable.{samples-usable, samples-pass}
 use Rattle.layers.specs.Definition.{judgeOwn, judgeMaking, judgePoint, judgeValue, judgeChange, judgeSetting}
 use Rattle.layers.specs.Held.{Held, AllNumbers, all-numbers}
 
@@ -35,7 +36,7 @@ pub record Own (n : ℕ) (samples : List Float) : Type 0 where
   pub pass : judgeSamples samples ≡ Passed
 
 module _ (n : ℕ) (samples : List Float) where
-  pub own-in-parts : judgeOwn n samples ≡ orElse (judgeShape n (length samples)) (judgeSamples samples)
+  own-in-parts : judgeOwn n samples ≡ orElse (judgeShape n (length samples)) (judgeSamples samples)
   unfolding judgeOwn
   own-in-parts = sym (or-else-assoc (judgeSubdivisions n) (judgeCentre n (length samples)) (judgeSamples samples))
 
@@ -103,22 +104,15 @@ module _ (n : ℕ) (p : Xyz) (value : Float) (room : ℕ) where
 
 module _ (samples : List Float) (place : ℕ) (value : Float) (there : place < length samples) (fine : usable value ≡ true) where
   set-usable : judgeSamples samples ≡ Passed → (k : ℕ) → k < length samples → usable (getD (set samples place value) k nan) ≡ true
-  unfolding judgeSamples
   set-usable pass k h = go (eqb k place) refl
     where
       go : (b : Bool) → eqb k place ≡ b → usable (getD (set samples place value) k nan) ≡ true
       go true e = rw (eqb-true k place e, getD-set-same samples place value nan there) fine
-      go false e =
-          ap usable (getD-set-other samples place k value nan (eqb-false k place e))
-          ∙ unless-passed _ (BadSample k) (each-passed (sampleUsable samples) (length samples) k pass h)
+      go false e = ap usable (getD-set-other samples place k value nan (eqb-false k place e)) ∙ samples-usable samples k pass h
 
   pub set-own : (n : ℕ) → judgeOwn n samples ≡ Passed → judgeOwn n (set samples place value) ≡ Passed
-  unfolding judgeSamples
   set-own n e =
       let before = own n samples e in
       let as-long = length-set samples place value in
-      let all =
-      passed-over (sampleUsable (set samples place value)) 0 (length (set samples place value)) refl
-      (λ k from h. ap (λ (b : Bool). unless b (BadSample k)) (set-usable (before .pass) k (rw as-long at h))) zero-le
-      in
+      let all = samples-pass (set samples place value) (λ k h. set-usable (before .pass) k (rw as-long at h)) in
       by-shape n (set samples place value) (ap (judgeShape n) as-long ∙ before .shape) ∙ all

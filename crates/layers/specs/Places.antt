@@ -60,7 +60,7 @@ module _ (n x a y z : ℕ) (ha : a ≤ 1) (hy : y ≤ n) (hz : z ≤ n) where
       let row : (n + 1) * y + z < plane n = in-grid (omega arith) (omega arith) in
       omega (arith, row, mul-le-mul-left (plane n) ha)
 
-  pub layer-place : inBlock n (x + a) y z ≡ inBlock n x 0 0 + inLayer n a y z
+  layer-place : inBlock n (x + a) y z ≡ inBlock n x 0 0 + inLayer n a y z
   layer-place = omega (arith, mul-add (plane n) x a)
 
   pub layer-has : x < n → (samples : List Float) → sampleOf n samples (xyz (x + a) y z) ≡ layerSample n samples x (inLayer n a y z)

@@ -1,11 +1,10 @@
-// The least and the greatest sample of a layer, whose samples stand one after another.
+// The least and the greatest sample of a layer, whose samples stand one after another; and the places of a summary.
 ghost use mathlib.Core.Path.{_≡_};
 ghost use Prim.Native.Nat.{_+_, _≤_, _<_};
-ghost use lib.Ieee.{nan};
-ghost use lib.ListN.{length, getD};
+ghost use lib.ListN.{length};
 ghost use Rattle.model.specs.Limits.{mostSubdivisions};
-ghost use Rattle.model.specs.Layers.{layerCount, better, less, more, extentOf, layerExtent};
-ghost use Rattle.layers.specs.Held.{Held};
+ghost use Rattle.model.specs.Layers.{layerCount, better, less, more, extentOf, layerExtent, summaryLength};
+ghost use Rattle.layers.specs.Held.{Held, samplesFrom};
 use grid::readings::value_in_block;
 use grid::voxel_blocks::in_block;
 use model::Extent;
@@ -25,7 +24,7 @@ fn greater(best: f32, next: f32) -> f32
 // Of so many samples from a place on.
 fn extent_from(samples: &[f32], from: usize, count: usize) -> Extent
     requires { ⌜ (from < length (now samples)) × (from + count ≤ length (now samples)) ⌝ }
-    ensures { λ r. ⌜ r ≡ extentOf (λ k. getD (now (samples .entry)) (from + k) nan) count ⌝ }
+    ensures { λ r. ⌜ r ≡ extentOf (samplesFrom (now (samples .entry)) from) count ⌝ }
 {
     let first = value_in_block(samples, from);
     let mut least = first;
@@ -52,4 +51,11 @@ pub fn layer_extent(n: usize, samples: &[f32], x: usize) -> Extent
     ensures { λ r. ⌜ r ≡ layerExtent n (now (samples .entry)) x ⌝ }
 {
     extent_from(samples, in_block(n, x, 0, 0), layer_count(n))
+}
+
+pub fn summary_length(n: usize) -> usize
+    requires { ⌜ n ≤ mostSubdivisions ⌝ }
+    ensures { λ r. ⌜ r ≡ summaryLength n ⌝ }
+{
+    2 * n
 }

@@ -1,18 +1,18 @@
 // Refusals 14 and 26 of a summary that extraction is lent, and which layers it passes over. A layer's numbers are not worked out again: of all its samples,
-// many at a time, it is asked whether none beats the number that the summary tells and one equals it.
+// many at a time, it is asked whether none is less than the one that the summary tells, none more than the other, and each equals one.
 ghost use mathlib.Core.Path.{_≡_};
 ghost use Prim.Native.Nat.{_+_, _≤_, _<_};
-ghost use lib.Ieee as Ieee;
 ghost use lib.Ieee.{nan, isNan};
 ghost use lib.ListN.{length, getD};
 ghost use mathlib.Core.Bool.{cond};
 ghost use Rattle.model.specs.declared.Verdict.the-variants.{Passed};
 ghost use Rattle.model.specs.Limits.{mostSubdivisions};
 ghost use Rattle.model.specs.Judging.{judgeBuffer};
-ghost use Rattle.model.specs.Layers.{bestOf, less, more, entryOf, marked, layerStands, judgeLayers, passedOver};
-ghost use Rattle.layers.specs.Held.{Held, AllNumbers};
+ghost use Rattle.model.specs.Layers.{extentOf, entryOf, marked, agree, layerStands, judgeLayers, passedOver};
+ghost use Rattle.layers.specs.Held.{Held, AllNumbers, samplesFrom};
 ghost use Rattle.layers.specs.Over.{summaryJudged, NextLayer};
 use crate::extents::layer_count;
+use crate::extents::summary_length;
 use grid::readings::value_in_block;
 use grid::voxel_blocks::in_block;
 use grid::voxel_blocks::inside;
@@ -55,32 +55,23 @@ fn is_marked(told: Extent) -> bool
     is_nan(told.least) | is_nan(told.greatest)
 }
 
-fn is_least(samples: &[f32], from: usize, count: usize, least: f32) -> bool
+// Whether these are in value the least and the greatest of so many samples from a place on.
+fn is_extent(samples: &[f32], from: usize, count: usize, told: Extent) -> bool
     requires { ⌜ AllNumbers (now samples) × ((0 < count) × (from + count ≤ length (now samples))) ⌝ }
-    ensures { λ r. ⌜ r ≡ Ieee.eq least (bestOf less (λ k. getD (now (samples .entry)) (from + k) nan) count) ⌝ }
+    ensures { λ r. ⌜ r ≡ agree told (extentOf (samplesFrom (now (samples .entry)) from) count) ⌝ }
 {
-    let mut unbeaten = true;
-    let mut apart = true;
+    let mut none_less = true;
+    let mut none_more = true;
+    let mut least_apart = true;
+    let mut greatest_apart = true;
     for k in 0..count {
         let s = value_in_block(samples, from + k);
-        unbeaten = unbeaten & (least <= s);
-        apart = apart & (least != s);
+        none_less = none_less & (told.least <= s);
+        none_more = none_more & (s <= told.greatest);
+        least_apart = least_apart & (told.least != s);
+        greatest_apart = greatest_apart & (told.greatest != s);
     }
-    unbeaten & !apart
-}
-
-fn is_greatest(samples: &[f32], from: usize, count: usize, greatest: f32) -> bool
-    requires { ⌜ AllNumbers (now samples) × ((0 < count) × (from + count ≤ length (now samples))) ⌝ }
-    ensures { λ r. ⌜ r ≡ Ieee.eq greatest (bestOf more (λ k. getD (now (samples .entry)) (from + k) nan) count) ⌝ }
-{
-    let mut unbeaten = true;
-    let mut apart = true;
-    for k in 0..count {
-        let s = value_in_block(samples, from + k);
-        unbeaten = unbeaten & (s <= greatest);
-        apart = apart & (greatest != s);
-    }
-    unbeaten & !apart
+    (none_less & !least_apart) & (none_more & !greatest_apart)
 }
 
 // It is marked, or equal in value to one made afresh.
@@ -92,9 +83,7 @@ fn layer_stands(n: usize, samples: &[f32], summary: &[f32], x: usize) -> bool
     if is_marked(told) {
         return true;
     }
-    let from = in_block(n, x, 0, 0);
-    let count = layer_count(n);
-    is_least(samples, from, count, told.least) & is_greatest(samples, from, count, told.greatest)
+    is_extent(samples, in_block(n, x, 0, 0), layer_count(n), told)
 }
 
 fn judge_layers(n: usize, samples: &[f32], summary: &[f32]) -> Verdict
@@ -124,7 +113,7 @@ pub fn judge_summary(n: usize, samples: &[f32], summary: &[f32], asked: bool) ->
     requires { ⌜ Held n (now samples) × AllNumbers (now samples) ⌝ }
     ensures { λ r. ⌜ r ≡ summaryJudged asked n (now (samples .entry)) (now (summary .entry)) ⌝ }
 {
-    let places = judge_places(asked, 2 * n, summary.len());
+    let places = judge_places(asked, summary_length(n), summary.len());
     if let Verdict::Refused(r) = places {
         return Verdict::Refused(r);
     }
@@ -132,7 +121,7 @@ pub fn judge_summary(n: usize, samples: &[f32], summary: &[f32], asked: bool) ->
 }
 
 // An unmarked layer that lies wholly on one side of the threshold.
-pub fn is_passed_over(threshold: f32, summary: &[f32], x: usize) -> bool
+fn is_passed_over(threshold: f32, summary: &[f32], x: usize) -> bool
     requires { ⌜ x < mostSubdivisions ⌝ }
     ensures { λ r. ⌜ r ≡ passedOver threshold (now (summary .entry)) x ⌝ }
 {

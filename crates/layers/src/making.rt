@@ -1,6 +1,7 @@
 // Making: the summary of a block's samples as the first places of a lent list.
 ghost use mathlib.Core.Path.{_≡_};
 ghost use Rattle.layers.specs.Definition.{judgeMaking, makeSummary};
+use crate::extents::summary_length;
 use crate::putting::judge_own;
 use crate::putting::put_layers;
 use judge::judge_buffer;
@@ -14,7 +15,7 @@ fn judge_making(n: usize, samples: &[f32], room: usize) -> Verdict
     if let Verdict::Refused(r) = own {
         return Verdict::Refused(r);
     }
-    judge_buffer(2 * n, room)
+    judge_buffer(summary_length(n), room)
 }
 
 pub fn make_summary(n: usize, samples: &[f32], summary: &mut [f32]) -> Verdict

@@ -8,6 +8,7 @@ ghost use Rattle.model.specs.Samples.{sampled, kindOf};
 ghost use Rattle.model.specs.Layers.{summaryLength};
 ghost use Rattle.layers.specs.Held.{Held};
 ghost use Rattle.layers.specs.Definition.{pointUp, placeUp, judgeChange, firstHolding, endHolding, renewed, setSample};
+use crate::extents::summary_length;
 use crate::putting::judge_own;
 use crate::putting::put_layers;
 use grid::voxel_blocks::is_sampled;
@@ -44,7 +45,7 @@ fn judge_change(n: usize, p: Xyz, value: f32, room: usize) -> Verdict
     if !is_usable(value) {
         return Verdict::Refused(Refusal::BadSample(place(n, p.x, p.y, p.z)));
     }
-    judge_buffer(2 * n, room)
+    judge_buffer(summary_length(n), room)
 }
 
 fn first_holding(x: usize) -> usize

@@ -5,7 +5,7 @@ use mathlib.Core.Bool.{cond}
 use mathlib.Core.List.{List}
 use lib.Ieee.{Float}
 use lib.ListN.{length}
-use Rattle.laws.specs.Steps.{iterate}
+use Rattle.laws.specs.Steps.{iterate, total}
 use Rattle.model.specs.declared.Verdict.{Verdict}
 use Rattle.model.specs.Limits.{sideCount}
 use Rattle.model.specs.Refusals.{orElse}
@@ -15,6 +15,10 @@ use Rattle.model.specs.Mesh.{Mesh, emptyMesh, regularLayer, transitionSi
 use Rattle.model.specs.Extraction.{outcome}
 use Rattle.model.specs.Edges.{judgeEdges, WholeOutcome, edgesLeft}
 use Rattle.model.specs.Layers.{passedOver, judgeSummary}
+
+-- how many of so many layers are passed over
+abbrev pub layersOver : Star → List Float → ℕ → ℕ
+layersOver s summary = total (λ x. cond (passedOver (s .threshold) summary x) 1 0)
 
 -- the step of a layer, unless it is passed over
 unfoldable pub layerStep : Star → List Float → ℕ → Mesh → Mesh

@@ -14,7 +14,7 @@ use Rattle.model.specs.Mesh.{Mesh, regularReads, emptyMesh, regularLayer
 use Rattle.model.specs.Adding.{steps-add}
 use Rattle.model.specs.Reads.{Reads, reads-none, layer-reads, sideReads, side-reads}
 use Rattle.model.specs.Layers.{passedOver}
-use Rattle.model.specs.Layered.{layerStep, layeredMesh}
+use Rattle.model.specs.Layered.{layersOver, layerStep, layeredMesh}
 
 module _ (s : Star) (summary : List Float) where
   abbrev n : ℕ
@@ -39,19 +39,15 @@ module _ (s : Star) (summary : List Float) where
       let none : Reads (0 + total layerReads n) regular = steps-add Reads (layerStep s summary) layerReads step-reads n 0 (emptyMesh n) (reads-none n) in
       steps-add Reads (transitionSide s) (sideReads s) (side-reads s) sideCount (total layerReads n) regular (rw zero-add at none)
 
-  -- how many layers are passed over
-  abbrev pub layersOver : ℕ → ℕ
-  layersOver = total (λ x. cond (passedOver (s .threshold) summary x) 1 0)
-
-  -- each of them spares a layer's reads
+  -- each layer passed over spares a layer's reads
   abbrev square : ℕ
   square = regularReads * n * n
 
-  pub layers-spared : (k : ℕ) → total layerReads k + square * layersOver k ≡ square * k
+  pub layers-spared : (k : ℕ) → total layerReads k + square * layersOver s summary k ≡ square * k
   layers-spared zero = rw mul-zero
   layers-spared (suc k) = go (passedOver (s .threshold) summary k) (layers-spared k)
     where
-      go : (b : Bool) → total layerReads k + square * layersOver k ≡ square * k
-          → total layerReads k + cond b 0 square + square * (layersOver k + cond b 1 0) ≡ square * suc k
+      go : (b : Bool) → total layerReads k + square * layersOver s summary k ≡ square * k
+          → total layerReads k + cond b 0 square + square * (layersOver s summary k + cond b 1 0) ≡ square * suc k
       go true h = rw (mul-suc, add-one, mul-suc) (omega (arith, h))
       go false h = rw (mul-suc, add-zero) (omega (arith, h))

@@ -17,8 +17,7 @@ use Rattle.model.specs.Star.{Star, subdivisions}
 use Rattle.model.specs.Judging.{judgeFaces, judgeStore, judgeRoom, judgeBuffer}
 use Rattle.model.specs.Edges.{judgeEdges, WholeOutcome}
 use Rattle.model.specs.Layers.{summaryLength, entryOf, marked, judgeLayers, judgeSummary}
-use Rattle.model.specs.Layered.{extractLayered}
-use Rattle.model.specs.LayeredReads.{layersOver}
+use Rattle.model.specs.Layered.{layersOver, extractLayered}
 use Rattle.promises.specs.Left.{counts}
 use Rattle.promises.specs.Orders.{Judge, judge, Judged, blockJudges}
 use Rattle.promises.specs.Weld.{LentWhole, wholeOutcome, answeredWhole, leftWhole}

@@ -24,8 +24,8 @@ use Rattle.model.specs.Mesh.{Mesh, storeLength, transitionReads, meshOf}
 use Rattle.model.specs.Extraction.{outcome}
 use Rattle.model.specs.Edges.{judgeEdges, WholeOutcome, judgeWhole, edgesLeft, extractWhole}
 use Rattle.model.specs.Layers.{summaryLength, layerExtent, entryOf, marked, agree, oneSided, layerStands, judgeLayers, judgeSummary}
-use Rattle.model.specs.Layered.{layeredMesh}
-use Rattle.model.specs.LayeredReads.{layersOver, layered-reads, layers-spared}
+use Rattle.model.specs.Layered.{layersOver, layeredMesh}
+use Rattle.model.specs.LayeredReads.{layered-reads, layers-spared}
 use Rattle.judge.specs.First.{or-else-assoc, or-else-passed, both-passed}
 use Rattle.judge.specs.Passing.{star-shaped}
 use Rattle.layers.specs.Setting.{all-stand}

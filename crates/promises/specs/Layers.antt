@@ -1,10 +1,11 @@
 -- What the buyer was promised of summaries by layer (document 02, [12]), for every input: what making and setting answer and leave, what a layer's two
--- numbers are, that setting keeps a summary right, what 26 refuses, and that a layer passed over makes nothing. It speaks of layers' `makeSummary` and
--- `setSample`, to which the `ensures` of the calls say that the code is equal, in the words of the model's Layers. Definitions only.
+-- numbers are, that setting keeps a summary right, what 26 refuses, that a layer passed over makes nothing, and that each unmarked layer on one side of the
+-- threshold is passed over. It speaks of layers' `makeSummary` and `setSample`, to which the `ensures` of the calls say that the code is equal, in the words
+-- of the model's Layers. Definitions only.
 use Prim.Native.Nat.{ℕ, _+_, _*_, _/_, _%_, _≤_, _<_}
 use mathlib.Core.Path.{_≡_}
 use mathlib.Core.Logic.{_⊎_}
-use mathlib.Core.Bool.{true, false}
+use mathlib.Core.Bool.{Bool, true, false}
 use mathlib.Core.List.{List, [], _∷_}
 use lib.IntN.{ℤ, pos}
 use lib.Ieee.{Float, nan, fin, le, lt, eq}
@@ -15,6 +16,7 @@ use Rattle.model.specs.declared.PlaceKind.the-variants.{Face}
 use Rattle.model.specs.declared.Verdict.the-variants.{Passed, Refused}
 use Rattle.model.specs.Samples.{sampleOf}
 use Rattle.model.specs.Rotations.{xyz}
+use Rattle.model.specs.Formulas.{inside}
 use Rattle.model.specs.Star.{Star, subdivisions}
 use Rattle.model.specs.Points.{regularCase}
 use Rattle.model.specs.Mesh.{Mesh, regularLayer}
@@ -154,3 +156,8 @@ pub record LayerPromises : Type 0 where
   -- of a block that 1 to 7 let pass, with a summary that 26 lets pass
   pub passed-over : (s : Star) (summary : List Float) (x : ℕ) → judgeStar s ≡ Passed → judgeLayers (subdivisions s) (s .centre) summary ≡ Passed
       → x < subdivisions s → passedOver (s .threshold) summary x ≡ true → MakesNothing s x
+  -- and there each unmarked layer whose samples are all inside or all outside is passed over
+  pub all-passed-over : (s : Star) (summary : List Float) (x : ℕ) (b : Bool) → judgeStar s ≡ Passed
+      → judgeLayers (subdivisions s) (s .centre) summary ≡ Passed → x < subdivisions s → marked (entryOf summary x) ≡ false
+      → ((k : ℕ) → k < layerCount (subdivisions s) → inside (s .threshold) (layerSample (subdivisions s) (s .centre) x k) ≡ b)
+      → passedOver (s .threshold) summary x ≡ true

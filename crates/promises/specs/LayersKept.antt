@@ -1,5 +1,5 @@
 -- What was promised of summaries by layer holds: the two calls are judged by their judges in order, what they leave is read off place by place, and a layer
--- passed over makes nothing since none of its cells is cut.
+-- passed over makes nothing since none of its cells is cut; one on one side has its least sample there, and its greatest.
 use Prim.Native.Nat.{ℕ, _+_, _-_, _*_, _/_, _%_, _≤_, _<_, zero-le}
 use native.Mathlib.Nat.{div-add-mod', div-div-eq-div-mul, add-mul, mul-assoc, mul-comm, mod-lt, div-lt-iff-lt-mul}
 use native.Mathlib.Omega.{arith}
@@ -13,6 +13,7 @@ use lib.IntN.{ℤ, pos, negsuc}
 use lib.Ieee.{Float, nan, lt, eq}
 use lib.ListN.{length, getD, set, length-set}
 use lib.Seq.{getD-set-same, getD-set-other}
+use Rattle.laws.specs.Tests.{neither}
 use Rattle.model.specs.declared.Xyz.{Xyz}
 use Rattle.model.specs.declared.Refusal.{Refusal}
 use Rattle.model.specs.declared.Refusal.the-variants.{BadSample, LayerDiffers}
@@ -21,6 +22,7 @@ use Rattle.model.specs.declared.PlaceKind.the-variants.{InBlock, Face}
 use Rattle.model.specs.declared.Verdict.{Verdict}
 use Rattle.model.specs.declared.Verdict.the-variants.{Passed, Refused}
 use Rattle.model.specs.Samples.{oneUp}
+use Rattle.model.specs.Formulas.{inside}
 use Rattle.model.specs.Refusals.{unless, first}
 use Rattle.model.specs.Star.{Star, subdivisions}
 use Rattle.model.specs.Points.{regularCase}
@@ -34,8 +36,8 @@ use Rattle.layers.specs.Order.{eq-le, eq-ge, le-not}
 use Rattle.layers.specs.Passing.{own, makeable, Changeable, changeable, setting-passed, set-own}
 use Rattle.layers.specs.Places.{plane, inLayer, in-layer, layer-has, is-stored}
 use Rattle.layers.specs.Made.{as-long, made-in, place-stays}
-use Rattle.layers.specs.OneSided.{least-is, greatest-is, not-cut}
-use Rattle.layers.specs.Over.{Trusted, trusted}
+use Rattle.layers.specs.OneSided.{least-is, greatest-is, is-over, not-cut}
+use Rattle.layers.specs.Over.{Trusted, threshold-number, trusted}
 use Rattle.layers.specs.Layered.{layer-nothing}
 use Rattle.layers.specs.Holding.{in-or-apart}
 use Rattle.layers.specs.Setting.{all-stand, each-stands, fresh-stands, touched, untouched, made-beyond, made-long, stands-after}
@@ -329,10 +331,6 @@ numbers =
 
 -- ---- 26
 
-none-of : (a b : Bool) → a || b ≡ false → (a ≡ false) × (b ≡ false)
-none-of true b e = absurd (false≢true (sym e))
-none-of false b e = (refl, e)
-
 module _ (n : ℕ) (samples summary : List Float) where
   abbrev spot : ℕ → Verdict
   spot x = unless (layerStands n samples summary x) (LayerDiffers x)
@@ -349,7 +347,7 @@ module _ (n : ℕ) (samples summary : List Float) where
       go k l before false stood e =
           let same : k ≡ layer = cc in
           subst (DiffersFirst n samples summary) same
-          (let parts = none-of (marked (entryOf summary k)) (agree (entryOf summary k) (layerExtent n samples k)) stood in
+          (let parts = neither (marked (entryOf summary k)) (agree (entryOf summary k) (layerExtent n samples k)) stood in
           record {
             within = l;
             unmarked = parts .0;
@@ -382,6 +380,14 @@ module _ (s : Star) (summary : List Float) (x : ℕ) (passed : judgeStar s ≡ P
         step = layer-nothing s summary right-there x hx over;
       }
 
+all-over : (s : Star) (summary : List Float) (x : ℕ) (b : Bool) → judgeStar s ≡ Passed
+    → judgeLayers (subdivisions s) (s .centre) summary ≡ Passed → x < subdivisions s → marked (entryOf summary x) ≡ false
+    → ((k : ℕ) → k < layerCount (subdivisions s) → inside (s .threshold) (layerSample (subdivisions s) (s .centre) x k) ≡ b)
+    → passedOver (s .threshold) summary x ≡ true
+all-over s summary x b passed right hx unmarked side =
+    let t = trusted s passed summary right in
+    is-over (subdivisions s) (s .centre) (t .held) (t .numbers) x hx (s .threshold) summary (t .stands x hx) unmarked (threshold-number s passed) b side
+
 -- ---- all of it
 
 pub layers-kept : LayerPromises
@@ -393,4 +399,5 @@ layers-kept =
       set = was-set;
       differs-first = differs-first;
       passed-over = makes-nothing;
+      all-passed-over = all-over;
     }

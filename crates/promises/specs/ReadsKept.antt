@@ -81,7 +81,7 @@ module _ (m : Mesh) (lent : Lent) where
   abbrev came : Verdict → Outcome
   came = outcome m (lent .store) (lent .vertices) (lent .triangles)
 
-  pub came-accepted : (v : Verdict) (c : Counts) → came v .answer ≡ Extraction.Mesh c → came v .reads ≡ m .reads
+  came-accepted : (v : Verdict) (c : Counts) → came v .answer ≡ Extraction.Mesh c → came v .reads ≡ m .reads
   unfolding outcome
   came-accepted Passed c e = refl
   came-accepted (Refused q) c e = cc

@@ -1,23 +1,20 @@
 -- `layers::extents::extent_from` meets its contract. The invariant: the two are the best of the samples passed.
-use Prim.Native.Nat.{ℕ, _+_, _-_, _≤_}
+use Prim.Native.Nat.{ℕ, _-_, _≤_}
 use native.Mathlib.Nat.{add-zero}
 use native.Mathlib.Numerals.{add-one}
 use native.Mathlib.Omega.{arith}
 use mathlib.Core.Path.{_≡_, sym, ap, ap₂, _∙_}
-use mathlib.Core.List.{List}
 use borrow.Author.Needs.{needs}
 use lib.Ieee.{Float, nan}
 use lib.ListN.{getD}
 use Rattle.model.specs.Layers.{better, bestOf, less, more, extentOf}
+use Rattle.layers.specs.Held.{samplesFrom}
 use Rattle.layers.proofs.extents.extent_from.Statement.{statement}
 use Rattle.layers.proofs.extents.extent_from.Tie as tie
 
-abbrev sampleFrom : List Float → ℕ → ℕ → Float
-sampleFrom samples from k = getD samples (from + k) nan
-
 abbrev Inv-loop : tie.InvT-loop
 Inv-loop samples from count first least₀ greatest₀ k₀ least greatest k =
-    (k ≤ count) × (least ≡ bestOf less (sampleFrom samples from) k) × (greatest ≡ bestOf more (sampleFrom samples from) k)
+    (k ≤ count) × (least ≡ bestOf less (samplesFrom samples from) k) × (greatest ≡ bestOf more (samplesFrom samples from) k)
 
 abbrev μ-loop : tie.MeasureT-loop
 μ-loop samples from count first least₀ greatest₀ k₀ least greatest k = count - k
@@ -65,7 +62,7 @@ unfolding extentOf
 returns c =
     let a = c .before .before .before .before .args in
     let turn = c .before .loop in
-    let f : ℕ → Float = sampleFrom (a .samples .now) (a .from) in
+    let f : ℕ → Float = samplesFrom (a .samples .now) (a .from) in
     let end : turn .k ≡ a .count = omega arith in
     let least = turn .inv .1 ∙ ap (bestOf less f) end in
     let greatest = turn .inv .2 ∙ ap (bestOf more f) end in

@@ -1,11 +1,10 @@
 -- `layers::extents::layer_extent` meets its contract: the layer's samples are a stretch of the list.
-use Prim.Native.Nat.{ℕ, _+_}
+use Prim.Native.Nat.{ℕ}
 use native.Mathlib.Omega.{arith}
 use mathlib.Core.Path.{ap₂, _∙_}
 use borrow.Author.Needs.{needs}
-use lib.Ieee.{nan}
-use lib.ListN.{getD}
 use Rattle.model.specs.Layers.{extentOf, layerExtent}
+use Rattle.layers.specs.Held.{samplesFrom}
 use Rattle.layers.specs.Places.{layer-held, layer-starts}
 use Rattle.layers.proofs.extents.layer_extent.Statement.{statement}
 use Rattle.layers.proofs.extents.layer_extent.Tie as tie
@@ -33,7 +32,7 @@ returns c =
     let placed = counted .before in
     let samples = placed .before .before .args .samples .now in
     c .extent-from .ensures
-    ∙ ap₂ (λ (from count : ℕ). extentOf (λ k. getD samples (from + k) nan) count) (placed .in-block .ensures .0) (counted .layer-count .ensures)
+    ∙ ap₂ (λ (from count : ℕ). extentOf (samplesFrom samples from) count) (placed .in-block .ensures .0) (counted .layer-count .ensures)
 
 pub layer-extent-spec : {M : Type 1} → statement M
 layer-extent-spec =

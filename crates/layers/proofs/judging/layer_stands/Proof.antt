@@ -1,13 +1,12 @@
--- `layers::judging::layer_stands` meets its contract: a marked layer stands, and any other where both numbers are found among its samples unbeaten.
-use Prim.Native.Nat.{ℕ, _+_}
+-- `layers::judging::layer_stands` meets its contract: a marked layer stands, and any other where its two numbers are in value those of its samples.
+use Prim.Native.Nat.{ℕ}
 use native.Mathlib.Omega.{arith}
 use mathlib.Core.Path.{_≡_, sym, ap, ap₂, _∙_}
-use mathlib.Core.Bool.{Bool, _&&_, _||_}
+use mathlib.Core.Bool.{Bool, _||_}
 use borrow.Author.Needs.{needs}
-use lib.Ieee.{nan, eq}
-use lib.ListN.{getD}
 use Rattle.model.specs.declared.Extent.{Extent}
-use Rattle.model.specs.Layers.{bestOf, less, more, extentOf, layerExtent, entryOf, marked, agree}
+use Rattle.model.specs.Layers.{extentOf, layerExtent, entryOf, marked, agree}
+use Rattle.layers.specs.Held.{samplesFrom}
 use Rattle.layers.specs.Places.{some-samples, layer-held}
 use Rattle.layers.proofs.judging.layer_stands.Statement.{statement}
 use Rattle.layers.proofs.judging.layer_stands.Tie as tie
@@ -42,8 +41,8 @@ in-block-requires c κs = search needs
 layer-count-requires : tie.Need-layer-count-requires
 layer-count-requires c κs = search needs
 
-is-least-requires : tie.Need-is-least-requires
-is-least-requires c κs =
+is-extent-requires : tie.Need-is-extent-requires
+is-extent-requires c κs =
     let placed = c .before in
     let begun = start (placed .before .before) in
     let a = begun .args in (
@@ -54,23 +53,16 @@ is-least-requires c κs =
       ),
     )
 
-is-greatest-requires : tie.Need-is-greatest-requires
-is-greatest-requires c κs = is-least-requires (c .before) κs
-
 returns-2 : tie.Need-returns-2
-unfolding layerExtent extentOf
+unfolding layerExtent
 returns-2 c =
-    let counted = c .before .before in
+    let counted = c .before in
     let placed = counted .before in
     let judged = placed .before .before in
     let read = judged .before .entry in
     let samples = start judged .args .samples .now in
-    ap₂ _&&_ (c .before .is-least .ensures) (c .is-greatest .ensures)
-    ∙ ap₂
-    (λ (from count : ℕ).
-    eq (read .result .least) (bestOf less (λ k. getD samples (from + k) nan) count)
-    && eq (read .result .greatest) (bestOf more (λ k. getD samples (from + k) nan) count))
-    (placed .in-block .ensures .0) (counted .layer-count .ensures)
+    c .is-extent .ensures
+    ∙ ap₂ (λ (from count : ℕ). agree (read .result) (extentOf (samplesFrom samples from) count)) (placed .in-block .ensures .0) (counted .layer-count .ensures)
     ∙ ap (λ (e : Extent). agree e (fresh judged)) (read .ensures)
     ∙ sym (ap (λ (b : Bool). b || agree (told judged) (fresh judged)) (is-told judged _ (placed .before .if1 .left)))
 
@@ -83,6 +75,5 @@ layer-stands-spec =
     returns
     in-block-requires
     layer-count-requires
-    is-least-requires
-    is-greatest-requires
+    is-extent-requires
     returns-2)

@@ -1,8 +1,9 @@
 -- `layers::making::judge_making` meets its contract: 1, 4 and 7 refuse, or they pass and 14 is left.
-use native.Mathlib.Omega.{arith}
-use mathlib.Core.Path.{_≡_, sym, _∙_}
+use Prim.Native.Nat.{ℕ}
+use mathlib.Core.Path.{_≡_, sym, ap, _∙_}
 use borrow.Author.Needs.{needs}
 use Rattle.model.specs.declared.Verdict.the-variants.{Passed}
+use Rattle.model.specs.Judging.{judgeBuffer}
 use Rattle.layers.specs.Definition.{judgeOwn}
 use Rattle.layers.specs.Passing.{own, making-by-own}
 use Rattle.layers.proofs.making.judge_making.Statement.{statement}
@@ -26,18 +27,20 @@ enum-told c = search needs
 passed : (c : tie.After-enum-told) → let a = c .before .before .before .before .args in judgeOwn (a .n) (a .samples .now) ≡ Passed
 passed c = sym (c .before .before .judge-own .ensures) ∙ c .enum-told .given .1
 
-mul-judge-buffer : tie.Need-mul-judge-buffer
-mul-judge-buffer c =
+summary-length-requires : tie.Need-summary-length-requires
+summary-length-requires c κs =
     let a = c .before .before .before .before .args in
-    omega (arith, own (a .n) (a .samples .now) (passed c) .held .few)
+    own (a .n) (a .samples .now) (passed c) .held .few
 
 judge-buffer-requires : tie.Need-judge-buffer-requires
 judge-buffer-requires c κs = search needs
 
 returns-2 : tie.Need-returns-2
 returns-2 c =
-    let a = c .before .before .before .before .before .args in
-    c .judge-buffer .ensures ∙ sym (making-by-own (a .n) (a .samples .now) (a .room) (passed (c .before)))
+    let measured = c .before in
+    let a = measured .before .before .before .before .before .args in
+    c .judge-buffer .ensures ∙ ap (λ (k : ℕ). judgeBuffer k (a .room)) (measured .summary-length .ensures)
+    ∙ sym (making-by-own (a .n) (a .samples .now) (a .room) (passed (measured .before)))
 
 pub judge-making-spec : {M : Type 1} → statement M
 judge-making-spec =
@@ -47,6 +50,6 @@ judge-making-spec =
     enum-known-own
     returns
     enum-told
-    mul-judge-buffer
+    summary-length-requires
     judge-buffer-requires
     returns-2)

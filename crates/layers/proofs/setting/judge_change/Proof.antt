@@ -43,8 +43,8 @@ returns-2 c =
     let bad : usable (a .value) ≡ false = sym (judged .is-usable .ensures) ∙ not-true (judged .is-usable .result) (c .before .if2 .taken) in
     rw (was-sampled (judged .before), bad, ← c .place .ensures .0)
 
-mul-judge-buffer : tie.Need-mul-judge-buffer
-mul-judge-buffer c = search needs
+summary-length-requires : tie.Need-summary-length-requires
+summary-length-requires c κs = search needs
 
 judge-buffer-requires : tie.Need-judge-buffer-requires
 judge-buffer-requires c κs = search needs
@@ -52,10 +52,11 @@ judge-buffer-requires c κs = search needs
 returns-3 : tie.Need-returns-3
 unfolding judgeChange
 returns-3 c =
-    let judged = c .before .before in
+    let measured = c .before in
+    let judged = measured .before .before in
     let a = judged .before .before .before .args in
-    let good : usable (a .value) ≡ true = sym (judged .is-usable .ensures) ∙ not-false (judged .is-usable .result) (c .before .if2 .left) in
-    rw (was-sampled (judged .before), good) (c .judge-buffer .ensures)
+    let good : usable (a .value) ≡ true = sym (judged .is-usable .ensures) ∙ not-false (judged .is-usable .result) (measured .before .if2 .left) in
+    rw (was-sampled (judged .before), good, ← measured .summary-length .ensures) (c .judge-buffer .ensures)
 
 pub judge-change-spec : {M : Type 1} → statement M
 judge-change-spec =
@@ -67,6 +68,6 @@ judge-change-spec =
     is-usable-requires
     place-requires
     returns-2
-    mul-judge-buffer
+    summary-length-requires
     judge-buffer-requires
     returns-3)
