@@ -35,7 +35,7 @@ use Rattle.layers.specs.Over.{summaryJudged, no-summary, Trusted, trusted}
 use Rattle.layers.specs.Layered.{spared, extract-spared}
 use Rattle.counting.specs.Counting.{mostCells, Counted}
 use Rattle.writing.specs.Writing.{Exact, Numbered, Written}
-use Rattle.algorithm.specs.Passes.{judged, edgesJudged, roomJudged, numbersLeft, allJudged, refusedReport, Leaves}
+use Rattle.algorithm.specs.Verdicts.{judged, edgesJudged, roomJudged, numbersLeft, allJudged, refusedReport, Leaves}
 
 -- the contract's five claims
 pub told : {o : Outcome} {report : Report} {store : List ℕ} {vertices : List Float} {triangles : List ℕ}
@@ -44,9 +44,14 @@ pub told : {o : Outcome} {report : Report} {store : List ℕ} {vertices : List F
 told l = (l .answer-is, (l .store-is, (l .vertices-are, (l .triangles-are, l .reads-are))))
 
 -- and the further list
+abbrev ToldWhole : WholeOutcome → Report → List ℕ → List Float → List ℕ → List ℕ → Type 0
+ToldWhole o report store vertices triangles edges =
+    (report .answer ≡ o .mesh .answer)
+    × ((store ≡ o .mesh .store)
+    × ((vertices ≡ o .mesh .vertices) × ((triangles ≡ o .mesh .triangles) × ((report .reads ≡ o .mesh .reads) × (edges ≡ o .edges)))))
+
 pub told-whole : {o : Outcome} {report : Report} {store : List ℕ} {vertices : List Float} {triangles edges edges′ : List ℕ}
-    → Leaves o report store vertices triangles → edges ≡ edges′
-    → (report .answer ≡ o .answer) × ((store ≡ o .store) × ((vertices ≡ o .vertices) × ((triangles ≡ o .triangles) × ((report .reads ≡ o .reads) × (edges ≡ edges′)))))
+    → Leaves o report store vertices triangles → edges ≡ edges′ → ToldWhole (record { mesh = o; edges = edges′ }) report store vertices triangles edges
 told-whole l e = (l .answer-is, (l .store-is, (l .vertices-are, (l .triangles-are, (l .reads-are, e)))))
 
 -- with no summary, extraction without one
@@ -222,14 +227,6 @@ module _ (s : Star) (summary : List Float) (store : List ℕ) (vertices : List F
 
   pub told-layered : (report : Report) (store′ : List ℕ) (vertices′ : List Float) (triangles′ edges′ : List ℕ)
       → Leaves (outcome (spared s summary) store vertices triangles all-asked) report store′ vertices′ triangles′ → edges′ ≡ numbersLeft true s edges all-asked
-      → let o = extractLayered s summary store vertices triangles edges in
-      (report .answer ≡ o .mesh .answer)
-      × ((store′ ≡ o .mesh .store)
-      × ((vertices′ ≡ o .mesh .vertices) × ((triangles′ ≡ o .mesh .triangles) × ((report .reads ≡ o .mesh .reads) × (edges′ ≡ o .edges)))))
+      → ToldWhole (extractLayered s summary store vertices triangles edges) report store′ vertices′ triangles′ edges′
   told-layered report store′ vertices′ triangles′ edges′ l e =
-      subst
-      (λ (o : WholeOutcome).
-      (report .answer ≡ o .mesh .answer)
-      × ((store′ ≡ o .mesh .store)
-      × ((vertices′ ≡ o .mesh .vertices) × ((triangles′ ≡ o .mesh .triangles) × ((report .reads ≡ o .mesh .reads) × (edges′ ≡ o .edges))))))
-      (sym layered-left) (told-whole l e)
+      subst (λ (o : WholeOutcome). ToldWhole o report store′ vertices′ triangles′ edges′) (sym layered-left) (told-whole l e)

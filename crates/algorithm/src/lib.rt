@@ -12,7 +12,7 @@ ghost use Rattle.model.specs.Layered.{extractLayered};
 ghost use Rattle.layers.specs.Over.{Trusted};
 ghost use Rattle.layers.specs.Layered.{spared};
 ghost use Rattle.grid.specs.Shape.{Shaped};
-ghost use Rattle.algorithm.specs.Passes.{judged, edgesJudged, roomJudged, numbersLeft, allJudged, refusedReport, Leaves};
+ghost use Rattle.algorithm.specs.Verdicts.{judged, edgesJudged, roomJudged, numbersLeft, allJudged, refusedReport, Leaves};
 use agreement::judge_faces;
 use counting::count_mesh;
 use grid::shared_vertex_indices::store_length;
@@ -112,8 +112,6 @@ fn extract_mesh(
         return refused(no_room);
     }
     let places = store_length(header.block.subdivisions);
-    let floats = 6 * counts.vertices;
-    let indices = 3 * counts.triangles;
     let numbers = numbers_asked(numbered, counts.vertices);
     let reads = write_mesh(
         header,
@@ -121,8 +119,8 @@ fn extract_mesh(
         neighbours,
         summary,
         &mut store[..places],
-        &mut vertices[..floats],
-        &mut triangles[..indices],
+        &mut vertices[..6 * counts.vertices],
+        &mut triangles[..3 * counts.triangles],
         &mut edges[..numbers],
     );
     Report {

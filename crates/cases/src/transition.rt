@@ -23,7 +23,7 @@ use grid::face_walk::face_walk;
 use grid::transition_sides::neighbour;
 use model::Header;
 
-// A contribution of 1: the nine stand in the top bits of one sum, for the reason that regular.rt tells.
+// A contribution of 1: the nine stand in the top bits of one sum, for the reason that crates/regular tells.
 const ONE: u32 = 0x80_0000;
 
 // What marks a cell: whether it is cut.

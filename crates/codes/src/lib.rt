@@ -1,4 +1,4 @@
-// What a vertex code comes to in its cell: whether it makes a vertex, the cell that it steps back to, and its place in the index store.
+// What a vertex code comes to in its cell: whether it makes a vertex, the cell that it steps back to, and how many vertices a row of codes makes.
 ghost use mathlib.Core.Path.{_≡_};
 ghost use mathlib.Core.Bool.{false, cond};
 ghost use Prim.Native.Nat.{_≤_, _<_};

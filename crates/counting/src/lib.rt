@@ -123,7 +123,7 @@ fn pair_at(header: Header, centre: &[f32], paired: usize, x: usize, pairs: &mut 
     pair_layer(header, centre, x, pairs);
 }
 
-// Layers that a summary lets pass over are not looked at.
+// It goes from layer to layer that is not passed over; where there is none it looks at the last plane alone.
 fn count_regular_cells(header: Header, centre: &[f32], summary: &[f32]) -> Counts
     requires { ⌜ (header .block .subdivisions ≤ mostSubdivisions) × (length (now centre) ≡ sampleLength (header .block .subdivisions)) ⌝ }
     requires { ⌜ Trusted (header .block .subdivisions) (now centre) (now summary) ⌝ }
@@ -138,9 +138,9 @@ fn count_regular_cells(header: Header, centre: &[f32], summary: &[f32]) -> Count
     let mut cases = [0u8; SHEET];
     let mut marks = [0u8; SHEET];
     let mut counts = NONE;
-    pair_layer(header, centre, 0, &mut pairs);
-    let mut paired = 0;
     let mut x = next_layer(n, header.threshold, summary, 0);
+    pair_layer(header, centre, x, &mut pairs);
+    let mut paired = x;
     while x < n {
         pair_at(header, centre, paired, x, &mut pairs);
         layer_cases(header, centre, x, &mut pairs, &mut cases, &mut marks);

@@ -1,5 +1,5 @@
-// The same sheet for the counting pass, in which a sample is read once. A place holds a pair: whether its point of one layer is inside, and
-// twice the same of the layer after it. The case numbers come from pairs alone.
+// The sheet of a layer of regular cells for the counting pass, in which a sample is read once. A place holds a pair: whether its point of one
+// layer is inside, and twice the same of the layer after it. The case numbers come from pairs alone.
 ghost use mathlib.Core.Path.{_≡_};
 ghost use mathlib.Core.List.{List, []};
 ghost use Prim.Native.Nat.{ℕ, _+_, _-_, _*_, _/_, _≤_, _<_};

@@ -77,12 +77,6 @@ store-length-requires c κs = search needs
 abbrev counting : tie.After-enum-told2 → tie.After-count-mesh
 counting c = c .before .before .before .before .before .before
 
-mul-floats : tie.Need-mul-floats
-mul-floats c = omega (arith, counting (c .before .before) .count-mesh .ensures .0 .vertices)
-
-mul-indices : tie.Need-mul-indices
-mul-indices c = omega (arith, counting (c .before .before .before) .count-mesh .ensures .0 .triangles)
-
 numbers-asked-requires : tie.Need-numbers-asked-requires
 numbers-asked-requires c κs = search needs
 
@@ -128,33 +122,50 @@ exact c =
 store-long : (c : tie.After-store-length) → c .store-length .result ≤ length (start (counting (c .before)) .args .store .now)
 store-long c = omega (arith, c .store-length .ensures, start (counting (c .before)) .pre .1 .1)
 
+-- where it is measured, and where all has passed, from where it is told how many numbers are asked for
+abbrev measured : tie.After-numbers-asked → tie.After-store-length
+measured c = c .before
+
+abbrev past : tie.After-numbers-asked → tie.After-enum-told2
+past c = measured c .before
+
 slice-relend-prefix-write-mesh : tie.Need-slice-relend-prefix-write-mesh
-slice-relend-prefix-write-mesh c = store-long (c .before .before .before)
+slice-relend-prefix-write-mesh c = store-long (measured c)
 
 slice-aggregate-write-mesh : tie.Need-slice-aggregate-write-mesh
-slice-aggregate-write-mesh c = sym (length-take-le _ _ (store-long (c .before .before .before .before)))
+slice-aggregate-write-mesh c = sym (length-take-le _ _ (store-long (measured (c .before))))
+
+mul-write-mesh : tie.Need-mul-write-mesh
+mul-write-mesh c = omega (arith, counting (past (c .before .before)) .count-mesh .ensures .0 .vertices)
 
 slice-relend-prefix-write-mesh-2 : tie.Need-slice-relend-prefix-write-mesh-2
-slice-relend-prefix-write-mesh-2 c = room (c .before .before .before .before .before) .0
+slice-relend-prefix-write-mesh-2 c = room (past (c .before .before)) .0
 
 slice-aggregate-write-mesh-2 : tie.Need-slice-aggregate-write-mesh-2
-slice-aggregate-write-mesh-2 c = sym (length-take-le _ _ (room (c .before .before .before .before .before .before) .0))
+slice-aggregate-write-mesh-2 c = sym (length-take-le _ _ (room (past (c .before .before .before)) .0))
+
+mul-write-mesh-2 : tie.Need-mul-write-mesh-2
+mul-write-mesh-2 c = omega (arith, counting (past (c .before .before .before .before)) .count-mesh .ensures .0 .triangles)
 
 slice-relend-prefix-write-mesh-3 : tie.Need-slice-relend-prefix-write-mesh-3
-slice-relend-prefix-write-mesh-3 c = room (c .before .before .before .before .before .before) .1
+slice-relend-prefix-write-mesh-3 c = room (past (c .before .before .before .before)) .1
 
 slice-aggregate-write-mesh-3 : tie.Need-slice-aggregate-write-mesh-3
-slice-aggregate-write-mesh-3 c = sym (length-take-le _ _ (room (c .before .before .before .before .before .before .before) .1))
+slice-aggregate-write-mesh-3 c = sym (length-take-le _ _ (room (past (c .before .before .before .before .before)) .1))
+
+-- the numbers' part
+numbers-long : (c : tie.After-numbers-asked) → c .numbers-asked .result ≤ length (start (counting (past c)) .args .edges .now)
+numbers-long c = omega (arith, c .numbers-asked .ensures, long (past c))
 
 slice-relend-prefix-write-mesh-4 : tie.Need-slice-relend-prefix-write-mesh-4
-slice-relend-prefix-write-mesh-4 c = omega (arith, c .before .before .before .numbers-asked .ensures, long (c .before .before .before .before .before .before .before))
+slice-relend-prefix-write-mesh-4 c = numbers-long (c .before .before .before .before .before)
 
 slice-aggregate-write-mesh-4 : tie.Need-slice-aggregate-write-mesh-4
-slice-aggregate-write-mesh-4 c = sym (length-take-le _ _ (omega (arith, c .before .before .before .before .numbers-asked .ensures, long (c .before .before .before .before .before .before .before .before))))
+slice-aggregate-write-mesh-4 c = sym (length-take-le _ _ (numbers-long (c .before .before .before .before .before .before)))
 
 write-mesh-requires : tie.Need-write-mesh-requires
 write-mesh-requires c κs =
-    let place = c .before .before .before .before .before .before .before in
+    let place = measured (c .before .before .before .before .before .before) in
     let pre = start (counting (place .before)) .pre in
     (pre .0, (pre .1 .0, exact place))
 
@@ -173,8 +184,9 @@ same-length-4 c = search needs
 returns-3 : tie.Need-returns-3
 returns-3 c =
     let written = c .before .before .before .before .before .before .before .before in
-    let asked = written .before .before .before .before .before in
-    let place = asked .before .before .before in
+    let parts-lent = written .before in
+    let asked = parts-lent .before .before .before .before .before .before in
+    let place = measured asked in
     let told = place .before in
     let b = start (counting told) in
     let a = b .args in
@@ -191,7 +203,7 @@ returns-3 c =
     (record { vertices-same = w .kept .1 .1 .1 .1 .1 .0; triangles-same = w .kept .1 .1 .1 .1 .1 .1 .0; store-same = w .kept .1 .1 .1 .1 .0; edges-same = refl })
     (exact place))
     (w .ensures .0) (w .ensures .1 .0)
-    (w .kept .1 .1 .1 .1 .1 .1 .1 .0 ∙ length-take-le _ _ (omega (arith, count-is, long told)) ∙ count-is)
+    (w .kept .1 .1 .1 .1 .1 .1 .1 .0 ∙ length-take-le _ _ (numbers-long asked) ∙ count-is)
     (w .ensures .1 .1))
 
 pub extract-mesh-spec : {M : Type 1} → statement M
@@ -210,13 +222,13 @@ extract-mesh-spec =
     returns-2
     enum-told-2
     store-length-requires
-    mul-floats
-    mul-indices
     numbers-asked-requires
     slice-relend-prefix-write-mesh
     slice-aggregate-write-mesh
+    mul-write-mesh
     slice-relend-prefix-write-mesh-2
     slice-aggregate-write-mesh-2
+    mul-write-mesh-2
     slice-relend-prefix-write-mesh-3
     slice-aggregate-write-mesh-3
     slice-relend-prefix-write-mesh-4

@@ -4,7 +4,7 @@ use mathlib.Core.Path.{_≡_}
 use lib.ListN.{length}
 use Rattle.model.specs.declared.Verdict.the-variants.{Passed}
 use Rattle.model.specs.Star.{Star, star}
-use Rattle.algorithm.specs.Passes.{judged}
+use Rattle.algorithm.specs.Verdicts.{judged}
 use Rattle.algorithm.proofs.Answers.{shaped, trusted-there, store-held, refused, passed}
 use Rattle.algorithm.proofs.extract_numbered.Statement.{statement}
 use Rattle.algorithm.proofs.extract_numbered.Tie as tie

@@ -23,14 +23,14 @@ use Rattle.counting.proofs.count_regular_cells.Statement.{statement}
 use Rattle.counting.proofs.count_regular_cells.Tie as tie
 
 abbrev Inv-loop : tie.InvT-loop
-Inv-loop header centre summary n classes cells codes pairs₀ cases₀ marks₀ counts₀ paired₀ x₀ none pairs cases marks counts paired x =
+Inv-loop header centre summary n classes cells codes pairs₀ cases₀ marks₀ counts₀ x₀ paired₀ none pairs cases marks counts x paired =
     (x ≤ n)
     × (((length pairs ≡ sheetPlaces) × ((length cases ≡ sheetPlaces) × (length marks ≡ sheetPlaces)))
     × (Upper n (pointBit (star header centre []) paired) pairs
     × (Few (sheetPlaces * x) counts × ((ns : List Float) → Grows (iterate (regularLayer (star header centre ns)) x) counts))))
 
 abbrev μ-loop : tie.MeasureT-loop
-μ-loop header centre summary n classes cells codes pairs₀ cases₀ marks₀ counts₀ paired₀ x₀ none pairs cases marks counts paired x = n - x
+μ-loop header centre summary n classes cells codes pairs₀ cases₀ marks₀ counts₀ x₀ paired₀ none pairs cases marks counts x paired = n - x
 
 -- the entry, from the place where the tables are fetched, and from the loop's test
 abbrev entry : tie.After-regular-vertex-data Inv-loop μ-loop → tie.Start Inv-loop μ-loop
@@ -71,20 +71,23 @@ regular-cell-data-requires c κs = search needs
 regular-vertex-data-requires : tie.Need-regular-vertex-data-requires Inv-loop μ-loop
 regular-vertex-data-requires c κs = search needs
 
+next-layer-requires : tie.Need-next-layer-requires Inv-loop μ-loop
+next-layer-requires c κs = (omega arith, entry c .pre .0 .0)
+
 slice-aggregate-pair-layer : tie.Need-slice-aggregate-pair-layer Inv-loop μ-loop
 slice-aggregate-pair-layer c = sym (length-replicate {A = ℕ} sheetPlaces 0)
 
 pair-layer-requires : tie.Need-pair-layer-requires Inv-loop μ-loop
-pair-layer-requires c κs = (entry (c .before) .pre .0, (omega arith, length-replicate {A = ℕ} sheetPlaces 0))
-
-next-layer-requires : tie.Need-next-layer-requires Inv-loop μ-loop
-next-layer-requires c κs = (omega arith, entry (c .before .before .before) .pre .0 .0)
+pair-layer-requires c κs =
+    let first = c .before in
+    (entry (first .before) .pre .0, (first .next-layer .ensures .within, length-replicate {A = ℕ} sheetPlaces 0))
 
 loop-holds : tie.Need-loop-holds Inv-loop μ-loop
 loop-holds c =
-    let layer = c .before .before .pair-layer in
-    let b = entry (c .before .before .before .before) in
-    let next = c .next-layer .ensures in
+    let layer = c .before .pair-layer in
+    let first = c .before .before .before in
+    let b = entry (first .before) in
+    let next = first .next-layer .ensures in
     let long = length-replicate {A = ℕ} sheetPlaces 0 in (
       next .within,
       (
@@ -218,9 +221,9 @@ count-regular-cells-spec =
     regular-cell-class-requires
     regular-cell-data-requires
     regular-vertex-data-requires
+    next-layer-requires
     slice-aggregate-pair-layer
     pair-layer-requires
-    next-layer-requires
     loop-holds
     slice-aggregate-pair-at
     pair-at-requires
