@@ -5,8 +5,8 @@
 
 Each seed makes a block's samples of few different numbers, zeros of both signs among them, a summary of them, with some layers
 marked by a NaN and now and then one that is wrong, and then sets several samples; now and then with a fault (n, a length, a bad
-sample or value, a point outside, a short list). Answer, its three numbers and all of both lists are compared, bit by bit. After
-each setting that is accepted, each layer that is not marked and was right before is as made afresh.
+sample or value, a point outside, a short list). Answer, its three numbers and all of both lists are compared, bit by bit. A
+summary that passes 26 before a setting passes it afterwards.
 """
 
 import random

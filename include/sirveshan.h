@@ -271,12 +271,12 @@ sirveshan_extracted sirveshan_extract_whole(sirveshan_header header, const float
                                             size_t triangles_length, uint32_t *edges, size_t edges_length);
 
 /*
- * The same with a summary by layer, as sirveshan_make_summary and sirveshan_set_sample leave it. A layer of cells that is not marked
- * and lies wholly inside (its least sample at or above the threshold) or wholly outside (its greatest below it) is passed over:
- * its cells are not looked at. Answer and lists, store included, are the same as without the summary; reads are fewer by eight for
- * each cell passed over. With every layer marked it is sirveshan_extract_whole. Judged are 1 to 8, then 14 where summary has fewer
- * floats than SIRVESHAN_SUMMARY_LENGTH(n), then 26 with the first layer that is not marked and differs in value from one made
- * afresh, then 9, 23 and 10. Judging 26 reads all samples of the layers that are not marked.
+ * The same with a summary by layer, as sirveshan_make_summary and sirveshan_set_sample leave it. A layer of cells that is not
+ * marked and lies wholly inside (its least sample at or above the threshold) or wholly outside (its greatest below it) is passed
+ * over: its cells are not looked at in counting and writing. Answer and lists, store included, are the same as without the summary;
+ * reads are fewer by eight for each cell passed over. With every layer marked it is sirveshan_extract_whole. Judged are 1 to 8,
+ * then 14 where summary has fewer floats than SIRVESHAN_SUMMARY_LENGTH(n), then 26 with the first layer that is not marked and
+ * differs in value from one made afresh, then 9, 23 and 10. Judging 26 reads all samples of the layers that are not marked.
  */
 sirveshan_extracted sirveshan_extract_layered(sirveshan_header header, const float *centre, size_t centre_length,
                                               const float *neighbours, size_t neighbours_length, const float *summary,

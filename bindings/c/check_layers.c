@@ -78,13 +78,17 @@ static void set(void)
     free(summary);
 }
 
-static void expect_refused(const char *what, size_t n, size_t held, int32_t x, float value, size_t floats, size_t number, size_t first)
+enum { SETTING, BOTH };
+
+/* Setting is refused; or making too, which has no point and no value. */
+static void expect_refused(const char *what, int calls, size_t n, size_t held, int32_t x, float value, size_t floats, size_t number,
+                           size_t first)
 {
     float *summary = room(FLOATS), *before = room(SAMPLES);
     memcpy(before, samples, sizeof samples);
     expect_refusal(what, sirveshan_set_sample(n, samples, held, x, 1, 2, value, summary, floats), number, first, 0, 0);
     expect(what, (uint64_t)memcmp(before, samples, sizeof samples), 0);
-    if (number != 15 && (number != 7 || first < 5))
+    if (calls == BOTH)
         expect_refusal(what, sirveshan_make_summary(n, samples, held, summary, floats), number, first, 0, 0);
     expect(what, altered(summary, 0, FLOATS), 0);
     free(summary);
@@ -93,16 +97,16 @@ static void expect_refused(const char *what, size_t n, size_t held, int32_t x, f
 
 static void refused(void)
 {
-    float bad = (float)SIRVESHAN_CENTRE_LENGTH(16) * 1e6f;
+    float bad = 2097152.0f;
     fill();
-    expect_refused("n 0", 0, SAMPLES, 0, bad, 0, 1, 0);
-    expect_refused("n too large", SIRVESHAN_MOST_SUBDIVISIONS + 1, SAMPLES, 0, bad, 0, 1, SIRVESHAN_MOST_SUBDIVISIONS + 1);
-    expect_refused("a sample too few", N, SAMPLES - 1, 0, bad, 0, 4, SAMPLES);
-    expect_refused("never sampled", N, SAMPLES, -2, bad, 0, 15, 1);
-    expect_refused("a bad value", N, SAMPLES, 1, bad, 0, 7, SIRVESHAN_PLACE(N, 1, 1, 2));
-    expect_refused("room", N, SAMPLES, 1, 1, LENGTH - 1, 14, LENGTH);
+    expect_refused("n 0", BOTH, 0, SAMPLES, 0, bad, 0, 1, 0);
+    expect_refused("n too large", BOTH, SIRVESHAN_MOST_SUBDIVISIONS + 1, SAMPLES, 0, bad, 0, 1, SIRVESHAN_MOST_SUBDIVISIONS + 1);
+    expect_refused("a sample too few", BOTH, N, SAMPLES - 1, 0, bad, 0, 4, SAMPLES);
+    expect_refused("never sampled", SETTING, N, SAMPLES, -2, bad, 0, 15, 1);
+    expect_refused("a bad value", SETTING, N, SAMPLES, 1, bad, 0, 7, SIRVESHAN_PLACE(N, 1, 1, 2));
+    expect_refused("room", BOTH, N, SAMPLES, 1, 1, LENGTH - 1, 14, LENGTH);
     samples[4] = bad;
-    expect_refused("a bad sample", N, SAMPLES, -2, bad, 0, 7, 4);
+    expect_refused("a bad sample", BOTH, N, SAMPLES, -2, bad, 0, 7, 4);
 }
 
 /* Extraction with a summary, or without one. The surface is in the middle one of the three layers. */

@@ -8,8 +8,8 @@
 //! [`sheet()`] tells the figures of each record of a run. [`repair()`] mends a damaged delivery and
 //! lists what it changed. [`weld()`] takes out the vertices that were made twice, by the grid edges
 //! that [`extract_whole`] tells; [`Mesher::welded`] does both. [`Summary`] keeps the least and the
-//! greatest sample of each layer of a block whose samples change, and [`Mesher::mesh_layers`] passes
-//! over the layers that it shows to hold no surface.
+//! greatest sample of each layer of a block whose samples change, and [`Mesher::extract_layered`]
+//! passes over the layers that it shows to hold no surface.
 //!
 //! What is proved is the library below: this crate hands its slices over and names its answers.
 //!

@@ -68,7 +68,8 @@ impl Mesher {
     }
 
     /// The same, and layers that a summary of the centre's samples shows to lie on one side of the
-    /// threshold are passed over: the mesh is the same, its reads are fewer.
+    /// threshold are passed over: the mesh is the same, its reads are fewer. Answers refusal 14 for a
+    /// summary of too few layers, and 26 for one with a layer that is not as made afresh.
     ///
     /// ```
     /// use sirveshan::{sample_length, sample_place, Block, Header, Mesher, Summary};
@@ -81,10 +82,10 @@ impl Mesher {
     /// let header = Header { block, mask: 0, threshold: 0.0 };
     /// let mut mesher = Mesher::new();
     /// let reads = mesher.extract(&header, &centre, &[]).unwrap().reads;
-    /// let fewer = mesher.mesh_layers(&header, &centre, &[], &summary).unwrap().reads;
+    /// let fewer = mesher.extract_layered(&header, &centre, &[], &summary).unwrap().reads;
     /// assert_eq!(reads - fewer, 3 * 8 * 4 * 4);
     /// ```
-    pub fn mesh_layers(
+    pub fn extract_layered(
         &mut self,
         header: &Header,
         centre: &[f32],

@@ -1,6 +1,6 @@
 //! Summaries by layer: the least and the greatest sample of each layer of cells along x.
 
-use crate::{linked, summary_length, Refusal};
+use crate::{linked, summary_length, Refusal, MOST_SUBDIVISIONS};
 
 /// Makes the summary of a block's samples in the first places of a lent list, two f32 a layer. All
 /// beyond stays; a refusal alters nothing.
@@ -69,11 +69,7 @@ pub struct Summary {
 impl Summary {
     /// The summary of the samples of a block of `subdivisions`. Never answers refusal 14.
     pub fn make(subdivisions: usize, samples: &[f32]) -> Result<Summary, Refusal> {
-        let mut extents = Vec::new();
-        match make_summary(subdivisions, samples, &mut extents) {
-            Err(Refusal { number: 14, .. }) => extents.resize(summary_length(subdivisions), 0.0),
-            answer => answer?,
-        }
+        let mut extents = vec![0.0; summary_length(subdivisions.min(MOST_SUBDIVISIONS))];
         make_summary(subdivisions, samples, &mut extents)?;
         Ok(Summary { subdivisions, extents })
     }

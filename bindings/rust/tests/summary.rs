@@ -145,7 +145,7 @@ fn meshed_with_a_summary() {
     let (mut mesher, mut other) = (Mesher::new(), Mesher::new());
     let plain = mesher.extract(&header, &samples, &[]).unwrap();
     let mut passed_over = |summary: &Summary| {
-        let mesh = other.mesh_layers(&header, &samples, &[], summary)?;
+        let mesh = other.extract_layered(&header, &samples, &[], summary)?;
         assert_eq!((mesh.vertices, mesh.triangles), (plain.vertices, plain.triangles));
         Ok((plain.reads - mesh.reads) / (8 * 3 * 3))
     };
@@ -154,4 +154,6 @@ fn meshed_with_a_summary() {
     assert_eq!(passed_over(&summary), Ok(1));
     summary.as_mut_slice()[2] += 0.25;
     assert_eq!(passed_over(&summary), Err(Refusal { number: 26, values: [1, 0, 0] }));
+    let shorter = Summary::make(2, &self::samples(2)).unwrap();
+    assert_eq!(passed_over(&shorter), Err(Refusal { number: 14, values: [6, 0, 0] }));
 }

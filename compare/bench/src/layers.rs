@@ -97,13 +97,15 @@ fn extraction(n: usize) -> Outcome {
 fn setting(n: usize) -> Outcome {
     let given = tall(n);
     let (mut summary, mut samples, mut kept) = (vec![0.0; 2 * n], given.clone(), vec![0.0; 2 * n]);
-    make_summary(n, &given, &mut kept).map_err(|refusal| refusal.to_string())?;
+    let middle = [n as i32 / 2, 1, 1];
+    make_summary(n, &given, &mut kept)
+        .and_then(|()| set_sample(n, &mut samples, middle, 0.25, &mut kept))
+        .map_err(|refusal| refusal.to_string())?;
     let mut calls: Vec<Box<dyn FnMut() + '_>> = vec![
         Box::new(|| {
             let _ = black_box(make_summary(n, black_box(&given), &mut summary));
         }),
         Box::new(|| {
-            let middle = [n as i32 / 2, 1, 1];
             let _ = black_box(set_sample(n, black_box(&mut samples), middle, 0.25, &mut kept));
         }),
     ];
