@@ -6,7 +6,7 @@ use native.Mathlib.Nat.{add-zero}
 use native.Mathlib.Omega.{arith}
 use lib.Ieee.{Float, nan}
 use lib.ListN.{getD, length, take, drop, length-take, length-drop}
-use lib.Seq.{getD-take, getD-drop}
+use lib.Seq.{getD-take, getD-drop, ext-getD}
 use Rattle.model.specs.declared.PlaceKind.the-variants.{InBlock}
 use Rattle.model.specs.declared.Reading.{Reading}
 use Rattle.model.specs.declared.Reading.the-variants.{Value}
@@ -18,7 +18,7 @@ use Rattle.model.specs.Points.{regularCase}
 use Rattle.grid.specs.Kinds.{in-block-reading}
 use Rattle.cases.specs.Sheets.{rowStart, fourInside, lineCase, Measured, Plane, Line}
 use Rattle.cases.specs.Pairs.{pointBit}
-use Rattle.cases.specs.RowPlaces.{row-before}
+use Rattle.cases.specs.RowPlaces.{row-before, point-at}
 
 abbrev ofBlock : Float → Reading
 ofBlock v = Value v InBlock
@@ -45,6 +45,17 @@ module _ (s : Star) (x start end : ℕ) (hx : x ≤ subdivisions s) (starts : st
             (getD-take (end - start) (drop start (s .centre)) i nan l ∙ getD-drop start (s .centre) i nan ∙ ap (λ (k : ℕ). getD (s .centre) k nan) e)
             ∙ sym (in-block-reading n (s .centre) (xyz x y z) (record { x-in = hx; y-in = hy; z-in = hz }));
       }
+
+-- a plane is one list
+pub plane-one : (s : Star) (x : ℕ) (one other : List Float) → length one ≡ (subdivisions s + 1) * (subdivisions s + 1) → length one ≡ length other
+    → Plane s x one → Plane s x other → one ≡ other
+plane-one s x one other long same p q =
+    ext-getD nan one other same
+    (λ i h.
+        let n = subdivisions s in
+        let at = point-at n i (omega (arith, long)) in
+        let read = p .reading-at (at .y) (at .z) (at .y-in) (at .z-in) ∙ sym (q .reading-at (at .y) (at .z) (at .y-in) (at .z-in)) in
+        ap (λ (k : ℕ). getD one k nan) (sym (at .is-at)) ∙ ap valueOf read ∙ ap (λ (k : ℕ). getD other k nan) (at .is-at))
 
 -- and a plane line by line
 pub part-is-line : (s : Star) (x y start end : ℕ) (plane : List Float) → Plane s x plane → y ≤ subdivisions s → start ≡ rowStart (subdivisions s) y

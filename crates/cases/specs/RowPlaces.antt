@@ -1,7 +1,8 @@
 -- Where the rows of a sheet lie: one after another, and all of them within it.
-use Prim.Native.Nat.{ℕ, _+_, _*_, _≤_, _<_}
+use Prim.Native.Nat.{ℕ, _+_, _*_, _/_, _%_, _≤_, _<_}
+use mathlib.Core.Path.{_≡_}
 use mathlib.Core.List.{List}
-use native.Mathlib.Nat.{mul-le-mul, mul-le-mul-left}
+use native.Mathlib.Nat.{mul-le-mul, mul-le-mul-left, div-add-mod, div-lt-iff-lt-mul, mod-lt}
 use native.Mathlib.Omega.{arith}
 use Rattle.model.specs.Limits.{mostSubdivisions}
 use Rattle.cases.specs.Sheets.{rowStart, Sheet}
@@ -31,3 +32,18 @@ row-fits n j few h = omega (arith, rows-fit n few, row-before n j n n h (omega a
 -- a sheet of no row is any list
 pub no-row : (case : ℕ → ℕ → ℕ) (n : ℕ) (cases : List ℕ) → Sheet case n 0 cases
 no-row case n cases = record { case-at = λ j k h l. absurd (let x : ⊥ = omega arith in x) }
+
+-- each place of a layer of points is that of a point
+pub record PointAt (n i : ℕ) : Type 0 where
+  pub y : ℕ
+  pub z : ℕ
+  pub y-in : y ≤ n
+  pub z-in : z ≤ n
+  pub is-at : rowStart n y + z ≡ i
+
+pub point-at : (n i : ℕ) → i < (n + 1) * (n + 1) → PointAt n i
+point-at n i h =
+    let some : 0 < n + 1 = omega arith in
+    let low : i / (n + 1) < n + 1 = div-lt-iff-lt-mul some .1 h in
+    let left : i % (n + 1) < n + 1 = mod-lt i some in
+    record { y = i / (n + 1); z = i % (n + 1); y-in = omega (arith, low); z-in = omega (arith, left); is-at = div-add-mod i (n + 1) }

@@ -1,9 +1,8 @@
 -- Pairs of two layers of points, and that the case numbers that are made of pairs are the model's.
-use Prim.Native.Nat.{ℕ, _+_, _-_, _*_, _/_, _%_, _≤_, _<_}
+use Prim.Native.Nat.{ℕ, _+_, _-_, _*_, _/_, _≤_, _<_}
 use mathlib.Core.Path.{_≡_, sym, ap, _∙_}
 use mathlib.Core.List.{List}
-use native.Mathlib.Decide.{decLt}
-use native.Mathlib.Nat.{zero-add, mul-le-mul-left, mod-lt, div-add-mod}
+use native.Mathlib.Nat.{zero-add}
 use native.Mathlib.Omega.{arith}
 use lib.Ieee.{Float, nan}
 use lib.ListN.{getD, length}
@@ -15,7 +14,7 @@ use Rattle.model.specs.Points.{regularCase}
 use Rattle.cases.specs.Sheets.{rowStart, Sheet, RowPut, Plane}
 use Rattle.cases.specs.Pairs.{pointBit, pairedWith, Upper, Pairs, ofPairs, Small}
 use Rattle.cases.specs.Numbers.{bit-small}
-use Rattle.cases.specs.RowPlaces.{row-before}
+use Rattle.cases.specs.RowPlaces.{row-before, point-at}
 use Rattle.cases.specs.Lines.{fourCorners, eight-are}
 
 -- ---- a layer of points
@@ -50,20 +49,9 @@ paired-still t samples before pairs m i put l = ap (λ (p : ℕ). p / 2 + 2 * in
 module _ {n : ℕ} {low high : ℕ → ℕ → ℕ} {pairs : List ℕ} (p : Pairs n low high pairs) (low-bit : (y z : ℕ) → low y z ≤ 1) where
   pub pairs-small : ((y z : ℕ) → high y z ≤ 1) → Small ((n + 1) * (n + 1)) pairs
   pairs-small high-bit i h =
-      let m = n + 1 in
-      let y = i / m in
-      let z = i % m in
-      let parts : rowStart n y + z ≡ i = div-add-mod i m in
-      let z-in : z < m = mod-lt i (omega arith) in
-      let y-in : y ≤ n = below y z parts h (decLt y m) in
-      let pair = p .pair-at y z y-in (omega arith) in
-      omega (arith, ap (λ (k : ℕ). getD pairs k 0) parts, pair, low-bit y z, high-bit y z)
-    where
-      below : (y z : ℕ) → rowStart n y + z ≡ i → i < (n + 1) * (n + 1) → Dec (y < n + 1) → y ≤ n
-      below y z parts h (yes l) = omega arith
-      below y z parts h (no l) =
-          let far : (n + 1) * (n + 1) ≤ (n + 1) * y = mul-le-mul-left (n + 1) (omega arith) in
-          absurd (let x : ⊥ = omega arith in x)
+      let at = point-at n i h in
+      let pair = p .pair-at (at .y) (at .z) (at .y-in) (at .z-in) in
+      omega (arith, ap (λ (k : ℕ). getD pairs k 0) (at .is-at), pair, low-bit (at .y) (at .z), high-bit (at .y) (at .z))
 
 pub point-small : (s : Star) (x y z : ℕ) → pointBit s x y z ≤ 1
 point-small s x y z = bit-small (s .threshold) _
