@@ -52,10 +52,10 @@ pub plane-one : (s : Star) (x : ℕ) (one other : List Float) → length one ≡
 plane-one s x one other long same p q =
     ext-getD nan one other same
     (λ i h.
-        let n = subdivisions s in
-        let at = point-at n i (omega (arith, long)) in
-        let read = p .reading-at (at .y) (at .z) (at .y-in) (at .z-in) ∙ sym (q .reading-at (at .y) (at .z) (at .y-in) (at .z-in)) in
-        ap (λ (k : ℕ). getD one k nan) (sym (at .is-at)) ∙ ap valueOf read ∙ ap (λ (k : ℕ). getD other k nan) (at .is-at))
+    let n = subdivisions s in
+    let at = point-at n i (omega (arith, long)) in
+    let read = p .reading-at (at .y) (at .z) (at .y-in) (at .z-in) ∙ sym (q .reading-at (at .y) (at .z) (at .y-in) (at .z-in)) in
+    ap (λ (k : ℕ). getD one k nan) (sym (at .is-at)) ∙ ap valueOf read ∙ ap (λ (k : ℕ). getD other k nan) (at .is-at))
 
 -- and a plane line by line
 pub part-is-line : (s : Star) (x y start end : ℕ) (plane : List Float) → Plane s x plane → y ≤ subdivisions s → start ≡ rowStart (subdivisions s) y
