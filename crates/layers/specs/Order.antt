@@ -93,12 +93,6 @@ module _ (a b : ℕ) where
   under-not true false h = refl
   under-not true true h = le-ltb a b h
 
-  level-under : (s t : Bool) → level s a t b ≡ true → Under s a t b
-  level-under false false h = le-of-eq (same true h .0)
-  level-under false true h = nothing h
-  level-under true false h = tt
-  level-under true true h = le-of-eq (sym (same true h .0))
-
   level-over : (s t : Bool) → level s a t b ≡ true → Under t b s a
   level-over false false h = le-of-eq (sym (same true h .0))
   level-over false true h = tt
