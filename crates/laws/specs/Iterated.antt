@@ -1,7 +1,7 @@
--- Laws of a step that is taken again and again: what it keeps, what it only adds to, and steps that change nothing; and the digits of a number of
+-- Laws of a step that is taken again and again: what it keeps, what it only adds to, steps that change nothing, and steps that are alike; and the digits of a number of
 -- rounds and steps. Assumes nothing.
 use Prim.Native.Nat.{ℕ, zero, suc, _+_, _-_, _*_, _/_, _%_, _≤_, _<_}
-use mathlib.Core.Path.{_≡_, refl, sym, _∙_}
+use mathlib.Core.Path.{_≡_, refl, sym, ap, _∙_}
 use native.Mathlib.Nat.{add-zero, add-suc, le-refl, le-trans, mul-add-div, div-eq-of-lt, mul-add-mod-self-left, mod-eq-of-lt}
 use native.Mathlib.Omega.{arith}
 use Rattle.laws.specs.Steps.{iterate}
@@ -40,6 +40,12 @@ module _ {A B : Type 0} (part : A → B) (f : ℕ → A → A) (a : A) where
 pub steps-skip : {A : Type 0} (f : ℕ → A → A) (a : A) (from next : ℕ) → from ≤ next → ((i : ℕ) → from ≤ i → i < next → (a : A) → f i a ≡ a)
     → iterate f from a ≡ iterate f next a
 steps-skip {A} = part-skip (λ (a : A). a)
+
+-- steps that are alike
+pub iterate-same : {A : Type 0} (f g : ℕ → A → A) (k : ℕ) → ((i : ℕ) → i < k → (a : A) → f i a ≡ g i a) → (a : A) → iterate f k a ≡ iterate g k a
+iterate-same f g zero same a = refl
+iterate-same f g (suc k) same a =
+    same k (le-refl _) (iterate f k a) ∙ ap (g k) (iterate-same f g k (λ i h. same i (omega arith)) a)
 
 -- a number of two digits, the lower one below the base
 module _ (base k i : ℕ) (h : i < base) where
