@@ -77,7 +77,7 @@ points (Regular at) = 8
 points (Transition at) = 13
 
 -- how many samples its case number reads
-abbrev pub casePoints : CellIndex → ℕ
+abbrev casePoints : CellIndex → ℕ
 casePoints (Regular at) = regularReads
 casePoints (Transition at) = transitionReads
 

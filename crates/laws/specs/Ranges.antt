@@ -1,7 +1,7 @@
 -- Tests that hold at each number below a bound, as a loop that leaves at the first that fails works them out, and sums over a range that come to
 -- nothing. Assumes nothing.
 use mathlib.Core.Path.{_≡_, refl, sym, _∙_}
-use mathlib.Core.Bool.{Bool, true, false, _||_, or-true, Bool·beq}
+use mathlib.Core.Bool.{Bool, true, false, _&&_, _||_, or-true, true≢false, Bool·beq}
 use mathlib.Core.Logic.{_⊎_, inl, inr, ⊎-elim, _↔_}
 use Prim.Native.Nat.{ℕ, zero, suc, _+_, _≤_, _<_}
 use native.Mathlib.Nat.{not-suc-le-zero, le-refl, le-step, le-of-suc-le-suc, eq-or-lt-of-le}
@@ -84,6 +84,19 @@ module _ (P : ℕ → Bool) where
       go : (b : Bool) → (b ≡ true → P i ≡ true) → b ≡ false
       go true h = sym (h refl) ∙ e
       go false h = refl
+
+  -- it does not hold at each: it fails somewhere
+  pub some-fails : (k : ℕ) → allBelow P k ≡ false → (i : ℕ) × (i < k) × (P i ≡ false)
+  some-fails zero e = absurd (true≢false e)
+  some-fails (suc k) e = go (allBelow P k) (P k) refl refl e (some-fails k)
+    where
+      go : (a b : Bool) → allBelow P k ≡ a → P k ≡ b → a && b ≡ false → (allBelow P k ≡ false → (i : ℕ) × (i < k) × (P i ≡ false))
+          → (i : ℕ) × (i < suc k) × (P i ≡ false)
+      go true true before here e found = absurd (true≢false e)
+      go true false before here e found = (k, le-refl _, here)
+      go false b before here e found =
+          let w = found before in
+          (w .0, le-step (w .1), w .2)
 
 pub same-below : (P Q : ℕ → Bool) (k : ℕ) → ((i : ℕ) → i < k → P i ≡ Q i) → allBelow P k ≡ allBelow Q k
 same-below P Q zero same = refl

@@ -4,43 +4,17 @@ use Prim.Native.Nat.{ℕ, zero, suc, _<_}
 use native.Mathlib.Nat.{not-suc-le-zero, le-refl, le-step}
 use native.Mathlib.Omega.{arith}
 use mathlib.Core.Path.{_≡_, refl, sym, ap, _∙_}
-use mathlib.Core.Bool.{Bool, true, false, cond, not, _&&_, and-eq-true-iff, true≢false}
+use mathlib.Core.Bool.{Bool, true, false, cond, not, _&&_, and-eq-true-iff}
 use borrow.Author.Count.{below-none, below-more}
 use borrow.Author.Tests.{not-true, not-false}
 use lib.Ieee.{Float, isNan, le, eq, ne}
 use Rattle.laws.specs.Below.{allBelow, each-below, all-below}
+use Rattle.laws.specs.Ranges.{both-ways, fail-all, some-fails}
 use Rattle.model.specs.Layers.{better, bestOf, less, more}
 use Rattle.layers.specs.Order.{le-on, not-lt, le-not, lt-le, eq-le, eq-ge, le-both, eq-self}
 
 abbrev pub Number : Float → Type 0
 Number x = isNan x ≡ false
-
--- ---- tests
-
-same-bool : (a b : Bool) → (a ≡ true → b ≡ true) → (b ≡ true → a ≡ true) → a ≡ b
-same-bool true b f g = sym (f refl)
-same-bool false true f g = g refl
-same-bool false false f g = refl
-
-module _ (P : ℕ → Bool) where
-  one-fails : (n k : ℕ) → k < n → P k ≡ false → allBelow P n ≡ false
-  one-fails n k l e = go (allBelow P n) refl
-    where
-      go : (b : Bool) → allBelow P n ≡ b → b ≡ false
-      go true h = sym (each-below P n k h l) ∙ e
-      go false h = refl
-
-  some-fails : (n : ℕ) → allBelow P n ≡ false → (k : ℕ) × (k < n) × (P k ≡ false)
-  some-fails zero e = absurd (true≢false e)
-  some-fails (suc n) e = go (allBelow P n) (P n) refl refl e (some-fails n)
-    where
-      go : (a b : Bool) → allBelow P n ≡ a → P n ≡ b → a && b ≡ false → (allBelow P n ≡ false → (k : ℕ) × (k < n) × (P k ≡ false))
-          → (k : ℕ) × (k < suc n) × (P k ≡ false)
-      go true true before here e found = absurd (true≢false e)
-      go true false before here e found = (n, le-refl _, here)
-      go false b before here e found =
-          let w = found before in
-          (w .0, le-step (w .1), w .2)
 
 -- ---- an order of floats, up or down
 
@@ -155,7 +129,7 @@ module _ (beats unbeaten : Float → Float → Bool) (order : Ordered beats unbe
     -- ---- it is known in value by two questions that are asked of all
 
     -- none beats v, and one equals it
-    abbrev pub isBest : ℕ → Float → Bool
+    abbrev isBest : ℕ → Float → Bool
     isBest n v = allBelow (λ k. unbeaten v (f k)) n && not (allBelow (λ k. ne v (f k)) n)
 
     module _ (n : ℕ) (v best : Float) (b : Best beats unbeaten f n best) where
@@ -173,8 +147,8 @@ module _ (beats unbeaten : Float → Float → Bool) (order : Ordered beats unbe
       known h =
           let none = all-below (λ k. unbeaten v (f k)) n (λ k l. order .on v best (f k) (order .equal v best h) (b .none-beats k l)) in
           let one : ne v (f (b .at)) ≡ false = ap not (ap (eq v) (sym (b .is)) ∙ h) in
-          let some = one-fails (λ k. ne v (f k)) n (b .at) (b .within) one in
+          let some = fail-all (λ k. ne v (f k)) n (b .at) (b .within) one in
           rw (none, some)
 
       pub best-known : isBest n v ≡ eq v best
-      best-known = same-bool (isBest n v) (eq v best) found known
+      best-known = both-ways (isBest n v) (eq v best) found known

@@ -1,7 +1,7 @@
 -- Document 02, [12]: what extraction asks of a summary and what it trusts then; and the step to the next layer that is not passed over.
 use Prim.Native.Nat.{ℕ, _≤_, _<_, zero-le}
 use native.Mathlib.Omega.{arith}
-use mathlib.Core.Path.{_≡_, refl, sym, _∙_}
+use mathlib.Core.Path.{_≡_, refl, sym, ap, _∙_}
 use mathlib.Core.Bool.{Bool, true, false, cond, false≢true}
 use mathlib.Core.List.{List, []}
 use borrow.Author.Tests.{ltb-true, ltb-false}
@@ -9,13 +9,14 @@ use lib.Dec.{ltb}
 use lib.Ieee.{Float, isNan}
 use lib.Ieee.Bits.{is-false}
 use lib.ListN.{length}
+use Rattle.model.specs.declared.Extent.{Extent}
 use Rattle.model.specs.declared.Verdict.{Verdict}
 use Rattle.model.specs.declared.Verdict.the-variants.{Passed}
 use Rattle.model.specs.declared.Refusal.the-variants.{LayerDiffers}
 use Rattle.model.specs.Refusals.{unless, orElse}
 use Rattle.model.specs.Judging.{judgeStar, judgeBuffer}
 use Rattle.model.specs.Star.{Star, subdivisions}
-use Rattle.model.specs.Layers.{summaryLength, layerStands, judgeLayers, passedOver}
+use Rattle.model.specs.Layers.{summaryLength, marked, layerStands, judgeLayers, passedOver}
 use Rattle.judge.specs.First.{passed-over}
 use Rattle.judge.specs.Passing.{star-measures, star-shaped, star-samples}
 use Rattle.judge.specs.Usable.{usable-number, measure-usable}
@@ -35,6 +36,10 @@ no-summary n samples = passed-over (λ x. unless (layerStands n samples [] x) (L
 pub none-over : (threshold : Float) (x : ℕ) → passedOver threshold [] x ≡ false
 unfolding isNan
 none-over threshold x = refl
+
+-- the mark that was found in what was read of a layer is the layer's
+pub mark-told : {told read : Extent} {r b : Bool} → read ≡ told → r ≡ marked read → r ≡ b → marked told ≡ b
+mark-told e m found = ap marked (sym e) ∙ sym m ∙ found
 
 -- the samples are as 4 and 7 let them pass, and no layer of the summary is one that 26 refuses
 pub record Trusted (n : ℕ) (samples summary : List Float) : Type 0 where

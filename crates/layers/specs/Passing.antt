@@ -26,26 +26,26 @@ use Rattle.layers.specs.Held.{Held, AllNumbers, all-numbers}
 -- ---- 1, 4, 7
 
 -- 1 and 4
-abbrev pub judgeShape : ℕ → ℕ → Verdict
-judgeShape n held = orElse (judgeSubdivisions n) (judgeCentre n held)
+abbrev judgeSize : ℕ → ℕ → Verdict
+judgeSize n held = orElse (judgeSubdivisions n) (judgeCentre n held)
 
 pub record Own (n : ℕ) (samples : List Float) : Type 0 where
   pub held : Held n samples
   pub numbers : AllNumbers samples
-  pub shape : judgeShape n (length samples) ≡ Passed
+  pub shape : judgeSize n (length samples) ≡ Passed
   pub pass : judgeSamples samples ≡ Passed
 
 module _ (n : ℕ) (samples : List Float) where
-  own-in-parts : judgeOwn n samples ≡ orElse (judgeShape n (length samples)) (judgeSamples samples)
+  own-in-parts : judgeOwn n samples ≡ orElse (judgeSize n (length samples)) (judgeSamples samples)
   unfolding judgeOwn
   own-in-parts = sym (or-else-assoc (judgeSubdivisions n) (judgeCentre n (length samples)) (judgeSamples samples))
 
-  pub by-shape : {v : Verdict} → judgeShape n (length samples) ≡ v → judgeOwn n samples ≡ orElse v (judgeSamples samples)
+  pub by-shape : {v : Verdict} → judgeSize n (length samples) ≡ v → judgeOwn n samples ≡ orElse v (judgeSamples samples)
   by-shape e = own-in-parts ∙ ap (λ (v : Verdict). orElse v (judgeSamples samples)) e
 
   pub own : judgeOwn n samples ≡ Passed → Own n samples
   own e =
-      let parts = both-passed (judgeShape n (length samples)) (judgeSamples samples) (sym own-in-parts ∙ e) in
+      let parts = both-passed (judgeSize n (length samples)) (judgeSamples samples) (sym own-in-parts ∙ e) in
       let read = read-passed n (length samples) (parts .0) in
       record {
         held = record { few = read .few; long = read .held-is };
@@ -115,4 +115,4 @@ module _ (samples : List Float) (place : ℕ) (value : Float) (there : place < l
       let before = own n samples e in
       let as-long = length-set samples place value in
       let all = samples-pass (set samples place value) (λ k h. set-usable (before .pass) k (rw as-long at h)) in
-      by-shape n (set samples place value) (ap (judgeShape n) as-long ∙ before .shape) ∙ all
+      by-shape n (set samples place value) (ap (judgeSize n) as-long ∙ before .shape) ∙ all

@@ -60,7 +60,7 @@ module _ (n : ℕ) (samples : List Float) (held : Held n samples) (numbers : All
 -- ---- a sample set
 
 module _ (n : ℕ) (p : Xyz) (samples : List Float) (value : Float) (summary : List Float) (room : 2 * n ≤ length summary) where
-  abbrev pub after : List Float
+  abbrev after : List Float
   after = set samples (placeUp n p) value
 
   abbrev plane-of : ℕ
@@ -68,7 +68,7 @@ module _ (n : ℕ) (p : Xyz) (samples : List Float) (value : Float) (summary : L
 
   -- in the block: p is in the plane x
   module _ (x-in : plane-of ≤ n) where
-    abbrev pub made : List Float
+    abbrev made : List Float
     made = layersMade n after (firstHolding plane-of) (endHolding n plane-of) summary
 
     ordered : firstHolding plane-of ≤ endHolding n plane-of

@@ -12,9 +12,9 @@ use Rattle.model.specs.declared.Counts.{Counts}
 use Rattle.model.specs.declared.Refusal.{Refusal}
 use Rattle.model.specs.declared.Extraction.{Extraction}
 use Rattle.model.specs.declared.Extraction.the-variants as Extraction
-use Rattle.model.specs.declared.Verdict.the-variants.{Passed}
 use Rattle.model.specs.Star.{Star, subdivisions}
-use Rattle.model.specs.Judging.{judgeFaces, judgeStore, judgeRoom, judgeBuffer}
+use Rattle.model.specs.Refusals.{orElse}
+use Rattle.model.specs.Judging.{judgeStar, judgeFaces, judgeStore, judgeRoom, judgeBuffer}
 use Rattle.model.specs.Edges.{judgeEdges, WholeOutcome}
 use Rattle.model.specs.Layers.{summaryLength, entryOf, marked, judgeLayers, judgeSummary}
 use Rattle.model.specs.Layered.{layersOver, extractLayered}
@@ -51,6 +51,10 @@ module _ (s : Star) (summary : List Float) (lent : LentWhole) where
       judge 10 (judgeRoom (counts s .vertices) (counts s .triangles) (length (lent .mesh .vertices)) (length (lent .mesh .triangles))) ∷
       []
 
+  -- the summary is not refused: 14 and 26 let it pass, or are not asked, since one of 1 to 8 has refused the block
+  abbrev pub SummaryStands : Type 0
+  SummaryStands = orElse (judgeStar s) (orElse (judgeFaces s) (judgeSummary (subdivisions s) (s .centre) summary)) ≡ orElse (judgeStar s) (judgeFaces s)
+
   -- the same answer and the same in every list, index store included, as without the summary
   pub record Alike : Type 0 where
     pub answer : answeredLayered ≡ answeredWhole s lent
@@ -66,8 +70,8 @@ pub record LayeredPromises : Type 0 where
       → leftLayered s summary lent ≡ lent
   pub refused : (s : Star) (summary : List Float) (lent : LentWhole) (r : Refusal) → answeredLayered s summary lent ≡ Extraction.Refused r
       → reportedLayered s summary lent ≡ 0
-  -- of every block, with every summary that 14 and 26 let pass
-  pub alike : (s : Star) (summary : List Float) (lent : LentWhole) → judgeSummary (subdivisions s) (s .centre) summary ≡ Passed → Alike s summary lent
+  -- of every block, with every summary that is not refused
+  pub alike : (s : Star) (summary : List Float) (lent : LentWhole) → SummaryStands s summary lent → Alike s summary lent
   -- accepted, it reports 8 n^3 + 9 s n^2 + 14 V less 8 n^2 for each layer passed over
   pub reads : (s : Star) (summary : List Float) (lent : LentWhole) (c : Counts) → answeredLayered s summary lent ≡ Extraction.Mesh c
       → let n = subdivisions s in

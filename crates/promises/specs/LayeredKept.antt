@@ -39,7 +39,7 @@ use Rattle.promises.specs.Room.{named-most, sides-named}
 use Rattle.promises.specs.Reads.{readsTotal, mostReads}
 use Rattle.promises.specs.ReadsKept.{mesh-total, mesh-most, came-refused, came-most}
 use Rattle.promises.specs.Weld.{LentWhole, wholeOutcome}
-use Rattle.promises.specs.Layered.{layeredOutcome, answeredLayered, leftLayered, reportedLayered, layeredJudges, Alike, LayeredPromises}
+use Rattle.promises.specs.Layered.{layeredOutcome, answeredLayered, leftLayered, reportedLayered, layeredJudges, SummaryStands, Alike, LayeredPromises}
 
 module _ (s : Star) (summary : List Float) (lent : LentWhole) where
   abbrev n : ℕ
@@ -121,10 +121,14 @@ module _ (s : Star) (summary : List Float) (lent : LentWhole) where
   abbrev without : Verdict
   without = judgeWhole s (length (lent .mesh .store)) (length (lent .mesh .vertices)) (length (lent .mesh .triangles)) (length (lent .edges))
 
-  module _ (e : judgeSummary n (s .centre) summary ≡ Passed) where
+  -- 1 to 8, 14 and 26, and then the rest
+  in-parts : orElse (orElse (judgeStar s) (orElse (judgeFaces s) (judgeSummary n (s .centre) summary))) rest ≡ verdict
+  in-parts = rw (or-else-assoc, or-else-assoc)
+
+  module _ (e : SummaryStands s summary lent) where
     verdict-is : verdict ≡ without
     unfolding judgeWhole
-    verdict-is = ap (λ (v : Verdict). orElse (judgeStar s) (orElse (judgeFaces s) (orElse v rest))) e
+    verdict-is = sym in-parts ∙ ap (λ (v : Verdict). orElse v rest) e ∙ or-else-assoc (judgeStar s) (judgeFaces s) rest
 
     alike : Alike s summary lent
     unfolding extractWhole
@@ -184,10 +188,13 @@ module _ (s : Star) (summary : List Float) (lent : LentWhole) where
         ap (λ (b : Bool). orElse (unless b (BufferTooShort (summaryLength n))) (judgeLayers n (s .centre) summary)) (le-leb _ _ long)
         ∙ all-stand n (s .centre) summary (λ x h. ap (λ (b : Bool). b || agree (entryOf summary x) (layerExtent n (s .centre) x)) (all x h))
 
+    marked-stands : SummaryStands s summary lent
+    marked-stands = rw (marked-passed, or-else-passed)
+
     all-marked : layeredOutcome s summary lent ≡ wholeOutcome s lent
     unfolding extractWhole
     all-marked =
-        comes ∙ ap (came (spared s summary)) (verdict-is marked-passed)
+        comes ∙ ap (came (spared s summary)) (verdict-is marked-stands)
         ∙ ap (λ (m : Mesh). came m without) (spared-whole s summary (λ x h. ap (λ (b : Bool). not b && oneSided (s .threshold) (entryOf summary x)) (all x h)))
 
 pub layered-kept : LayeredPromises

@@ -48,7 +48,7 @@ length-kept true store place next = length-set store place next
 length-kept false store place next = refl
 
 module _ (c : Cell) (base : ℕ) (store : List ℕ) where
-  pub fill-made : (k : ℕ) → length (fillTo c base store (suc k) .made)
+  fill-made : (k : ℕ) → length (fillTo c base store (suc k) .made)
       ≡ length (fillTo c base store k .made) + length (madeBy (c .uses k))
   unfolding fillTo fillStep
   fill-made k = rw length-append
@@ -58,7 +58,7 @@ module _ (c : Cell) (base : ℕ) (store : List ℕ) where
   fill-grows k f = omega (arith, length-append (f .made) (madeBy (c .uses k)))
 
   -- what vertex k makes is within what all of them make
-  pub fill-room : (k m : ℕ) → k < m → length (fillTo c base store k .made) + length (madeBy (c .uses k))
+  fill-room : (k m : ℕ) → k < m → length (fillTo c base store k .made) + length (madeBy (c .uses k))
       ≤ length (fillTo c base store m .made)
   unfolding fillTo
   fill-room k m h =
@@ -66,7 +66,7 @@ module _ (c : Cell) (base : ℕ) (store : List ℕ) where
       (iterate-upto (λ (f : Fill). length (f .made)) (λ i f. fillStep (c .uses i) (base + length (f .made)) f) fill-grows
       (record { made = []; index = []; store = store }) (suc k) m h)
 
-  pub length-index : (k : ℕ) → length (fillTo c base store k .index) ≡ k
+  length-index : (k : ℕ) → length (fillTo c base store k .index) ≡ k
   unfolding fillTo fillStep
   length-index zero = refl
   length-index (suc k) = rw (length-append, add-one) (ap suc (length-index k))

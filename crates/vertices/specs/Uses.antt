@@ -64,7 +64,7 @@ unfolding regularUse transitionUse
 use-place s (Regular at) code = refl
 use-place s (Transition at) code = refl
 
-pub kept-old : (at : CellIndex) (code : ℕ) → makesAt at code ≡ false → eqb (isNew code) 1 ≡ false
+kept-old : (at : CellIndex) (code : ℕ) → makesAt at code ≡ false → eqb (isNew code) 1 ≡ false
 kept-old (Regular at) code e = neither _ _ e .0
 kept-old (Transition at) code e = neither (eqb (isNew code) 1) _ e .0
 

@@ -22,8 +22,11 @@ same-length-4 c = search needs
 
 returns : tie.Need-returns
 returns c =
-    let extracted = c .before .before .before .before .before .before .before .before in
-    let a = extracted .before .before .before .before .before .before .before .before .before .before .before .before .args in
+    let two-back = c .before .before .before .before in
+    let extracted = two-back .before .before .before .before in
+    let buffers = extracted .before .before .before .before .before in
+    let lists = buffers .before .before .before .before in
+    let a = lists .before .before .before .args in
     let s = star (a .header) (a .centre .now) (a .neighbours .now) in
     let left = extracted .extract-numbered .ensures in
     told-layered s (a .summary .now) (a .store .now) (a .vertices .now) (a .triangles .now) (a .edges .now) _ _ _ _ _ (left .0) (left .1)

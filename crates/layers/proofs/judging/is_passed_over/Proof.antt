@@ -5,6 +5,7 @@ use borrow.Author.Needs.{needs}
 use lib.Ieee.{lt}
 use Rattle.model.specs.declared.Extent.{Extent}
 use Rattle.model.specs.Layers.{entryOf, marked, oneSided}
+use Rattle.layers.specs.Over.{mark-told}
 use Rattle.layers.proofs.judging.is_passed_over.Statement.{statement}
 use Rattle.layers.proofs.judging.is_passed_over.Tie as tie
 
@@ -25,7 +26,7 @@ module _ (c : tie.After-is-marked) where
   over b = not b && oneSided (start .args .threshold) told
 
   is-told : (b : Bool) → c .is-marked .result ≡ b → marked told ≡ b
-  is-told b e = ap marked (sym (c .before .entry .ensures)) ∙ sym (c .is-marked .ensures) ∙ e
+  is-told b = mark-told (c .before .entry .ensures) (c .is-marked .ensures)
 
 returns : tie.Need-returns
 returns c = sym (ap (over (c .before)) (is-told (c .before) _ (c .if1 .taken)))

@@ -8,6 +8,7 @@ use Rattle.model.specs.declared.Extent.{Extent}
 use Rattle.model.specs.Layers.{extentOf, layerExtent, entryOf, marked, agree}
 use Rattle.layers.specs.Held.{samplesFrom}
 use Rattle.layers.specs.Places.{some-samples, layer-held}
+use Rattle.layers.specs.Over.{mark-told}
 use Rattle.layers.proofs.judging.layer_stands.Statement.{statement}
 use Rattle.layers.proofs.judging.layer_stands.Tie as tie
 
@@ -28,7 +29,7 @@ module _ (c : tie.After-is-marked) where
   fresh = layerExtent (start .args .n) (start .args .samples .now) (start .args .x)
 
   is-told : (b : Bool) → c .is-marked .result ≡ b → marked told ≡ b
-  is-told b e = ap marked (sym (c .before .entry .ensures)) ∙ sym (c .is-marked .ensures) ∙ e
+  is-told b = mark-told (c .before .entry .ensures) (c .is-marked .ensures)
 
 returns : tie.Need-returns
 returns c =
