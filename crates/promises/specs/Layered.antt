@@ -23,6 +23,11 @@ use Rattle.promises.specs.Orders.{Judge, judge, Judged, blockJudges}
 use Rattle.promises.specs.Weld.{LentWhole, wholeOutcome, answeredWhole, leftWhole}
 use Rattle.promises.specs.Reads.{readsTotal, mostReads}
 
+-- the summary is not refused: 14 and 26 let it pass, or are not asked, since one of 1 to 8 has refused the block
+abbrev pub SummaryStands : Star → List Float → Type 0
+SummaryStands s summary =
+    orElse (judgeStar s) (orElse (judgeFaces s) (judgeSummary (subdivisions s) (s .centre) summary)) ≡ orElse (judgeStar s) (judgeFaces s)
+
 module _ (s : Star) (summary : List Float) (lent : LentWhole) where
   abbrev pub layeredOutcome : WholeOutcome
   layeredOutcome = extractLayered s summary (lent .mesh .store) (lent .mesh .vertices) (lent .mesh .triangles) (lent .edges)
@@ -51,10 +56,6 @@ module _ (s : Star) (summary : List Float) (lent : LentWhole) where
       judge 10 (judgeRoom (counts s .vertices) (counts s .triangles) (length (lent .mesh .vertices)) (length (lent .mesh .triangles))) ∷
       []
 
-  -- the summary is not refused: 14 and 26 let it pass, or are not asked, since one of 1 to 8 has refused the block
-  abbrev pub SummaryStands : Type 0
-  SummaryStands = orElse (judgeStar s) (orElse (judgeFaces s) (judgeSummary (subdivisions s) (s .centre) summary)) ≡ orElse (judgeStar s) (judgeFaces s)
-
   -- the same answer and the same in every list, index store included, as without the summary
   pub record Alike : Type 0 where
     pub answer : answeredLayered ≡ answeredWhole s lent
@@ -71,7 +72,7 @@ pub record LayeredPromises : Type 0 where
   pub refused : (s : Star) (summary : List Float) (lent : LentWhole) (r : Refusal) → answeredLayered s summary lent ≡ Extraction.Refused r
       → reportedLayered s summary lent ≡ 0
   -- of every block, with every summary that is not refused
-  pub alike : (s : Star) (summary : List Float) (lent : LentWhole) → SummaryStands s summary lent → Alike s summary lent
+  pub alike : (s : Star) (summary : List Float) (lent : LentWhole) → SummaryStands s summary → Alike s summary lent
   -- accepted, it reports 8 n^3 + 9 s n^2 + 14 V less 8 n^2 for each layer passed over
   pub reads : (s : Star) (summary : List Float) (lent : LentWhole) (c : Counts) → answeredLayered s summary lent ≡ Extraction.Mesh c
       → let n = subdivisions s in

@@ -125,7 +125,7 @@ module _ (s : Star) (summary : List Float) (lent : LentWhole) where
   in-parts : orElse (orElse (judgeStar s) (orElse (judgeFaces s) (judgeSummary n (s .centre) summary))) rest ≡ verdict
   in-parts = rw (or-else-assoc, or-else-assoc)
 
-  module _ (e : SummaryStands s summary lent) where
+  module _ (e : SummaryStands s summary) where
     verdict-is : verdict ≡ without
     unfolding judgeWhole
     verdict-is = sym in-parts ∙ ap (λ (v : Verdict). orElse v rest) e ∙ or-else-assoc (judgeStar s) (judgeFaces s) rest
@@ -188,7 +188,7 @@ module _ (s : Star) (summary : List Float) (lent : LentWhole) where
         ap (λ (b : Bool). orElse (unless b (BufferTooShort (summaryLength n))) (judgeLayers n (s .centre) summary)) (le-leb _ _ long)
         ∙ all-stand n (s .centre) summary (λ x h. ap (λ (b : Bool). b || agree (entryOf summary x) (layerExtent n (s .centre) x)) (all x h))
 
-    marked-stands : SummaryStands s summary lent
+    marked-stands : SummaryStands s summary
     marked-stands = rw (marked-passed, or-else-passed)
 
     all-marked : layeredOutcome s summary lent ≡ wholeOutcome s lent
