@@ -4,7 +4,8 @@
     python3 compare/layered.py COUNT [FIRST]
 
 Each seed makes a call as compare/whole.py does, of a block whose planes are inside, outside, at the threshold or mixed, and a summary of
-it: as it is made, with some layers marked by a NaN, now and then one that is wrong or too short; and now and then a fault in the call.
+it: as it is made, with some layers marked by a NaN, zeros with the other sign, now and then one that is wrong or too short; and now and
+then a fault in the call.
 Answer, its numbers, reads among them, and all places of the four buffers are compared; where the summary is not refused they must be
 those of the call without it, but for the reads, which are fewer by eight for each cell passed over.
 """
@@ -13,9 +14,10 @@ import random
 import sys
 from collections import Counter
 
-from calling import MARK, Progress, seeds
+from calling import MARK, Progress, seeds, tally
 import records
 import reference
+from layers import ZEROS
 from whole import Ours, WholeCall
 
 
@@ -35,33 +37,42 @@ class LayeredCall(WholeCall):
 
     def sample(self, chance):
         level = reference.value(self.threshold)
-        kinds = [[0, 1], [1, 2], [-1, -2], [-1, -0.5], [0, 1, -1, -2]]
-        self.centre = [reference.bits(level + chance.choice(kinds[4])) for _ in range(reference.block_length(self.n))]
+        mixed = [0, 1, -1, -2]
+        kinds = [[0, 1], [1, 2], [-1, -2], [-1, -0.5], [0, -1], mixed]
+        self.centre = [reference.bits(level + chance.choice(mixed)) for _ in range(reference.block_length(self.n))]
         for x in range(self.n + 1):
             steps = chance.choice(kinds)
             for y in range(self.n + 1):
                 for z in range(self.n + 1):
                     self.centre[reference.sample_place(self.n, (x, y, z))] = reference.bits(level + chance.choice(steps))
         count = reference.neighbours_length(self.n, self.mask)
-        samples = self.centre + [reference.bits(level + chance.choice(kinds[4])) for _ in range(count)]
+        samples = self.centre + [reference.bits(level + chance.choice(mixed)) for _ in range(count)]
         records.agree(self.n, self.mask, samples)
         self.neighbours = samples[len(self.centre):]
 
     def disturb(self, chance):
-        """Some layers marked, now and then one that is wrong, or the list too short."""
-        marked = chance.choice([0, 0, 0.3, 1])
+        """Some layers marked, zeros of others with the other sign, now and then one that is wrong, or the list too short."""
+        marked, self.turned = chance.choice([0, 0, 0.3, 1]), 0
         for layer in range(self.n):
             if chance.random() < marked:
                 self.summary[2 * layer + chance.randrange(2)] = chance.choice([MARK, 0x7FC00000, 0xFFC00001])
+            elif chance.random() < 0.5:
+                self.turn(layer)
         if chance.random() < 0.1:
             self.summary[chance.randrange(2 * self.n)] = reference.bits(chance.choice([-1.0, 0.0, 1.0, 2.5]))
         if chance.random() < 0.05:
             del self.summary[chance.randrange(2 * self.n):]
 
+    def turn(self, layer):
+        for k in (2 * layer, 2 * layer + 1):
+            if self.summary[k] in ZEROS:
+                self.summary[k] ^= ZEROS[1]
+                self.turned += 1
+
 
 class Comparison:
     def __init__(self):
-        self.ours, self.met, self.over = Ours(), Counter(), 0
+        self.ours, self.met, self.over, self.turned = Ours(), Counter(), 0, 0
 
     def call(self, seed):
         chance = random.Random(seed)
@@ -82,6 +93,7 @@ class Comparison:
         if (plain, left) != (numbers, buffers):
             sys.exit("seed %d: with the summary %s, without it %s" % (seed, numbers, plain))
         self.over += over
+        self.turned += numbers[0] == 0 and call.turned > 0
 
 
 def main(words):
@@ -90,8 +102,8 @@ def main(words):
     for seed in all_seeds:
         comparison.call(seed)
         progress.step()
-    met = ", ".join("%d: %d" % pair for pair in sorted(comparison.met.items()))
-    print("%d calls, no difference; %d layers were passed over; answers met: %s" % (len(all_seeds), comparison.over, met))
+    print("%d calls, no difference; %d layers were passed over; %d meshes with a zero of the other sign; answers met: %s"
+          % (len(all_seeds), comparison.over, comparison.turned, tally(comparison.met)))
 
 
 if __name__ == "__main__":

@@ -14,7 +14,7 @@ import struct
 import sys
 from collections import Counter
 
-from calling import MARK, Program, Progress, seeds
+from calling import MARK, Program, Progress, seeds, tally
 import reference
 
 ZEROS = [0x00000000, 0x80000000]
@@ -120,10 +120,6 @@ class Comparison:
         self.change("seed %d, set with a fault" % seed, n, samples, a_point(chance, min(n, 99)), pattern, summary)
 
 
-def counted(met):
-    return ", ".join("%d: %d" % pair for pair in sorted(met.items()))
-
-
 def main(words):
     all_seeds = seeds(words, __doc__)
     comparison, progress = Comparison(), Progress(len(all_seeds))
@@ -131,7 +127,7 @@ def main(words):
         comparison.seed(seed)
         progress.step()
     print("%d summaries made and %d samples set, no difference; answers met in making: %s; in setting: %s"
-          % (sum(comparison.made.values()), sum(comparison.set.values()), counted(comparison.made), counted(comparison.set)))
+          % (sum(comparison.made.values()), sum(comparison.set.values()), tally(comparison.made), tally(comparison.set)))
 
 
 if __name__ == "__main__":

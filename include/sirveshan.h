@@ -83,7 +83,7 @@
  *   21  volume length not four times its sizes' product
  *   22  first point not in the volume
  *   23  edge list too short                                 places wanted
- *   26  an unmarked layer is not as made afresh             layer
+ *   26  unmarked layer differs in value from a fresh one    layer
  * [end of refusals]
  *
  * The u and v of 8 run 0 to n over the face's grid points. The point is, by side: 0 (0, v, n-u), 1 (n, v, u), 2 (u, 0, n-v),
@@ -273,10 +273,11 @@ sirveshan_extracted sirveshan_extract_whole(sirveshan_header header, const float
 /*
  * The same with a summary by layer, as sirveshan_make_summary and sirveshan_set_sample leave it. A layer of cells that is not
  * marked and lies wholly inside (its least sample at or above the threshold) or wholly outside (its greatest below it) is passed
- * over: its cells are not looked at in counting and writing. Answer and lists, store included, are the same as without the summary;
- * reads are fewer by eight for each cell passed over. With every layer marked it is sirveshan_extract_whole. Judged are 1 to 8,
- * then 14 where summary has fewer floats than SIRVESHAN_SUMMARY_LENGTH(n), then 26 with the first layer that is not marked and
- * differs in value from one made afresh, then 9, 23 and 10. Judging 26 reads all samples of the layers that are not marked.
+ * over: its cells are not looked at in counting and writing. Unless it is refused by 14 or 26, answer and lists, store included,
+ * are the same as without the summary; on a mesh reads are fewer by eight for each cell passed over. With every layer marked it is
+ * sirveshan_extract_whole. Judged are 1 to 8, then 14 where summary has fewer floats than SIRVESHAN_SUMMARY_LENGTH(n), then 26 with
+ * the first layer that is not marked and differs in value from one made afresh, then 9, 23 and 10. Judging 26 reads all samples of
+ * the layers that are not marked.
  */
 sirveshan_extracted sirveshan_extract_layered(sirveshan_header header, const float *centre, size_t centre_length,
                                               const float *neighbours, size_t neighbours_length, const float *summary,
@@ -407,7 +408,8 @@ sirveshan_samples_cut sirveshan_cut(const uint8_t *src, size_t length, sirveshan
  * A summary by layer, for a block whose samples change. The layer x of cells, 0 to n-1, lies between the planes x and x + 1; of
  * the samples of both planes the summary has the least and the greatest, two floats a layer, SIRVESHAN_SUMMARY_LENGTH(n) in all.
  * +0 and -0 count as equal, and of equals the first in the list of samples is kept. A NaN in either float marks a layer that is
- * not worked out: write one where many samples of a layer are about to change by other means than sirveshan_set_sample.
+ * not worked out: write one into each layer that holds a sample which is to change by other means than sirveshan_set_sample (the
+ * planes 1 to n-1 are in two layers each).
  *
  * sirveshan_make_summary fills the first places of summary; all beyond stays. Judged are 1, 4, 7 and 14, in that order.
  *

@@ -176,6 +176,9 @@ static void passed_over(void)
     fill();
     sirveshan_make_summary(N, samples, SAMPLES, summary, LENGTH);
     expect_alike("two layers passed over", summary, 2);
+    expect("the least of all", bits_of(summary[0]), 0);
+    summary[0] = -0.0f;
+    expect_alike("a zero of the other sign", summary, 2);
     expect_alike("all layers marked", marks, 0);
     summary[5] = marks[5];
     expect_alike("one of the two marked", summary, 1);

@@ -85,9 +85,10 @@ pub fn extract_whole(
 
 /// The same with a summary by layer, as [`make_summary`](crate::make_summary) and
 /// [`set_sample`](crate::set_sample) leave it: layers that are not marked and lie wholly on one side
-/// of the threshold are passed over. Mesh, store and edges are the same; the reads are fewer by eight
-/// for each cell passed over. Refusal 14 where the summary has too few layers, 26 with the first layer
-/// that is not marked and not as made afresh, both before 9.
+/// of the threshold are passed over. Refusal 14 where the summary has too few layers, 26 with the first
+/// layer that is not marked and differs in value from one made afresh, both before 9. With any other
+/// answer it and all lists are the same as without the summary; of a mesh the reads are fewer by eight
+/// for each cell passed over.
 #[allow(clippy::too_many_arguments)]
 pub fn extract_layered(
     header: &Header,

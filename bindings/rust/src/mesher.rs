@@ -68,8 +68,9 @@ impl Mesher {
     }
 
     /// The same, and layers that a summary of the centre's samples shows to lie on one side of the
-    /// threshold are passed over: the mesh is the same, its reads are fewer. Answers refusal 14 for a
-    /// summary of too few layers, and 26 for one with a layer that is not as made afresh.
+    /// threshold are passed over: the mesh is the same, its reads are fewer by eight for each cell
+    /// passed over. Answers refusal 14 for a summary of too few layers, and 26 for one with a layer that
+    /// differs in value from one made afresh.
     ///
     /// ```
     /// use sirveshan::{sample_length, sample_place, Block, Header, Mesher, Summary};

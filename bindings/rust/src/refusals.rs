@@ -35,7 +35,7 @@ pub(crate) fn words(number: u32, [first, second, third]: [usize; 3]) -> Option<S
         21 => "the volume's bytes are not four times its sizes' product".to_string(),
         22 => "the first point is not in the volume".to_string(),
         23 => format!("the list of edges needs {first} places"),
-        26 => format!("layer {first} of the summary is not as made afresh"),
+        26 => format!("layer {first} of the summary differs in value from one made afresh"),
         _ => return None,
     })
 }

@@ -93,7 +93,9 @@ impl Summary {
         &self.extents
     }
 
-    /// The same, to be marked: a NaN in either f32 says that a layer is not worked out.
+    /// The same, to be marked: a NaN in either f32 says that a layer is not worked out. Write one into
+    /// each layer that holds a sample which is to change by other means than [`Summary::set`]; the
+    /// planes 1 to n - 1 are in two layers each.
     pub fn as_mut_slice(&mut self) -> &mut [f32] {
         &mut self.extents
     }

@@ -131,7 +131,7 @@ fn kept_beside_the_samples() {
     assert_eq!(Summary::make(3, &samples[1..]).map(|_| ()), refusal(4, 160));
     assert_eq!(
         Refusal { number: 26, values: [3, 0, 0] }.to_string(),
-        "layer 3 of the summary is not as made afresh"
+        "layer 3 of the summary differs in value from one made afresh"
     );
 }
 
