@@ -5,9 +5,8 @@
 
 Each seed makes a call as compare/whole.py does, of a block whose planes are inside, outside, at the threshold or mixed, and a summary of
 it: as it is made, with some layers marked by a NaN, zeros with the other sign, now and then one that is wrong or too short; and now and
-then a fault in the call.
-Answer, its numbers, reads among them, and all places of the four buffers are compared; where the summary is not refused they must be
-those of the call without it, but for the reads, which are fewer by eight for each cell passed over.
+then a fault in the call. Answer, its numbers, reads among them, and all places of the four buffers are compared; where the summary is not
+refused they must be those of the call without it, but for the reads, which are fewer by eight for each cell passed over.
 """
 
 import random
