@@ -3,20 +3,22 @@ use borrow.Author.Needs.{needs}
 use mathlib.Core.Path.{_≡_}
 use lib.ListN.{length}
 use Rattle.model.specs.declared.Verdict.the-variants.{Passed}
-use Rattle.model.specs.Star.{Star, star}
 use Rattle.algorithm.specs.Passes.{judged}
-use Rattle.algorithm.proofs.Answers.{shaped, store-held, refused, passed}
+use Rattle.algorithm.proofs.Answers.{Lent, lentOf, shaped, store-held, refused, passed}
 use Rattle.algorithm.proofs.extract_numbered.Statement.{statement}
 use Rattle.algorithm.proofs.extract_numbered.Tie as tie
+
+-- what is lent
+abbrev lent : tie.Start → Lent
+lent b =
+    let a = b .args in
+    lentOf (a .numbered) (a .header) (a .centre .now) (a .neighbours .now) (a .store .now) (a .vertices .now) (a .triangles .now) (a .edges .now)
 
 -- the entry, from where the block is judged: past the buffers, and the lists that are read
 abbrev start : tie.After-judge → tie.Start
 start c =
     let lists = c .before .before .before .before .before in
     lists .before .before
-
-abbrev starOf : tie.Start → Star
-starOf b = let a = b .args in star (a .header) (a .centre .now) (a .neighbours .now)
 
 judge-requires : tie.Need-judge-requires
 judge-requires c κs = search needs
@@ -30,8 +32,7 @@ refused-requires c κs = search needs
 returns : tie.Need-returns
 returns c =
     let b = start (c .before .before .before .before) in
-    let a = b .args in
-    rw (c .refused .ensures) (refused (a .numbered) (starOf b) (a .store .now) (a .vertices .now) (a .triangles .now) (a .edges .now) _ (cc))
+    rw (c .refused .ensures) (refused (lent b) _ (cc))
 
 enum-told : tie.Need-enum-told
 enum-told c = search needs
@@ -41,7 +42,7 @@ module _ (c : tie.After-enum-told) where
   abbrev entry : tie.Start
   entry = start (c .before .before)
 
-  judged-passed : judged (starOf entry) (length (entry .args .store .now)) ≡ Passed
+  judged-passed : let l = lent entry in judged (l .s) (length (l .store)) ≡ Passed
   judged-passed = cc
 
 extract-mesh-requires : tie.Need-extract-mesh-requires
@@ -66,9 +67,7 @@ returns-2 c =
     let two-back = c .before .before .before .before in
     let extracted = two-back .before .before .before .before in
     let told = extracted .before .before .before .before .before in
-    let a = entry told .args in
-    rw (passed (a .numbered) (starOf (entry told)) (a .store .now) (a .vertices .now) (a .triangles .now) (a .edges .now) (judged-passed told))
-    (extracted .extract-mesh .ensures)
+    rw (passed (lent (entry told)) (judged-passed told)) (extracted .extract-mesh .ensures)
 
 pub extract-numbered-spec : {M : Type 1} → statement M
 extract-numbered-spec =
