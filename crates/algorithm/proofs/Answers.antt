@@ -10,6 +10,7 @@ use lib.Ieee.{Float}
 use lib.ListN.{length, take, drop}
 use lib.Seq.{take-all, length-take-le}
 use Rattle.model.specs.declared.Counts.{Counts}
+use Rattle.model.specs.declared.Header.{Header}
 use Rattle.model.specs.declared.Refusal.{Refusal}
 use Rattle.model.specs.declared.Refusal.the-variants.{IndexStoreTooShort, NoRoom, EdgesTooShort}
 use Rattle.model.specs.declared.Verdict.{Verdict}
@@ -21,7 +22,7 @@ use Rattle.laws.specs.Lists.{length-each}
 use Rattle.laws.specs.Laying.{length-lay, lay-all}
 use Rattle.model.specs.Refusals.{orElse}
 use Rattle.model.specs.Judging.{judgeFaces, judgeStore, judgeRoom, judgeBuffer, judgeStar}
-use Rattle.model.specs.Star.{Star, subdivisions}
+use Rattle.model.specs.Star.{Star, star, subdivisions}
 use Rattle.model.specs.Mesh.{meshOf, storeLength}
 use Rattle.model.specs.Extraction.{Outcome, outcome}
 use Rattle.model.specs.Edges.{edgeNumber, WholeOutcome, edgesLeft}
@@ -61,7 +62,7 @@ pub none-told : (numbered : Bool) (s : Star) (heldStore heldVertices heldTriangl
     (orElse (judgeFaces s) (orElse (judgeStore (subdivisions s) heldStore) (roomJudged numbered s heldVertices heldTriangles heldEdges)))
 none-told numbered s heldStore heldVertices heldTriangles heldEdges = rw (no-summary (subdivisions s) (s .centre))
 
--- what 1 to 9, with 26, have shown
+-- what 1 to 9, with 24 and 26, have shown
 module _ (layered : Bool) (s : Star) (summary : List Float) (held : ℕ) (e : judged layered s summary held ≡ Passed) where
   star-passed : judgeStar s ≡ Passed
   star-passed = both-passed (judgeStar s) _ e .0
@@ -107,104 +108,137 @@ numbers-done false s edges es count e long n = ap (λ (l : List ℕ). l ++ edges
 
 -- ---- the answers
 
-module _ (numbered : Bool) (s : Star) (summary : List Float) (store : List ℕ) (vertices : List Float) (triangles edges : List ℕ) where
+-- what is lent, and whether the further list is asked for
+pub record Lent : Type 0 where
+  pub numbered : Bool
+  pub s : Star
+  pub summary : List Float
+  pub store : List ℕ
+  pub vertices : List Float
+  pub triangles : List ℕ
+  pub edges : List ℕ
+
+abbrev pub lentOf : Bool → Header → List Float → List Float → List Float → List ℕ → List Float → List ℕ → List ℕ → Lent
+lentOf numbered header centre neighbours summary store vertices triangles edges =
+    record { numbered = numbered; s = star header centre neighbours; summary = summary; store = store; vertices = vertices; triangles = triangles; edges = edges }
+
+module _ (l : Lent) where
   abbrev room : Verdict
-  room = roomJudged numbered s (length vertices) (length triangles) (length edges)
+  room = roomJudged (l .numbered) (l .s) (length (l .vertices)) (length (l .triangles)) (length (l .edges))
 
   -- what a verdict leaves of the three buffers and of the further list
   abbrev pub Answered : Verdict → Report → List ℕ → List Float → List ℕ → List ℕ → Type 0
   Answered v report store′ vertices′ triangles′ edges′ =
-      Leaves (outcome (spared s summary) store vertices triangles v) report store′ vertices′ triangles′ × (edges′ ≡ numbersLeft numbered s edges v)
+      Leaves (outcome (spared (l .s) (l .summary)) (l .store) (l .vertices) (l .triangles) v) report store′ vertices′ triangles′
+      × (edges′ ≡ numbersLeft (l .numbered) (l .s) (l .edges) v)
 
-  none : (v : Verdict) (r : Refusal) → v ≡ Refused r → Answered v (refusedReport r) store vertices triangles edges
+  -- every place is as it was
+  abbrev pub Untouched : Verdict → Refusal → Type 0
+  Untouched v r = Answered v (refusedReport r) (l .store) (l .vertices) (l .triangles) (l .edges)
+
+  none : (v : Verdict) (r : Refusal) → v ≡ Refused r → Untouched v r
   unfolding outcome edgesLeft
   none v r e =
-      rw e (record { answer-is = refl; reads-are = refl; store-is = refl; vertices-are = refl; triangles-are = refl }, same-either numbered edges)
+      rw e (record { answer-is = refl; reads-are = refl; store-is = refl; vertices-are = refl; triangles-are = refl }, same-either (l .numbered) (l .edges))
 
   -- ---- 1 to 9
 
   module _ (layered : Bool) where
+    abbrev early : Verdict
+    early = judged layered (l .s) (l .summary) (length (l .store))
+
     abbrev all : Verdict
-    all = allJudged layered numbered s summary (length store) (length vertices) (length triangles) (length edges)
+    all = allJudged layered (l .numbered) (l .s) (l .summary) (length (l .store)) (length (l .vertices)) (length (l .triangles)) (length (l .edges))
 
-    in-order : all ≡ orElse (judged layered s summary (length store)) room
+    in-order : all ≡ orElse early room
     in-order =
-        let told = summaryJudged layered (subdivisions s) (s .centre) summary in
-        let stored = judgeStore (subdivisions s) (length store) in
+        let told = summaryJudged layered (subdivisions (l .s)) (l .s .centre) (l .summary) in
+        let stored = judgeStore (subdivisions (l .s)) (length (l .store)) in
         sym
-        (or-else-assoc (judgeStar s) (orElse (judgeFaces s) (orElse told stored)) room
-        ∙ ap (orElse (judgeStar s)) (or-else-assoc (judgeFaces s) (orElse told stored) room ∙ ap (orElse (judgeFaces s)) (or-else-assoc told stored room)))
+        (or-else-assoc (judgeStar (l .s)) (orElse (judgeFaces (l .s)) (orElse told stored)) room
+        ∙ ap (orElse (judgeStar (l .s))) (or-else-assoc (judgeFaces (l .s)) (orElse told stored) room ∙ ap (orElse (judgeFaces (l .s))) (or-else-assoc told stored room)))
 
-    pub refused : (r : Refusal) → judged layered s summary (length store) ≡ Refused r → Answered all (refusedReport r) store vertices triangles edges
+    pub refused : (r : Refusal) → early ≡ Refused r → Untouched all r
     refused r e = none all r (in-order ∙ rw e)
 
-    pub passed : judged layered s summary (length store) ≡ Passed → all ≡ room
+    pub passed : early ≡ Passed → all ≡ room
     passed e = in-order ∙ rw e
 
   -- ---- 23 and 10, by the counts
 
-  module _ (counts : Counts) (counts-are : Counted (meshOf s) counts) (w : Verdict) (w-is : w ≡ edgesJudged numbered (counts .vertices) (length edges)) where
-    room-first : room ≡ orElse w (judgeRoom (counts .vertices) (counts .triangles) (length vertices) (length triangles))
-    room-first = rw (← counts-are .vertices-are, ← counts-are .triangles-are, w-is)
+  abbrev pub list-judged : Counts → Verdict
+  list-judged counts = edgesJudged (l .numbered) (counts .vertices) (length (l .edges))
 
-    pub no-list : (r : Refusal) → w ≡ Refused r → Answered room (refusedReport r) store vertices triangles edges
-    no-list r e = none room r (room-first ∙ rw e)
+  abbrev pub by-counts : Counts → Verdict
+  by-counts counts = judgeRoom (counts .vertices) (counts .triangles) (length (l .vertices)) (length (l .triangles))
 
-    module _ (listed : w ≡ Passed) (v : Verdict) (v-is : v ≡ judgeRoom (counts .vertices) (counts .triangles) (length vertices) (length triangles)) where
-      room-is : room ≡ v
-      room-is = room-first ∙ rw (listed, ← v-is)
+  room-first : {counts : Counts} → Counted (meshOf (l .s)) counts → room ≡ orElse (list-judged counts) (by-counts counts)
+  room-first counts-are = rw (← counts-are .vertices-are, ← counts-are .triangles-are)
 
-      pub no-room : (r : Refusal) → v ≡ Refused r → Answered room (refusedReport r) store vertices triangles edges
-      no-room r e = none room r (room-is ∙ e)
+  pub no-list : {counts : Counts} → Counted (meshOf (l .s)) counts → {w : Verdict} → w ≡ list-judged counts → (r : Refusal) → w ≡ Refused r → Untouched room r
+  no-list {counts} counts-are w-is r e = none room r (room-first counts-are ∙ ap (λ (x : Verdict). orElse x (by-counts counts)) (sym w-is ∙ e))
 
-      pub has-room : v ≡ Passed → (6 * counts .vertices ≤ length vertices) × (3 * counts .triangles ≤ length triangles)
-      has-room e =
-          let both = and-eq-true-iff (leb (counts .vertices) (length vertices / 6)) (leb (counts .triangles) (length triangles / 3)) .0
-          (unless-passed _ (NoRoom _) (sym v-is ∙ e)) in
-          let a : counts .vertices ≤ length vertices / 6 = leb-true _ _ (both .0) in
-          let b : counts .triangles ≤ length triangles / 3 = leb-true _ _ (both .1) in
-          (omega arith, omega arith)
+-- the counts are the mesh's, the further list is long enough, and so the room is judged
+pub record Roomed (l : Lent) (counts : Counts) (v : Verdict) : Type 0 where
+  pub counts-are : Counted (meshOf (l .s)) counts
+  pub listed : list-judged l counts ≡ Passed
+  pub room-is : v ≡ by-counts l counts
 
-      module _ (e : v ≡ Passed) (places : ℕ) (places-are : places ≡ storeLength (subdivisions s)) where
-        -- the first places are just enough
-        pub parts : Few mostCells counts → storeLength (subdivisions s) ≤ length store
-            → Exact s (take (6 * counts .vertices) vertices) (take (3 * counts .triangles) triangles) (take places store)
-        parts few held =
-            let v-length : length (take (6 * counts .vertices) vertices) ≡ 6 * counts .vertices = length-take-le _ vertices (has-room e .0) in
-            let t-length : length (take (3 * counts .triangles) triangles) ≡ 3 * counts .triangles = length-take-le _ triangles (has-room e .1) in
-            record {
-              fits =
-                  record {
-                    vertices-fit = record { room = omega arith; short = omega (arith, few .vertices) };
-                    triangles-fit = record { room = omega arith; short = omega (arith, few .triangles) };
-                    store-fits = length-take-le places store (omega arith) ∙ places-are;
-                  };
-              vertices-fill = omega arith;
-              triangles-fill = omega arith;
-            }
+module _ {l : Lent} {counts : Counts} {v : Verdict} (h : Roomed l counts v) where
+  judged-so : room l ≡ v
+  judged-so = room-first l (h .counts-are) ∙ ap (λ (x : Verdict). orElse x (by-counts l counts)) (h .listed) ∙ sym (h .room-is)
 
-        -- they were written, and all beyond stays
-        pub done : (st : List ℕ) (vs : List Float) (ts es : List ℕ) (reads : ℕ) → Exact s vs ts st → Written (meshOf s) vs ts st → reads ≡ layeredMesh s summary .reads
-            → length es ≡ cond numbered (counts .vertices) 0 → Numbered (meshOf s) es
-            → Answered room (record { answer = Extraction.Mesh counts; reads = reads }) (st ++ drop places store)
-            (vs ++ drop (6 * counts .vertices) vertices) (ts ++ drop (3 * counts .triangles) triangles)
-            (es ++ drop (cond numbered (counts .vertices) 0) edges)
-        unfolding outcome
-        done st vs ts es reads exact w reads-are es-long es-are =
-            let ev = counts-are .vertices-are in
-            let et = counts-are .triangles-are in
-            rw (room-is ∙ e) (
-              rw (
-                ← w .vertices-are,
-                ← w .triangles-are,
-                ← w .store-is,
-                exact .vertices-fill,
-                exact .triangles-fill,
-                exact .fits .store-fits,
-              )
-                  (record { answer-is = rw (← ev, ← et); reads-are = reads-are; store-is = rw places-are; vertices-are = rw ev; triangles-are = rw et }),
-              numbers-done numbered s edges es (counts .vertices) ev es-long es-are,
-            )
+  pub no-room : (r : Refusal) → v ≡ Refused r → Untouched l (room l) r
+  no-room r e = none l (room l) r (judged-so ∙ e)
+
+  pub has-room : v ≡ Passed → (6 * counts .vertices ≤ length (l .vertices)) × (3 * counts .triangles ≤ length (l .triangles))
+  has-room e =
+      let both = and-eq-true-iff (leb (counts .vertices) (length (l .vertices) / 6)) (leb (counts .triangles) (length (l .triangles) / 3)) .0
+      (unless-passed _ (NoRoom _) (sym (h .room-is) ∙ e)) in
+      let a : counts .vertices ≤ length (l .vertices) / 6 = leb-true _ _ (both .0) in
+      let b : counts .triangles ≤ length (l .triangles) / 3 = leb-true _ _ (both .1) in
+      (omega arith, omega arith)
+
+  module _ (e : v ≡ Passed) (places : ℕ) (places-are : places ≡ storeLength (subdivisions (l .s))) where
+    -- the first places are just enough
+    pub parts : Few mostCells counts → storeLength (subdivisions (l .s)) ≤ length (l .store)
+        → Exact (l .s) (take (6 * counts .vertices) (l .vertices)) (take (3 * counts .triangles) (l .triangles)) (take places (l .store))
+    parts few held =
+        let v-length : length (take (6 * counts .vertices) (l .vertices)) ≡ 6 * counts .vertices = length-take-le _ (l .vertices) (has-room e .0) in
+        let t-length : length (take (3 * counts .triangles) (l .triangles)) ≡ 3 * counts .triangles = length-take-le _ (l .triangles) (has-room e .1) in
+        record {
+          fits =
+              record {
+                vertices-fit = record { room = omega arith; short = omega (arith, few .vertices) };
+                triangles-fit = record { room = omega arith; short = omega (arith, few .triangles) };
+                store-fits = length-take-le places (l .store) (omega arith) ∙ places-are;
+              };
+          vertices-fill = omega arith;
+          triangles-fill = omega arith;
+        }
+
+    -- they were written, and all beyond stays
+    pub done : (st : List ℕ) (vs : List Float) (ts es : List ℕ) (reads : ℕ) → Exact (l .s) vs ts st → Written (meshOf (l .s)) vs ts st
+        → reads ≡ layeredMesh (l .s) (l .summary) .reads → length es ≡ cond (l .numbered) (counts .vertices) 0 → Numbered (meshOf (l .s)) es
+        → Answered l (room l) (record { answer = Extraction.Mesh counts; reads = reads }) (st ++ drop places (l .store))
+        (vs ++ drop (6 * counts .vertices) (l .vertices)) (ts ++ drop (3 * counts .triangles) (l .triangles))
+        (es ++ drop (cond (l .numbered) (counts .vertices) 0) (l .edges))
+    unfolding outcome
+    done st vs ts es reads exact w reads-are es-long es-are =
+        let ev = h .counts-are .vertices-are in
+        let et = h .counts-are .triangles-are in
+        rw (judged-so ∙ e) (
+          rw (
+            ← w .vertices-are,
+            ← w .triangles-are,
+            ← w .store-is,
+            exact .vertices-fill,
+            exact .triangles-fill,
+            exact .fits .store-fits,
+          )
+              (record { answer-is = rw (← ev, ← et); reads-are = reads-are; store-is = rw places-are; vertices-are = rw ev; triangles-are = rw et }),
+          numbers-done (l .numbered) (l .s) (l .edges) es (counts .vertices) ev es-long es-are,
+        )
 
 -- ---- with a summary and the further list
 

@@ -34,8 +34,10 @@ module _ {c : Cell} {nv nt : ℕ} {vertices v v′ : List Float} {triangles stor
   )
 
 pub write-sheet-cell-pinned : (κs : Lfts 10) (a : _) (r r′ : _) (e e′ : _) → write-sheet-cell.Learnt κs a r e → write-sheet-cell.Learnt κs a r′ e′
-    → let x = e .1 .1 .1 .1 .1 .1 .1 .1 .1 .1 .1 .1 in
-    let y = e′ .1 .1 .1 .1 .1 .1 .1 .1 .1 .1 .1 .1 in
+    → let tables = e .1 .1 .1 .1 .1 in
+    let tables′ = e′ .1 .1 .1 .1 .1 in
+    let x = tables .1 .1 .1 .1 .1 .1 .1 in
+    let y = tables′ .1 .1 .1 .1 .1 .1 .1 in
     ((r ≡ r′) × ((now (x .0) ≡ now (y .0)) × ((now (x .1 .0) ≡ now (y .1 .0)) × (now (x .1 .1 .0) ≡ now (y .1 .1 .0)))))
     × (now (x .1 .1 .1 .0) ≡ now (y .1 .1 .1 .0))
 write-sheet-cell-pinned κs a r r′ e e′ h k = (one-outcome (h .0) (k .0), pinned (h .1) (k .1))

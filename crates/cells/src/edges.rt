@@ -4,13 +4,12 @@ ghost use mathlib.Core.Path.{_≡_};
 ghost use mathlib.Core.Bool.{Bool};
 ghost use mathlib.Core.List.{List};
 ghost use Prim.Native.Nat.{ℕ, _+_, _-_, _/_, _≤_, _<_, _^_};
-ghost use lib.ListN.{length};
 ghost use Rattle.tables.specs.Cases.{verticesOf};
 ghost use Rattle.model.specs.Limits.{mostSubdivisions};
 ghost use Rattle.model.specs.Star.{Star, subdivisions};
 ghost use Rattle.model.specs.Mesh.{regularEdge, fillTo};
 ghost use Rattle.vertices.specs.Buffers.{layEdges};
-ghost use Rattle.codes.specs.Kinds.{useAt, InBlock, Placed, cellOf, Coded};
+ghost use Rattle.codes.specs.Kinds.{useAt, InBlock, Placed, cellOf, RowCoded};
 ghost use Rattle.cells.specs.Edges.{EdgePut};
 use codes::CellIndex;
 use codes::makes;
@@ -24,8 +23,7 @@ use vertices::vertex_count;
 
 // 0, 1, 2 for x, y, z, from the two corners of an edge.
 fn axis(a: usize, b: usize) -> usize
-    requires { ⌜ b < 16 ⌝ }
-    ensures { λ r. ⌜ (r ≡ (b - a) / 2) × (r < 8) ⌝ }
+    ensures { λ r. ⌜ (r ≡ (b - a) / 2) × (r ≤ b) ⌝ }
 {
     if b < a {
         return 0;
@@ -58,20 +56,19 @@ fn put_edge(n: usize, at: CellIndex, code: u16, edges: &mut [u32], next: usize) 
     requires { ⌜ (n ≤ mostSubdivisions) × (Placed n at × (next < 2 ^ 33)) ⌝ }
     ensures { λ r. ⌜ (r ≤ next + 1) × ((s : Star) → subdivisions s ≡ n → EdgePut (useAt s at code) next (now (edges .entry)) r (now (edges .exit))) ⌝ }
 {
-    if makes(at, code) {
-        if next < edges.len() {
-            edges[next] = edge_number(n, at, code);
-            return next + 1;
-        }
-        return next + 1;
+    if !makes(at, code) {
+        return next;
     }
-    next
+    if next < edges.len() {
+        edges[next] = edge_number(n, at, code);
+    }
+    next + 1
 }
 
 // The edges of a cell's vertices, after base others.
 pub fn put_edges(n: usize, at: CellIndex, codes: &[u16], row: &[u8], edges: &mut [u32], base: usize)
     requires { ⌜ (n ≤ mostSubdivisions) × (Placed n at × (base < 2 ^ 32)) ⌝ }
-    requires { ⌜ (0 < length (now row)) × ((verticesOf (now row) ≤ 12) × Coded at (now codes) (verticesOf (now row))) ⌝ }
+    requires { ⌜ RowCoded at (now codes) (now row) ⌝ }
     ensures { λ _. ⌜ ((s : Star) (turned : Bool) (store : List ℕ) → subdivisions s ≡ n → now (edges .exit) ≡ layEdges (now (edges .entry)) base (fillTo (cellOf s at (now (codes .entry)) (now (row .entry)) turned) base store (verticesOf (now (row .entry))) .made)) ⌝ }
 {
     if edges.len() <= base {

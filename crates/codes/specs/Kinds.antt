@@ -102,3 +102,7 @@ cellOf s at codes row turned =
 pub record Coded (at : CellIndex) (codes : List ℕ) (count : ℕ) : Type 0 where
   pub there : count ≤ length codes
   pub usable : (i : ℕ) → i < count → Usable at (getD codes i 0)
+
+-- a row of cell data with few vertices, and a code for each that can be followed
+abbrev pub RowCoded : CellIndex → List ℕ → List ℕ → Type 0
+RowCoded at codes row = (0 < length row) × ((verticesOf row ≤ 12) × Coded at codes (verticesOf row))

@@ -5,6 +5,7 @@ use native.Mathlib.Numerals.{add-one}
 use native.Mathlib.Omega.{arith}
 use mathlib.Core.Path.{_≡_, sym, ap, _∙_, subst}
 use mathlib.Core.List.{List}
+use lib.Ieee.{Float}
 use lib.ListN.{length}
 use Rattle.laws.specs.Steps.{iterate}
 use Rattle.model.specs.declared.Counts.{Counts}
@@ -15,7 +16,7 @@ use Rattle.model.specs.Adding.{cell-triangles}
 use Rattle.cells.specs.declared.SheetIndex.{SheetIndex}
 use Rattle.cells.specs.SheetCells.{sheetCell}
 use Rattle.cells.specs.Puts.{Adds, Few, SameMade}
-use Rattle.cases.specs.Sheets.{rowStart}
+use Rattle.cases.specs.Sheets.{rowStart, sheetPlaces}
 use Rattle.cases.specs.Marks.{NextMarked}
 use Rattle.walk.specs.Order.{Held, SheetIn, rowTo, rowsTo, wholeSheet}
 use Rattle.counting.specs.Counting.{plus, Grows, Counted}
@@ -23,6 +24,14 @@ use Rattle.walk.specs.Walk.{cell-made, row-skip, sheet-whole}
 
 abbrev none : Counts
 none = record { vertices = 0; triangles = 0 }
+
+-- before each sheet that is come to: its two lists have their places, and what so many cells have added is known, whatever the samples are
+-- that they do not read
+pub record Come (cells : ℕ) (step : List Float → Mesh → Mesh) (cases marks : List ℕ) (counts : Counts) : Type 0 where
+  pub cases-long : length cases ≡ sheetPlaces
+  pub marks-long : length marks ≡ sheetPlaces
+  pub few : Few cells counts
+  pub grows : (others : List Float) → Grows (step others) counts
 
 -- ---- few
 

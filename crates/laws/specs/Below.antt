@@ -3,7 +3,7 @@ use mathlib.Core.Path.{_≡_, refl, sym, ap, _∙_}
 use mathlib.Core.Bool.{Bool, true, false, _&&_, and-eq-true-iff}
 use mathlib.Core.Logic.{⊎-elim}
 use Prim.Native.Nat.{ℕ, zero, suc, _+_, _<_}
-use native.Mathlib.Nat.{add-zero, add-suc, not-suc-le-zero, le-refl, le-step, le-of-suc-le-suc, eq-or-lt-of-le}
+use native.Mathlib.Nat.{add-zero, add-suc, not-suc-le-zero, le-of-suc-le-suc, eq-or-lt-of-le}
 
 abbrev pub allBelow : (ℕ → Bool) → ℕ → Bool
 allBelow P zero = true
@@ -15,10 +15,6 @@ module _ (P : ℕ → Bool) where
   each-below (suc n) k h l =
       let parts = and-eq-true-iff (allBelow P n) (P n) .0 h in
       ⊎-elim (λ same. ap P same ∙ parts .1) (λ before. each-below n k (parts .0) before) (eq-or-lt-of-le (le-of-suc-le-suc l))
-
-  pub all-below : (n : ℕ) → ((k : ℕ) → k < n → P k ≡ true) → allBelow P n ≡ true
-  all-below zero h = refl
-  all-below (suc n) h = rw (all-below n (λ k l. h k (le-step l)), h n (le-refl _))
 
   -- those below n, then m from n on
   pub two-parts : (n m : ℕ) → allBelow P n && allBelow (λ k. P (n + k)) m ≡ allBelow P (n + m)

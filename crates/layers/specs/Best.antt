@@ -8,8 +8,8 @@ use mathlib.Core.Bool.{Bool, true, false, cond, not, _&&_, and-eq-true-iff}
 use borrow.Author.Count.{below-none, below-more}
 use borrow.Author.Tests.{not-true, not-false}
 use lib.Ieee.{Float, isNan, le, eq, ne}
-use Rattle.laws.specs.Below.{allBelow, each-below, all-below}
-use Rattle.laws.specs.Ranges.{both-ways, fail-all, some-fails}
+use Rattle.laws.specs.Below.{allBelow, each-below}
+use Rattle.laws.specs.Ranges.{both-ways, fail-all, some-fails, hold-all}
 use Rattle.model.specs.Layers.{better, bestOf, less, more}
 use Rattle.layers.specs.Order.{le-on, not-lt, le-not, lt-le, eq-le, eq-ge, le-both, eq-self}
 
@@ -145,7 +145,7 @@ module _ (beats unbeaten : Float → Float → Bool) (order : Ordered beats unbe
       known : eq v best ≡ true → isBest n v ≡ true
       unfolding ne
       known h =
-          let none = all-below (λ k. unbeaten v (f k)) n (λ k l. order .on v best (f k) (order .equal v best h) (b .none-beats k l)) in
+          let none = hold-all (λ k. unbeaten v (f k)) n (λ k l. order .on v best (f k) (order .equal v best h) (b .none-beats k l)) in
           let one : ne v (f (b .at)) ≡ false = ap not (ap (eq v) (sym (b .is)) ∙ h) in
           let some = fail-all (λ k. ne v (f k)) n (b .at) (b .within) one in
           rw (none, some)

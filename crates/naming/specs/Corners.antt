@@ -9,7 +9,8 @@ use mathlib.Core.List.{List}
 use borrow.Author.Tests.{ltb-true, lt-ltb}
 use lib.Dec.{ltb}
 use lib.ListN.{getD}
-use Rattle.laws.specs.Below.{allBelow, each-below, all-below}
+use Rattle.laws.specs.Below.{allBelow, each-below}
+use Rattle.laws.specs.Ranges.{hold-all}
 use Rattle.model.specs.declared.Refusal.the-variants.{NoVertex}
 use Rattle.model.specs.declared.Verdict.{Verdict}
 use Rattle.model.specs.declared.Verdict.the-variants.{Passed}
@@ -72,4 +73,4 @@ module _ (held : ℕ) (triangles : List ℕ) where
   place-named e = by-place (corner-named e)
 
   pub places-named : ((p : ℕ) → p < 3 * count → getD triangles p 0 < held) → judgeNamed held triangles ≡ Passed
-  places-named h = all-named (all-below (λ k. ltb (getD triangles k 0) held) (3 * count) (λ p l. lt-ltb _ held (h p l)))
+  places-named h = all-named (hold-all (λ k. ltb (getD triangles k 0) held) (3 * count) (λ p l. lt-ltb _ held (h p l)))

@@ -10,6 +10,7 @@ use lib.ListN.{length, getD, length-append, List·getD-append}
 use Rattle.model.specs.declared.Triangle.{Triangle}
 use Rattle.laws.specs.Steps.{each, laid}
 use Rattle.laws.specs.Lists.{length-each, listed-is}
+use Rattle.laws.specs.LaidBuffers.{laid-first}
 use Rattle.laws.specs.Rounds.{each-at}
 use Rattle.model.specs.Formulas.{vector}
 use Rattle.model.specs.Star.{Star}
@@ -26,7 +27,7 @@ module _ {A B : Type 0} (f : A → List B) (w : ℕ) (wide : (a : A) → length 
   pub laid-at : (k j : ℕ) (d : A) (e : B) → k < length l → j < w → getD after (w * k + j) e ≡ getD (f (getD l k d)) j e
   laid-at k j d e h small =
       ap (λ (b : List B). getD b (w * k + j) e) left
-      ∙ List·getD-append (each f l) _ e (w * k + j) (rw (length-each f w l wide) (omega (arith, mul-le-mul-left w h, mul-suc w k)))
+      ∙ laid-first (each f l) before (w * k + j) e (rw (length-each f w l wide) (omega (arith, mul-le-mul-left w h, mul-suc w k)))
       ∙ each-at f w wide l k j d e h small
 
 -- what a mesh begins with

@@ -6,11 +6,12 @@ use native.Mathlib.Omega.{arith}
 use mathlib.Core.Path.{_≡_, refl, sym, ap, ap₂, _∙_}
 use mathlib.Core.List.{List, _++_}
 use lib.Ieee.{Float, nan}
-use lib.ListN.{length, getD, take, drop, length-drop, take-append-drop, List·getD-append}
+use lib.ListN.{length, getD, take, drop, length-drop, take-append-drop}
 use lib.Seq.{ext-getD, getD-take, getD-drop, take-add, take-all, drop-drop, length-take-le}
 use Rattle.laws.specs.Steps.{each, laid}
 use Rattle.laws.specs.Counting.{gather}
 use Rattle.laws.specs.Lists.{getD-listed}
+use Rattle.laws.specs.LaidBuffers.{laid-first}
 use Rattle.laws.specs.Gathered.{length-gather, getD-gather, gather-pieces, three-pieces}
 use Rattle.model.specs.Words.{littleFloatAt, littleFloatBytes}
 use Rattle.words.specs.Orders.{Bytes, little}
@@ -64,7 +65,7 @@ module _ (vertices : List Float) (triangles out : List ℕ) (k : ℕ) (positions
       let at = floatCount * t + (3 * corner + axis) in
       let inside : at < length (gather corners count) = rw (length-gather corners floatCount (nine vertices triangles)) (omega arith) in
       ap (λ (o : ReadOutcome). getD (o .positions) at nan) write-read
-      ∙ List·getD-append (gather corners count) (drop (length (gather corners count)) positions) nan at inside
+      ∙ laid-first (gather corners count) positions at nan inside
       ∙ getD-gather corners floatCount (nine vertices triangles) count t (3 * corner + axis) nan h (omega arith)
       ∙ corner-at vertices triangles t corner axis c a
 
@@ -99,7 +100,7 @@ module _ (bytes : List ℕ) (positions vertices : List Float) (triangles : List 
       ap (λ (v : ℕ). getD vertices (6 * v + axis) nan) (mesh .index v (omega arith))
       ∙ mesh .position v axis (omega arith) a
       ∙ ap (λ (k : ℕ). getD (laid (positionsIn bytes) positions) k nan) there
-      ∙ List·getD-append (positionsIn bytes) (drop (length (positionsIn bytes)) positions) nan at inside
+      ∙ laid-first (positionsIn bytes) positions at nan inside
       ∙ getD-gather (cornersIn bytes) floatCount (λ t. refl) read-count t (3 * corner + axis) nan h (omega arith)
       ∙ getD-listed (λ k. littleFloatAt bytes (cornersFrom t + 4 * k)) floatCount (3 * corner + axis) nan (omega arith)
 

@@ -13,7 +13,7 @@ ghost use Rattle.model.specs.Star.{star};
 ghost use Rattle.model.specs.Points.{cornerPoint};
 ghost use Rattle.model.specs.Mesh.{storeLength, madeBy, fillTo, regularVertex, transitionVertex};
 ghost use Rattle.points.specs.CellPoints.{Centred};
-ghost use Rattle.codes.specs.Kinds.{useAt, placeAt, InBlock, Placed, slots, Ready, Usable, cellOf, Coded};
+ghost use Rattle.codes.specs.Kinds.{useAt, placeAt, InBlock, Placed, slots, Ready, Usable, cellOf, RowCoded};
 ghost use Rattle.vertices.specs.Buffers.{layVertices};
 ghost use Rattle.vertices.specs.Inner.{between, innerAt, regularAt, Inner};
 ghost use Rattle.vertices.specs.Puts.{Room, CodePut, FillPut};
@@ -366,7 +366,7 @@ pub fn fill_cell(
     base: usize,
 ) -> Filled
     requires { ⌜ Ready (star header (now centre) (now neighbours)) (now fractions) at ⌝ }
-    requires { ⌜ (0 < length (now row)) × ((verticesOf (now row) ≤ 12) × Coded at (now codes) (verticesOf (now row))) ⌝ }
+    requires { ⌜ RowCoded at (now codes) (now row) ⌝ }
     requires { ⌜ length (now store) ≡ storeLength (header .block .subdivisions) ⌝ }
     requires { ⌜ Room 6 (base + length (fillTo (cellOf (star header (now centre) (now neighbours)) at (now codes) (now row) false) base (now store) (verticesOf (now row)) .made)) (now vertices) ⌝ }
     ensures { λ r. ⌜ FillPut (fillTo (cellOf (star header (now (centre .entry)) (now (neighbours .entry))) at (now (codes .entry)) (now (row .entry)) false) base (now (store .entry)) (verticesOf (now (row .entry)))) base (now (vertices .entry)) (r .cell .index) (r .cell .count) (r .next) (r .reads) (now (vertices .exit)) (now (store .exit)) ⌝ }

@@ -1,14 +1,15 @@
 -- A list by its places: one place more of it set, and a lent list whose first places are laid. Assumes nothing.
-use Prim.Native.Nat.{ℕ, _+_, _-_, _≤_, _<_}
+use Prim.Native.Nat.{ℕ, _+_, _≤_, _<_}
 use native.Mathlib.Decide.{decLt}
 use native.Mathlib.Omega.{arith}
-use mathlib.Core.Path.{_≡_, sym, ap, _∙_}
+use mathlib.Core.Path.{_≡_, sym, _∙_}
 use mathlib.Core.List.{List}
 use borrow.Author.Count.{below-more}
-use lib.ListN.{length, getD, set, List·getD-append}
-use lib.Seq.{ext-getD, getD-append-add, getD-drop, getD-set-same, getD-set-other}
+use lib.ListN.{length, getD, set}
+use lib.Seq.{ext-getD, getD-set-same, getD-set-other}
 use Rattle.laws.specs.Steps.{listed, laid}
 use Rattle.laws.specs.Lists.{length-listed, getD-listed, length-laid}
+use Rattle.laws.specs.LaidBuffers.{laid-first, laid-beyond}
 
 module _ {A : Type 0} (d : A) (f : ℕ → A) where
   pub set-more : (l : List A) (k : ℕ) → k < length l → ((i : ℕ) → i < k → getD l i d ≡ f i) → (x : A) → x ≡ f k → (i : ℕ) → i < k + 1 → getD (set l k x) i d ≡ f i
@@ -30,11 +31,5 @@ module _ {A : Type 0} (d : A) (f : ℕ → A) where
         go : (p : ℕ) → Dec (p < count) → getD after p d ≡ getD (laid (listed f count) before) p d
         go p (yes l) =
             first p l
-            ∙ sym (List·getD-append (listed f count) _ d p (rw (length-listed f count) l) ∙ getD-listed f count p d l)
-        go p (no l) =
-            let k = p - count in
-            let is : length (listed f count) + k ≡ p = rw (length-listed f count) (omega arith) in
-            rest p (omega arith)
-            ∙ sym
-            (ap (λ (q : ℕ). getD (laid (listed f count) before) q d) (sym is)
-            ∙ getD-append-add (listed f count) _ k d ∙ getD-drop (length (listed f count)) before k d ∙ ap (λ (q : ℕ). getD before q d) is)
+            ∙ sym (laid-first (listed f count) before p d (rw (length-listed f count) l) ∙ getD-listed f count p d l)
+        go p (no l) = rest p (omega arith) ∙ sym (laid-beyond (listed f count) before p d (rw (length-listed f count) (omega arith)))

@@ -10,7 +10,7 @@ use lib.ListN.{length, replicate, length-append}
 use lib.Seq.{take-all}
 use Rattle.laws.specs.Steps.{listed, each}
 use Rattle.model.specs.Star.{Star, subdivisions}
-use Rattle.model.specs.Mesh.{Cell, Mesh, fillTo, triangleOf, filled, emptyMesh, cellStep, storeLength, meshOf}
+use Rattle.model.specs.Mesh.{Cell, Mesh, fillTo, triangleOf, filled, emptyMesh, regularTo, cellStep, storeLength, meshOf}
 use Rattle.model.specs.Adding.{cell-triangles}
 use Rattle.model.specs.Extraction.{vertexFloats, triangleIndices}
 use Rattle.model.specs.Edges.{edgeNumber}
@@ -25,29 +25,44 @@ use Rattle.cells.specs.SheetCells.{cellAt, sheetCell}
 use Rattle.vertices.specs.Buffers.{layVertices, layTriangles, layEdges}
 use Rattle.laws.specs.Lists.{length-listed, each-append}
 use Rattle.laws.specs.Laying.{lay-none, lay-append, take-lay}
-use Rattle.cases.specs.Sheets.{rowStart}
+use Rattle.cases.specs.Sheets.{rowStart, sheetPlaces}
 use Rattle.cases.specs.Marks.{NextMarked}
 use Rattle.vertices.specs.Puts.{Room}
 use Rattle.cells.specs.Puts.{CellPut, SameMade}
 use Rattle.walk.specs.Order.{Held, SheetIn, rowTo, rowBefore, sheetBefore}
-use Rattle.writing.specs.Writing.{Fits, Holds, Exact, Written}
-use Rattle.walk.specs.Walk.{cell-made, Upto, upto-trans, row-skip, cell-upto, sheet-after, after-upto}
+use Rattle.writing.specs.Writing.{Fits, Holds, ReadTo, SameLengths, Exact, Written}
+use Rattle.walk.specs.Walk.{regular-start, cell-made, Upto, upto-trans, row-skip, cell-upto, sheet-after, after-upto}
+
+-- what was not touched is as long as it was
+pub same-self : {vertices : List Float} {triangles store edges : List ℕ} → SameLengths vertices vertices triangles triangles store store edges edges
+same-self = record { vertices-same = refl; triangles-same = refl; store-same = refl; edges-same = refl }
+
+-- before each sheet that is come to: its two lists have their places, the buffers hold a mesh, and it is known what was read for so many sheets
+pub record Come (m : Mesh) (read sheets : ℕ) (vertices₀ vertices : List Float) (triangles₀ triangles store₀ store edges₀ edges cases marks : List ℕ)
+    (counts : Progress) (reads : ℕ) : Type 0 where
+  pub cases-long : length cases ≡ sheetPlaces
+  pub marks-long : length marks ≡ sheetPlaces
+  pub same : SameLengths vertices₀ vertices triangles₀ triangles store₀ store edges₀ edges
+  pub holds : Holds m counts vertices triangles store edges
+  pub read-to : ReadTo read sheets reads
 
 -- ---- a cell written
 
-pub holds-none : (n : ℕ) (vertices : List Float) (triangles edges : List ℕ)
-    → Holds (emptyMesh n) (record { vertices = 0; triangles = 0; reads = 0 }) vertices triangles (replicate (storeLength n) 0) edges
+-- where the store is cleared, the buffers hold the mesh that has no cell
+pub holds-none : (s : Star) {vertices : List Float} {triangles store edges : List ℕ} → store ≡ replicate (storeLength (subdivisions s)) 0
+    → Holds (regularTo s 0 0 0) (record { vertices = 0; triangles = 0; reads = 0 }) vertices triangles store edges
 unfolding emptyMesh
-holds-none n vertices triangles edges =
-    record {
+holds-none s {vertices} {triangles} {store} {edges} cleared =
+    rw (regular-start s)
+    (record {
       vertex-count = refl;
       triangle-count = refl;
       read-so-far = refl;
       vertices-are = refl;
       triangles-are = refl;
-      store-is = refl;
+      store-is = cleared;
       numbered = record { before = edges; edges-are = sym (lay-none 1 edgeNumber edges 0) };
-    }
+    })
 
 -- a cell can be written: the buffers hold the mesh before it, and have room for a mesh that has it
 pub record Ready (s : Star) (c : Cell) (m : Mesh) (counts : Progress) (vertices : List Float) (triangles store edges : List ℕ) : Type 0 where

@@ -64,8 +64,12 @@ face e =
     pairFace (h .block .subdivisions) (h .mask) (h .threshold) (e .args .centre .now) (e .args .neighbours .now)
 
 module _ (s : Side) where
+  -- its turn of the search, and the entry
+  abbrev at-search : tie.At-search Inv-loop2 μ-loop2 Inv-loop μ-loop Inv-search μ-search
+  at-search = s .before .before .before .before
+
   abbrev entry : Start
-  entry = s .before .before .before .before .before .before .before .before
+  entry = at-search .before .before .before .before
 
   abbrev n : ℕ
   n = entry .args .header .block .subdivisions
@@ -80,7 +84,7 @@ module _ (s : Side) where
   fine = s .before .before .neighbour .result .now
 
   abbrev side : ℕ
-  side = s .before .before .before .before .search .side
+  side = at-search .search .side
 
   inside : side < sideCount
   inside = s .before .before .before .search-test .taken

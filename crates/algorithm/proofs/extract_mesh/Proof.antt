@@ -7,19 +7,23 @@ use Prim.Native.Nat.{_*_, _≤_}
 use lib.ListN.{length, take}
 use lib.Seq.{length-take-le}
 use Rattle.model.specs.declared.Verdict.the-variants.{Passed}
-use Rattle.model.specs.Star.{Star, star}
 use Rattle.writing.specs.Writing.{Exact}
 use Rattle.writing.specs.Lengths.{exact-still}
-use Rattle.algorithm.proofs.Answers.{no-list, no-room, has-room, numbers-there, parts, done}
+use Rattle.algorithm.proofs.Answers.{Lent, lentOf, Roomed, no-list, no-room, has-room, numbers-there, parts, done}
 use Rattle.algorithm.proofs.extract_mesh.Statement.{statement}
 use Rattle.algorithm.proofs.extract_mesh.Tie as tie
 
--- the entry, from the place where the mesh is counted
-abbrev start : tie.After-count-mesh → tie.Start
-start k = k .before .before .before .before .before .before .before .before
+-- what is lent
+abbrev lent : tie.Start → Lent
+lent b =
+    let a = b .args in
+    lentOf (a .numbered) (a .header) (a .centre .now) (a .neighbours .now) (a .summary .now) (a .store .now) (a .vertices .now) (a .triangles .now) (a .edges .now)
 
-abbrev starOf : tie.Start → Star
-starOf b = star (b .args .header) (b .args .centre .now) (b .args .neighbours .now)
+-- the entry, from where the mesh is counted: past the buffers, and the lists that are read
+abbrev start : tie.After-count-mesh → tie.Start
+start k =
+    let lists = k .before .before .before .before .before in
+    lists .before .before .before
 
 count-mesh-requires : tie.Need-count-mesh-requires
 count-mesh-requires c κs = search needs
@@ -37,9 +41,7 @@ returns : tie.Need-returns
 returns c =
     let n = c .before .before .before .before in
     let k = n .before in
-    let a = start k .args in
-    let s = starOf (start k) in
-    rw (c .refused .ensures) (no-list (a .numbered) s (a .summary .now) (a .store .now) (a .vertices .now) (a .triangles .now) (a .edges .now) (k .count-mesh .result) (k .count-mesh .ensures .1) (n .judge-numbers .result) (n .judge-numbers .ensures) _ (cc))
+    rw (c .refused .ensures) (no-list (lent (start k)) (k .count-mesh .ensures .1) (n .judge-numbers .ensures) _ (cc))
 
 enum-told : tie.Need-enum-told
 enum-told c = search needs
@@ -51,6 +53,16 @@ judge-room-requires c κs = search needs
 listed : (c : tie.After-enum-told) → c .before .before .judge-numbers .result ≡ Passed
 listed c = cc
 
+-- where it is judged, from where the room is
+abbrev listing : tie.After-judge-room → tie.After-judge-numbers
+listing r = r .before .before .before
+
+-- what the judges have told then
+roomed : (r : tie.After-judge-room) → let k = listing r .before in Roomed (lent (start k)) (k .count-mesh .result) (r .judge-room .result)
+roomed r =
+    let n = listing r in
+    record { counts-are = n .before .count-mesh .ensures .1; listed = sym (n .judge-numbers .ensures) ∙ listed (r .before); room-is = r .judge-room .ensures }
+
 enum-known-room : tie.Need-enum-known-room
 enum-known-room c = search needs
 
@@ -60,12 +72,7 @@ refused-requires-2 c κs = search needs
 returns-2 : tie.Need-returns-2
 returns-2 c =
     let r = c .before .before .before .before in
-    let n = r .before .before .before in
-    let k = n .before in
-    let a = start k .args in
-    let s = starOf (start k) in
-    rw (c .refused2 .ensures) (no-room (a .numbered) s (a .summary .now) (a .store .now) (a .vertices .now) (a .triangles .now) (a .edges .now) (k .count-mesh .result) (k .count-mesh .ensures .1) (n .judge-numbers .result) (n .judge-numbers .ensures) (listed (r .before))
-    (r .judge-room .result) (r .judge-room .ensures) _ (cc))
+    rw (c .refused2 .ensures) (no-room (roomed r) _ (cc))
 
 enum-told-2 : tie.Need-enum-told-2
 enum-told-2 c = search needs
@@ -73,61 +80,52 @@ enum-told-2 c = search needs
 store-length-requires : tie.Need-store-length-requires
 store-length-requires c κs = search needs
 
--- the place where the mesh is counted, from that where all has passed
-abbrev counting : tie.After-enum-told2 → tie.After-count-mesh
-counting c = c .before .before .before .before .before .before
+-- where all has passed: the room, the counts, and the entry
+module _ (c : tie.After-enum-told2) where
+  abbrev at-room : tie.After-judge-room
+  at-room = c .before .before
+
+  abbrev counted : tie.After-count-mesh
+  counted = listing at-room .before
+
+  abbrev entry : tie.Start
+  entry = start counted
+
+  passed : at-room .judge-room .result ≡ Passed
+  passed = cc
+
+  room : (6 * counted .count-mesh .result .vertices ≤ length (entry .args .vertices .now)) × (3 * counted .count-mesh .result .triangles ≤ length (entry .args .triangles .now))
+  room = has-room (roomed at-room) passed
+
+  -- the further list has the places that are written
+  long : cond (entry .args .numbered) (counted .count-mesh .result .vertices) 0 ≤ length (entry .args .edges .now)
+  long = numbers-there (entry .args .numbered) _ _ (roomed at-room .listed)
 
 numbers-asked-requires : tie.Need-numbers-asked-requires
 numbers-asked-requires c κs = search needs
 
-passed : (c : tie.After-enum-told2) → c .before .before .judge-room .result ≡ Passed
-passed c = cc
+-- the store's part, from where it is measured
+module _ (c : tie.After-store-length) where
+  abbrev told : tie.After-enum-told2
+  told = c .before
 
-room : (c : tie.After-enum-told2) →
-    let a = start (counting c) .args in
-    let k = counting c .count-mesh .result in
-    (6 * k .vertices ≤ length (a .vertices .now)) × (3 * k .triangles ≤ length (a .triangles .now))
-room c =
-    let k = counting c .count-mesh in
-    let a = start (counting c) .args in
-    let s = starOf (start (counting c)) in
-    let r = c .before .before in
-    let n = r .before .before .before in
-    has-room (a .numbered) s (a .summary .now) (a .store .now) (a .vertices .now) (a .triangles .now) (a .edges .now) (k .result) (k .ensures .1) (n .judge-numbers .result) (n .judge-numbers .ensures) (listed (r .before)) (r .judge-room .result) (r .judge-room .ensures) (passed c)
+  store-long : c .store-length .result ≤ length (entry told .args .store .now)
+  store-long = omega (arith, c .store-length .ensures, entry told .pre .1 .1)
 
--- the further list has the places that are written
-long : (c : tie.After-enum-told2) →
-    let a = start (counting c) .args in
-    cond (a .numbered) (counting c .count-mesh .result .vertices) 0 ≤ length (a .edges .now)
-long c =
-    let r = c .before .before in
-    let n = r .before .before .before in
-    numbers-there (start (counting c) .args .numbered) _ _ (sym (n .judge-numbers .ensures) ∙ listed (r .before))
-
-exact : (c : tie.After-store-length) →
-    let a = start (counting (c .before)) .args in
-    let k = counting (c .before) .count-mesh .result in
-    Exact (starOf (start (counting (c .before)))) (take (6 * k .vertices) (a .vertices .now)) (take (3 * k .triangles) (a .triangles .now)) (take (c .store-length .result) (a .store .now))
-exact c =
-    let b = start (counting (c .before)) in
-    let a = b .args in
-    let k = counting (c .before) .count-mesh in
-    let s = starOf b in
-    let r = c .before .before .before in
-    let n = r .before .before .before in
-    parts (a .numbered) s (a .summary .now) (a .store .now) (a .vertices .now) (a .triangles .now) (a .edges .now) (k .result) (k .ensures .1) (n .judge-numbers .result) (n .judge-numbers .ensures) (listed (r .before)) (r .judge-room .result) (r .judge-room .ensures) (passed (c .before))
-    (c .store-length .result) (c .store-length .ensures) (k .ensures .0) (b .pre .1 .1)
-
--- the store's part, from the place where it is measured
-store-long : (c : tie.After-store-length) → c .store-length .result ≤ length (start (counting (c .before)) .args .store .now)
-store-long c = omega (arith, c .store-length .ensures, start (counting (c .before)) .pre .1 .1)
+  -- the parts that are lent are just enough
+  exact :
+      let a = entry told .args in
+      let counts = counted told .count-mesh .result in
+      Exact (lent (entry told) .s) (take (6 * counts .vertices) (a .vertices .now)) (take (3 * counts .triangles) (a .triangles .now)) (take (c .store-length .result) (a .store .now))
+  exact =
+      parts (roomed (at-room told)) (passed told) (c .store-length .result) (c .store-length .ensures) (counted told .count-mesh .ensures .0) (entry told .pre .1 .1)
 
 -- where it is measured, and where all has passed, from where it is told how many numbers are asked for
 abbrev measured : tie.After-numbers-asked → tie.After-store-length
 measured c = c .before
 
 abbrev past : tie.After-numbers-asked → tie.After-enum-told2
-past c = measured c .before
+past c = told (measured c)
 
 slice-relend-prefix-write-mesh : tie.Need-slice-relend-prefix-write-mesh
 slice-relend-prefix-write-mesh c = store-long (measured c)
@@ -136,7 +134,7 @@ slice-aggregate-write-mesh : tie.Need-slice-aggregate-write-mesh
 slice-aggregate-write-mesh c = sym (length-take-le _ _ (store-long (measured (c .before))))
 
 mul-write-mesh : tie.Need-mul-write-mesh
-mul-write-mesh c = omega (arith, counting (past (c .before .before)) .count-mesh .ensures .0 .vertices)
+mul-write-mesh c = omega (arith, counted (past (c .before .before)) .count-mesh .ensures .0 .vertices)
 
 slice-relend-prefix-write-mesh-2 : tie.Need-slice-relend-prefix-write-mesh-2
 slice-relend-prefix-write-mesh-2 c = room (past (c .before .before)) .0
@@ -145,7 +143,7 @@ slice-aggregate-write-mesh-2 : tie.Need-slice-aggregate-write-mesh-2
 slice-aggregate-write-mesh-2 c = sym (length-take-le _ _ (room (past (c .before .before .before)) .0))
 
 mul-write-mesh-2 : tie.Need-mul-write-mesh-2
-mul-write-mesh-2 c = omega (arith, counting (past (c .before .before .before .before)) .count-mesh .ensures .0 .triangles)
+mul-write-mesh-2 c = omega (arith, counted (past (c .before .before .before .before)) .count-mesh .ensures .0 .triangles)
 
 slice-relend-prefix-write-mesh-3 : tie.Need-slice-relend-prefix-write-mesh-3
 slice-relend-prefix-write-mesh-3 c = room (past (c .before .before .before .before)) .1
@@ -154,7 +152,7 @@ slice-aggregate-write-mesh-3 : tie.Need-slice-aggregate-write-mesh-3
 slice-aggregate-write-mesh-3 c = sym (length-take-le _ _ (room (past (c .before .before .before .before .before)) .1))
 
 -- the numbers' part
-numbers-long : (c : tie.After-numbers-asked) → c .numbers-asked .result ≤ length (start (counting (past c)) .args .edges .now)
+numbers-long : (c : tie.After-numbers-asked) → c .numbers-asked .result ≤ length (entry (past c) .args .edges .now)
 numbers-long c = omega (arith, c .numbers-asked .ensures, long (past c))
 
 slice-relend-prefix-write-mesh-4 : tie.Need-slice-relend-prefix-write-mesh-4
@@ -166,7 +164,7 @@ slice-aggregate-write-mesh-4 c = sym (length-take-le _ _ (numbers-long (c .befor
 write-mesh-requires : tie.Need-write-mesh-requires
 write-mesh-requires c κs =
     let place = measured (c .before .before .before .before .before .before) in
-    let pre = start (counting (place .before)) .pre in
+    let pre = entry (told place) .pre in
     (pre .0, (pre .1 .0, exact place))
 
 same-length : tie.Need-same-length
@@ -183,23 +181,16 @@ same-length-4 c = search needs
 
 returns-3 : tie.Need-returns-3
 returns-3 c =
-    let written = c .before .before .before .before .before .before .before .before in
+    let two-back = c .before .before .before .before in
+    let written = two-back .before .before .before .before in
     let parts-lent = written .before in
     let asked = parts-lent .before .before .before .before .before .before in
     let place = measured asked in
-    let told = place .before in
-    let b = start (counting told) in
-    let a = b .args in
-    let k = counting told .count-mesh in
-    let s = starOf b in
-    let r = told .before .before in
-    let n = r .before .before .before in
     let w = written .write-mesh in
     let count-is = asked .numbers-asked .ensures in
     rw count-is
-    (done (a .numbered) s (a .summary .now) (a .store .now) (a .vertices .now) (a .triangles .now) (a .edges .now) (k .result) (k .ensures .1) (n .judge-numbers .result) (n .judge-numbers .ensures) (listed (r .before)) (r .judge-room .result) (r .judge-room .ensures) (passed told)
-    (place .store-length .result) (place .store-length .ensures) _ _ _ _ _
-    (exact-still {edges₀ = a .edges .now} {edges = a .edges .now}
+    (done (roomed (at-room (past asked))) (passed (past asked)) (place .store-length .result) (place .store-length .ensures) _ _ _ _ _
+    (exact-still {edges₀ = entry (past asked) .args .edges .now} {edges = entry (past asked) .args .edges .now}
     (record { vertices-same = w .kept .1 .1 .1 .1 .1 .0; triangles-same = w .kept .1 .1 .1 .1 .1 .1 .0; store-same = w .kept .1 .1 .1 .1 .0; edges-same = refl })
     (exact place))
     (w .ensures .0) (w .ensures .1 .0)

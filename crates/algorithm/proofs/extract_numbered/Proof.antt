@@ -3,20 +3,22 @@ use borrow.Author.Needs.{needs}
 use mathlib.Core.Path.{_≡_}
 use lib.ListN.{length}
 use Rattle.model.specs.declared.Verdict.the-variants.{Passed}
-use Rattle.model.specs.Star.{Star, star}
 use Rattle.algorithm.specs.Verdicts.{judged}
-use Rattle.algorithm.proofs.Answers.{shaped, trusted-there, store-held, refused, passed}
+use Rattle.algorithm.proofs.Answers.{Lent, lentOf, shaped, trusted-there, store-held, refused, passed}
 use Rattle.algorithm.proofs.extract_numbered.Statement.{statement}
 use Rattle.algorithm.proofs.extract_numbered.Tie as tie
+
+-- what is lent
+abbrev lent : tie.Start → Lent
+lent b =
+    let a = b .args in
+    lentOf (a .numbered) (a .header) (a .centre .now) (a .neighbours .now) (a .summary .now) (a .store .now) (a .vertices .now) (a .triangles .now) (a .edges .now)
 
 -- the entry, from where the block is judged: past the buffers, and the lists that are read
 abbrev start : tie.After-judge → tie.Start
 start c =
     let lists = c .before .before .before .before .before in
     lists .before .before .before
-
-abbrev starOf : tie.Start → Star
-starOf b = let a = b .args in star (a .header) (a .centre .now) (a .neighbours .now)
 
 judge-requires : tie.Need-judge-requires
 judge-requires c κs = search needs
@@ -30,8 +32,7 @@ refused-requires c κs = search needs
 returns : tie.Need-returns
 returns c =
     let b = start (c .before .before .before .before) in
-    let a = b .args in
-    rw (c .refused .ensures) (refused (a .numbered) (starOf b) (a .summary .now) (a .store .now) (a .vertices .now) (a .triangles .now) (a .edges .now) (a .layered) _ (cc))
+    rw (c .refused .ensures) (refused (lent b) (b .args .layered) _ (cc))
 
 enum-told : tie.Need-enum-told
 enum-told c = search needs
@@ -41,19 +42,17 @@ module _ (c : tie.After-enum-told) where
   abbrev entry : tie.Start
   entry = start (c .before .before)
 
-  judged-passed : let a = entry .args in judged (a .layered) (starOf entry) (a .summary .now) (length (a .store .now)) ≡ Passed
+  judged-passed : let l = lent entry in judged (entry .args .layered) (l .s) (l .summary) (length (l .store)) ≡ Passed
   judged-passed = cc
 
 extract-mesh-requires : tie.Need-extract-mesh-requires
 extract-mesh-requires c κs =
     let told = c .before .before .before .before in
-    let a = entry told .args in
-    let s = starOf (entry told) in
-    let held = length (a .store .now) in
-    let e = judged-passed told in (
-      shaped (a .layered) s (a .summary .now) held e,
-      (trusted-there (a .layered) s (a .summary .now) held e, store-held (a .layered) s (a .summary .now) held e),
-    )
+    let layered = entry told .args .layered in
+    let l = lent (entry told) in
+    let held = length (l .store) in
+    let e = judged-passed told in
+    (shaped layered (l .s) (l .summary) held e, (trusted-there layered (l .s) (l .summary) held e, store-held layered (l .s) (l .summary) held e))
 
 same-length : tie.Need-same-length
 same-length c = search needs
@@ -72,9 +71,7 @@ returns-2 c =
     let two-back = c .before .before .before .before in
     let extracted = two-back .before .before .before .before in
     let told = extracted .before .before .before .before .before in
-    let a = entry told .args in
-    rw (passed (a .numbered) (starOf (entry told)) (a .summary .now) (a .store .now) (a .vertices .now) (a .triangles .now) (a .edges .now) (a .layered) (judged-passed told))
-    (extracted .extract-mesh .ensures)
+    rw (passed (lent (entry told)) (entry told .args .layered) (judged-passed told)) (extracted .extract-mesh .ensures)
 
 pub extract-numbered-spec : {M : Type 1} → statement M
 extract-numbered-spec =

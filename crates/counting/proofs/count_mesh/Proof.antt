@@ -16,8 +16,9 @@ plus-requires c κs = search needs
 
 returns : tie.Need-returns
 returns c =
-    let a = c .before .before .before .before .before .before .args in
-    let regular = c .before .before .count-regular-cells .ensures in
+    let counted = c .before .before in
+    let a = counted .before .before .before .before .args in
+    let regular = counted .count-regular-cells .ensures in
     let transition = c .before .count-transition-cells .ensures in
     rw (c .plus .ensures)
     (few-more (regular .0) (transition .0), counted-mesh (star (a .header) (a .centre .now) (a .neighbours .now)) _ _ (regular .1 (a .neighbours .now)) (transition .1 (a .centre .now)))

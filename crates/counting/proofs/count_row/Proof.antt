@@ -22,9 +22,11 @@ Inv-loop n sheet classes cells codes layer side marks u start counts₀ v₀ cou
 abbrev μ-loop : tie.MeasureT-loop
 μ-loop n sheet classes cells codes layer side marks u start counts₀ v₀ counts v = n - v
 
--- the entry, from the place before the first scan
+-- the entry, from the place before the first scan: past the sheet's lists, and the tables
 abbrev entry : tie.After-shared-slice-known6 Inv-loop μ-loop → tie.Start Inv-loop μ-loop
-entry c = c .before .before .before .before .before .before
+entry c =
+    let tables = c .before .before .before in
+    tables .before .before .before
 
 -- the row lies in the sheet
 fits : (b : tie.Start Inv-loop μ-loop) → rowStart (b .args .n) (b .args .u) + b .args .n < mostSubdivisions * (mostSubdivisions + 1)

@@ -21,9 +21,11 @@ Inv-loop n sheet classes cells codes layer side marks counts₀ u₀ counts u =
 abbrev μ-loop : tie.MeasureT-loop
 μ-loop n sheet classes cells codes layer side marks counts₀ u₀ counts u = n - u
 
--- the entry, from the loop's test
+-- the entry, from the loop's test: past the sheet's lists, and the tables
 abbrev entry : tie.At-loop Inv-loop μ-loop → tie.Start Inv-loop μ-loop
-entry c = c .before .before .before .before .before .before .before
+entry c =
+    let tables = c .before .before .before .before in
+    tables .before .before .before
 
 -- the cells of all rows, and of those so far
 all-rows : (c : tie.At-loop Inv-loop μ-loop) → let n = entry c .args .n in n * (n + 1) ≤ mostSubdivisions * (mostSubdivisions + 1)

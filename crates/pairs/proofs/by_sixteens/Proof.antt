@@ -38,15 +38,15 @@ loop-less c = search needs
 loop-again : tie.Need-loop-again Inv-loop μ-loop
 loop-again c =
     let put = c .before .before .put-sixteen in
-    let made = c .before .before .before .before .before .sixteen in
-    let looped = c .before .before .before .before .before .before .before .before in
+    let made = c .before .before .before .before .before in
+    let looped = made .before .before .before in
     let l = looped .loop in
     let a = looped .before .before .before .args in
     let part : ℕ → ℕ = λ k. pairedWith (a .threshold) (a .samples .now) (l .pairs) (l .i + k) in (
       omega arith,
       (
         omega arith,
-        sixteen-more _ _ (l .i) _ part _ _ _ _ (l .inv .1 .1) (omega arith) (made .ensures) (put .ensures)
+        sixteen-more _ _ (l .i) _ part _ _ _ _ (l .inv .1 .1) (omega arith) (made .sixteen .ensures) (put .ensures)
             (λ k h. paired-still (a .threshold) (a .samples .now) _ (l .pairs) (l .i) (l .i + k) (l .inv .1 .1) (omega arith)),
       ),
     )

@@ -13,9 +13,11 @@ use Rattle.cases.specs.Rows.{marked-sheet}
 use Rattle.pairs.proofs.layer_cases.Statement.{statement}
 use Rattle.pairs.proofs.layer_cases.Tie as tie
 
--- the entry
+-- the entry, from where the points are paired: past what is lent
 abbrev entry : tie.After-pair-layer → tie.Start
-entry c = c .before .before .before .before .before .before
+entry c =
+    let lent = c .before .before in
+    lent .before .before .before .before
 
 add-pair-layer : tie.Need-add-pair-layer
 add-pair-layer c = search needs
@@ -45,7 +47,8 @@ same-length-3 c = search needs
 
 returns : tie.Need-returns
 returns c =
-    let numbered = c .before .before .before .before .before .before .before in
+    let marked = c .before .before in
+    let numbered = marked .before .before .before .before .before in
     let layered = numbered .before .before .before .before .before in
     let a = entry layered .args in
     let n = a .header .block .subdivisions in
@@ -53,7 +56,7 @@ returns c =
     let sheet : (ns : List Float) → Sheet (regularCase (star (a .header) (a .centre .now) ns) (a .x)) n n _ =
     λ ns. pairs-sheet (star (a .header) (a .centre .now) ns) (a .x) pairs _ _ (numbered .pair-cases .ensures) in (
       pairs-upper pairs (point-small (star (a .header) (a .centre .now) []) (a .x)),
-      (sheet, λ ns. marked-sheet allRegular _ n _ _ _ (sheet ns) (c .before .before .mark-layer .ensures)),
+      (sheet, λ ns. marked-sheet allRegular _ n _ _ _ (sheet ns) (marked .mark-layer .ensures)),
     )
 
 pub layer-cases-spec : {M : Type 1} → statement M

@@ -5,6 +5,10 @@ use borrow.Author.Needs.{needs}
 use Rattle.pairs.proofs.of_pairs.Statement.{statement}
 use Rattle.pairs.proofs.of_pairs.Tie as tie
 
+-- the entry, from where the second pair is read
+abbrev entry : tie.After-wide2 → tie.Start
+entry c = c .before .before .before .before .before
+
 shared-slice-read-wide : tie.Need-shared-slice-read-wide
 shared-slice-read-wide c = search needs
 
@@ -61,7 +65,7 @@ add-result-3 c = search needs
 
 cast-result : tie.Need-cast-result
 cast-result c =
-    let start = c .before .before .before .before .before .before .before .before .before in
+    let start = entry (c .before .before .before .before) in
     let small = start .pre .1 in
     let i = start .args .i in
     let m = start .args .m in

@@ -21,6 +21,10 @@ Inv-loop threshold samples pairs₀ i₀ pairs i =
 abbrev μ-loop : tie.MeasureT-loop
 μ-loop threshold samples pairs₀ i₀ pairs i = length samples - i
 
+-- the entry, from where the first points are paired by sixteens
+abbrev start : tie.After-by-sixteens Inv-loop μ-loop → tie.Start Inv-loop μ-loop
+start c = c .before .before .before .before
+
 by-sixteens-requires : tie.Need-by-sixteens-requires Inv-loop μ-loop
 by-sixteens-requires c κs = search needs
 
@@ -43,7 +47,7 @@ loop-again : tie.Need-loop-again Inv-loop μ-loop
 loop-again c =
     let looped = c .before .before .before in
     let l = looped .loop in
-    let a = looped .before .before .before .before .before .before .before .args in
+    let a = start (looped .before .before .before) .args in
     let here : l .i + 0 ≡ l .i = omega arith in (
       omega arith,
       (
@@ -61,8 +65,9 @@ same-length c = omega arith
 returns : tie.Need-returns Inv-loop μ-loop
 returns c =
     let l = c .before .loop in
-    let made = c .before .before .before .before .by-sixteens .ensures in
-    let samples = c .before .before .before .before .before .before .before .before .args .samples .now in
+    let sixteens = c .before .before .before .before in
+    let made = sixteens .by-sixteens .ensures in
+    let samples = start sixteens .args .samples .now in
     let e : l .i ≡ length samples = omega arith in
     rw e at (l .inv .1 .1 _ (made .1))
 

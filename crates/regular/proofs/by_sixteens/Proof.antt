@@ -39,9 +39,9 @@ loop-less c = search needs
 loop-again : tie.Need-loop-again Inv-loop μ-loop
 loop-again c =
     let put = c .before .before .put-sixteen in
-    let made = c .before .before .before .before .before .sixteen in
-    let l = c .before .before .before .before .before .before .before .loop in
-    (omega arith, (omega arith, sixteen-more _ _ (l .z) _ _ _ _ _ _ (l .inv .1 .1) refl (made .ensures) (put .ensures) (λ k h. refl)))
+    let made = c .before .before .before .before .before in
+    let l = made .before .before .loop in
+    (omega arith, (omega arith, sixteen-more _ _ (l .z) _ _ _ _ _ _ (l .inv .1 .1) refl (made .sixteen .ensures) (put .ensures) (λ k h. refl)))
 
 same-length : tie.Need-same-length Inv-loop μ-loop
 same-length c = omega arith

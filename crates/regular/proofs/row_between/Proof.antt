@@ -19,6 +19,12 @@ Inv-loop n threshold a b c d cases₀ start z₀ cases z =
 abbrev μ-loop : tie.MeasureT-loop
 μ-loop n threshold a b c d cases₀ start z₀ cases z = n - z
 
+-- the entry, from where the first cells are numbered by sixteens: past the four lines
+abbrev entry : tie.After-by-sixteens Inv-loop μ-loop → tie.Start Inv-loop μ-loop
+entry c =
+    let lines = c .before .before .before in
+    lines .before .before .before .before
+
 by-sixteens-requires : tie.Need-by-sixteens-requires Inv-loop μ-loop
 by-sixteens-requires c κs = search needs
 
@@ -72,7 +78,7 @@ returns : tie.Need-returns Inv-loop μ-loop
 returns c =
     let l = c .before .loop in
     let made = c .before .before .before .before .by-sixteens .ensures in
-    let e : l .z ≡ c .before .before .before .before .before .before .before .before .before .before .before .args .n = omega arith in
+    let e : l .z ≡ entry (c .before .before .before .before) .args .n = omega arith in
     (rw e at (l .inv .1 .1 _ (made .1)), omega arith)
 
 pub row-between-spec : {M : Type 1} → statement M

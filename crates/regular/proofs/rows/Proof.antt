@@ -17,15 +17,16 @@ use Rattle.regular.proofs.rows.Tie as tie
 abbrev Inv-loop : tie.InvT-loop
 Inv-loop n threshold low high cases₀ reads₀ y₀ cases reads y =
     (y ≤ n)
-    × ((length cases ≡ sheetPlaces)
-    × (((s : Star) (x : ℕ) → Measured s n threshold → Plane s x low → Plane s (x + 1) high → Sheet (regularCase s x) n y cases)
-    × ((reads ≡ regularReads * n * y) × (reads ≤ regularReads * mostSubdivisions * y))))
+    × (length cases ≡ sheetPlaces)
+    × ((s : Star) (x : ℕ) → Measured s n threshold → Plane s x low → Plane s (x + 1) high → Sheet (regularCase s x) n y cases)
+    × (reads ≡ regularReads * n * y)
+    × (reads ≤ regularReads * mostSubdivisions * y)
 
 abbrev μ-loop : tie.MeasureT-loop
 μ-loop n threshold low high cases₀ reads₀ y₀ cases reads y = n - y
 
 loop-holds : tie.Need-loop-holds Inv-loop μ-loop
-loop-holds c = (omega arith, (omega arith, (λ s x is p q. no-row _ _ _, (omega arith, omega arith))))
+loop-holds c = (omega arith, omega arith, λ s x is p q. no-row _ _ _, omega arith, omega arith)
 
 row-requires : tie.Need-row-requires Inv-loop μ-loop
 row-requires c κs = search needs
@@ -44,13 +45,10 @@ loop-again c =
     let l = c .before .before .before .before .before .loop in
     let written = c .before .before .row in (
       omega arith,
-      (
-        written .kept .1 .1 .1 .1 .1 .0 ∙ l .inv .1 .0,
-        (
-          λ s x is p q. one-more-row _ _ (l .y) (l .cases) _ (written .ensures .0 s x is p q) (l .inv .1 .1 .0 s x is p q),
-          (omega (arith, written .ensures .1, l .inv .1 .1 .1 .0), omega (arith, written .ensures .1, l .inv .1 .1 .1 .1)),
-        ),
-      ),
+      written .kept .1 .1 .1 .1 .1 .0 ∙ l .inv .1,
+      λ s x is p q. one-more-row _ _ (l .y) (l .cases) _ (written .ensures .0 s x is p q) (l .inv .2 s x is p q),
+      omega (arith, written .ensures .1, l .inv .3),
+      omega (arith, written .ensures .1, l .inv .4),
     )
 
 same-length : tie.Need-same-length Inv-loop μ-loop
@@ -60,7 +58,7 @@ returns : tie.Need-returns Inv-loop μ-loop
 returns c =
     let l = c .before .loop in
     let e : l .y ≡ c .before .before .before .before .before .args .n = omega arith in
-    (λ s x is p q. rw e at (l .inv .1 .1 .0 s x is p q), (rw e at (l .inv .1 .1 .1 .0), omega (arith, l .inv .1 .1 .1 .1)))
+    (λ s x is p q. rw e at (l .inv .2 s x is p q), (rw e at (l .inv .3), omega (arith, l .inv .4)))
 
 pub rows-spec : {M : Type 1} → statement M
 rows-spec =

@@ -10,12 +10,11 @@ use Rattle.vertices.specs.Uses.{index-within, one-made, code-stored, cod
 use Rattle.vertices.proofs.put_any.Statement.{statement}
 use Rattle.vertices.proofs.put_any.Tie as tie
 
--- the entry, from where the reuse index is read, and from where it is known what the code says
-abbrev entered : tie.After-reuse-index → tie.Start
-entered r = r .before .before .before .before .before
-
+-- the entry, from where it is known what the code says: past the reuse index, and what is lent
 abbrev start : tie.After-makes → tie.Start
-start m = entered (m .before .before)
+start m =
+    let read = m .before .before in
+    read .before .before .before .before .before
 
 -- the reuse index is one of the cell's
 within : (m : tie.After-makes) → m .before .before .reuse-index .result < slots (start m .args .at)

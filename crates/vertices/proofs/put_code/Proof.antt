@@ -8,9 +8,11 @@ use Rattle.vertices.proofs.Inners.{inner-found, regular-usable, regular
 use Rattle.vertices.proofs.put_code.Statement.{statement}
 use Rattle.vertices.proofs.put_code.Tie as tie
 
--- the entry, from the place where the cell's coordinates are known
+-- the entry, from where the cell's coordinates are known: past the test that it touches no block face, and what is lent
 abbrev start : tie.After-regular-at → tie.Start
-start c = c .before .before .before .before .before .before .before
+start c =
+    let tested = c .before .before in
+    tested .before .before .before .before .before
 
 -- they are its own, and touch no block face
 found : (c : tie.After-regular-at) → let a = start c .args in (a .at ≡ Regular (c .regular-at .result)) × Inner (a .header .block .subdivisions) (c .regular-at .result)
@@ -39,10 +41,11 @@ same-length-2 c = search needs
 
 returns : tie.Need-returns
 returns c =
-    let cell = c .before .before .before .before .before .before .before in
+    let put = c .before .before .before .before in
+    let cell = put .before .before .before in
     let a = start cell .args in
     regular-put (found cell .0) (star (a .header) (a .centre .now) (a .neighbours .now)) (a .code)
-    (c .before .before .before .before .put-inner .ensures (a .neighbours .now))
+    (put .put-inner .ensures (a .neighbours .now))
 
 put-any-requires : tie.Need-put-any-requires
 put-any-requires c κs = search needs

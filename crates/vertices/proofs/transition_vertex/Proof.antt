@@ -6,14 +6,21 @@ use Rattle.vertices.specs.Making.{point-in-cell, transition-made}
 use Rattle.vertices.proofs.transition_vertex.Statement.{statement}
 use Rattle.vertices.proofs.transition_vertex.Tie as tie
 
+-- the entry, from where the side's neighbour is lent
+abbrev start : tie.After-neighbour → tie.Start
+start c = c .before .before .before
+
+-- the neighbour, from where both ends are found
+abbrev lent : tie.After-cell-point2 → tie.After-neighbour
+lent c = c .before .before .before .before
+
 neighbour-requires : tie.Need-neighbour-requires
 neighbour-requires c κs = search needs
 
 -- the side's neighbour is wholly lent
-bordered : (c : tie.After-neighbour) → let start = c .before .before .before in
-    Bordered (start .args .header .block .subdivisions) (c .neighbour .result .now) (start .args .at)
+bordered : (c : tie.After-neighbour) → let a = start c .args in Bordered (a .header .block .subdivisions) (c .neighbour .result .now) (a .at)
 bordered c =
-    let h = c .before .before .before .pre .0 in
+    let h = start c .pre .0 in
     record { side-is = h .placed .side-in; u-in = h .placed .u-in; v-in = h .placed .v-in; fine-is = c .neighbour .ensures .1 }
 
 voxel-a-index-requires : tie.Need-voxel-a-index-requires
@@ -30,27 +37,26 @@ cell-point-requires-2 c κs = search needs
 
 transition-point-requires : tie.Need-transition-point-requires
 transition-point-requires c κs =
-    let lent = c .before .before .before .before in
     let in-cell = point-in-cell (c .before .before .before .voxel-a-index .result) _ (c .before .before .cell-point .ensures) in
-    (lent .before .before .before .pre .0 .centred, (bordered lent, in-cell))
+    (start (lent c) .pre .0 .centred, (bordered (lent c), in-cell))
 
 transition-point-requires-2 : tie.Need-transition-point-requires-2
 transition-point-requires-2 c κs =
-    let lent = c .before .before .before .before .before in
-    let in-cell = point-in-cell (c .before .before .voxel-b-index .result) _ (c .before .cell-point2 .ensures) in
-    (lent .before .before .before .pre .0 .centred, (bordered lent, in-cell))
+    let ends = c .before in
+    let in-cell = point-in-cell (ends .before .voxel-b-index .result) _ (ends .cell-point2 .ensures) in
+    (start (lent ends) .pre .0 .centred, (bordered (lent ends), in-cell))
 
 vertex-between-requires : tie.Need-vertex-between-requires
 vertex-between-requires c κs = search needs
 
 returns : tie.Need-returns
 returns c =
-    let lent = c .before .before .before .before .before .before .before in
-    let a = lent .before .before .before .args in
-    let fine-is = lent .neighbour .ensures .0 in
+    let ends = c .before .before .before in
+    let a = start (lent ends) .args in
+    let fine-is = lent ends .neighbour .ensures .0 in
     transition-made (star (a .header) (a .centre .now) (a .neighbours .now)) (a .at .side) (a .at .u) (a .at .v) (a .code) _ _ _ _ _ _ _
-    (c .before .before .before .before .before .before .voxel-a-index .ensures .0) (c .before .before .before .before .voxel-b-index .ensures .0)
-    (c .before .before .before .before .before .cell-point .ensures) (c .before .before .before .cell-point2 .ensures)
+    (ends .before .before .before .voxel-a-index .ensures .0) (ends .before .voxel-b-index .ensures .0)
+    (ends .before .before .cell-point .ensures) (ends .cell-point2 .ensures)
     (c .before .before .transition-point .ensures (a .neighbours .now) fine-is) (c .before .transition-point2 .ensures (a .neighbours .now) fine-is) (c .vertex-between .ensures)
 
 pub transition-vertex-spec : {M : Type 1} → statement M

@@ -23,7 +23,9 @@ transition-vertex-requires c κs =
 
 returns : tie.Need-returns
 unfolding regularUse
-returns c = rw (c .before .before .at .given .1) (c .regular-vertex .ensures (c .before .before .before .before .before .before .args .neighbours .now))
+returns c =
+    let matched = c .before .before in
+    rw (matched .at .given .1) (c .regular-vertex .ensures (matched .before .before .before .before .args .neighbours .now))
 
 returns-2 : tie.Need-returns-2
 unfolding transitionUse

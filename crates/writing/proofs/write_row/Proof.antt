@@ -1,6 +1,6 @@
 -- `write_row` meets its contract: the mesh grows by each marked cell, and the others make nothing.
 use Prim.Native.Nat.{_+_, _-_, _*_, _≤_, _<_}
-use mathlib.Core.Path.{refl, _∙_}
+use mathlib.Core.Path.{_∙_}
 use native.Mathlib.Omega.{arith}
 use borrow.Author.Needs.{needs}
 use Rattle.model.specs.Limits.{mostSubdivisions}
@@ -11,7 +11,7 @@ use Rattle.cells.specs.SheetCells.{sheetCell}
 use Rattle.walk.specs.Order.{rowTo, rowBefore}
 use Rattle.writing.specs.Writing.{Holds, SameLengths}
 use Rattle.writing.specs.Lengths.{same-then, fits-still}
-use Rattle.writing.proofs.Holding.{cell-ready, Ready, room-vertices, room-triangles, holds-more, holds-skip, ready-at, holds-on, row-done}
+use Rattle.writing.proofs.Holding.{same-self, cell-ready, Ready, room-vertices, room-triangles, holds-more, holds-skip, ready-at, holds-on, row-done}
 use Rattle.writing.proofs.write_row.Statement.{statement}
 use Rattle.writing.proofs.write_row.Tie as tie
 
@@ -25,19 +25,31 @@ abbrev μ-loop : tie.MeasureT-loop
 μ-loop header fractions centre neighbours sheet classes cells codes layer side marks u counts₀ store₀ vertices₀ triangles₀ edges₀ n start v₀ counts store vertices triangles edges v =
     n - v
 
--- the entry, from the place before the first scan, and from a turn of the loop
 abbrev Entry : Type 0
 Entry = tie.Start Inv-loop μ-loop
 
+-- the entry, from where the buffers are known: past the sheet's lists, the tables and the block's; and from a turn of the loop
 abbrev entry : tie.After-slice-known4 Inv-loop μ-loop → Entry
-entry c = c .before .before .before .before .before .before .before .before .before .before .before .before
+entry c =
+    let sheet = c .before .before .before .before in
+    let tables = sheet .before .before .before in
+    tables .before .before .before .before .before
 
 abbrev start : tie.In-loop Inv-loop μ-loop → Entry
 start c = entry (c .before .before .before)
 
--- the turn of the loop, from the place where its cell is written
+-- where the turn's cell is written, from where the buffers are given back
+abbrev written : tie.After-slice-known8 Inv-loop μ-loop → tie.After-write-sheet-cell Inv-loop μ-loop
+written c =
+    let two-back = c .before .before .before .before in
+    two-back .before .before .before .before
+
+-- where its case number is read, and the turn
+abbrev numbered : tie.After-write-sheet-cell Inv-loop μ-loop → tie.After-number-at Inv-loop μ-loop
+numbered c = c .before .before .before .before .before
+
 abbrev turn : tie.After-slice-known8 Inv-loop μ-loop → tie.In-loop Inv-loop μ-loop
-turn c = c .before .before .before .before .before .before .before .before .before .before .before .before .before .before
+turn c = numbered (written c) .before
 
 abbrev starOf : Entry → Star
 starOf b = star (b .args .header) (b .args .centre .now) (b .args .neighbours .now)
@@ -77,7 +89,7 @@ loop-holds c =
     let row = b .pre .1 .1 .1 .1 .1 in (
       next .within,
       (
-        record { vertices-same = refl; triangles-same = refl; store-same = refl; edges-same = refl },
+        same-self,
         holds-skip (starOf b) (b .args .sheet) (b .args .u) (row .0) (b .pre .1 .1 .0 .1) 0 _ next (row .1),
       ),
     )
@@ -128,13 +140,13 @@ loop-again c =
     let here = turn (c .before) in
     let b = start here in
     let l = here .before .loop in
-    let written = c .before .before .before .before .before .before .before .before .before .write-sheet-cell in
+    let w = written (c .before) .write-sheet-cell in
     let next = c .next-marked2 .ensures in (
       next .within,
       (
         same-then (l .inv .1 .0)
-            record { vertices-same = omega (arith, written .kept); triangles-same = omega (arith, written .kept); store-same = omega (arith, written .kept); edges-same = omega (arith, written .kept) },
-        holds-on (starOf b) (b .args .sheet) (b .args .u) (b .pre .1 .1 .1 .1 .1 .0) (b .pre .1 .1 .0 .1) (l .v) _ next (holds-more (ready here) _ _ _ _ _ (written .ensures .0) (written .ensures .1)),
+            record { vertices-same = omega (arith, w .kept); triangles-same = omega (arith, w .kept); store-same = omega (arith, w .kept); edges-same = omega (arith, w .kept) },
+        holds-on (starOf b) (b .args .sheet) (b .args .u) (b .pre .1 .1 .1 .1 .1 .0) (b .pre .1 .1 .0 .1) (l .v) _ next (holds-more (ready here) _ _ _ _ _ (w .ensures .0) (w .ensures .1)),
       ),
     )
 

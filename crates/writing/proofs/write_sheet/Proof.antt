@@ -1,12 +1,13 @@
 -- `write_sheet` meets its contract: the mesh grows by one row in each turn.
 use Prim.Native.Nat.{_-_, _≤_}
-use mathlib.Core.Path.{_≡_, refl}
+use mathlib.Core.Path.{_≡_}
 use native.Mathlib.Omega.{arith}
 use Rattle.model.specs.Star.{star}
 use Rattle.walk.specs.Order.{rowBefore}
 use Rattle.writing.specs.Writing.{Holds, SameLengths}
 use Rattle.walk.specs.Walk.{sheet-after}
 use Rattle.writing.specs.Lengths.{same-then, fits-still}
+use Rattle.writing.proofs.Holding.{same-self}
 use Rattle.writing.proofs.write_sheet.Statement.{statement}
 use Rattle.writing.proofs.write_sheet.Tie as tie
 
@@ -20,14 +21,31 @@ abbrev μ-loop : tie.MeasureT-loop
 μ-loop header fractions centre neighbours sheet classes cells codes layer side marks counts₀ store₀ vertices₀ triangles₀ edges₀ n u₀ counts store vertices triangles edges u =
     n - u
 
--- the entry, from the loop's test
-abbrev entry : tie.At-loop Inv-loop μ-loop → tie.Start Inv-loop μ-loop
-entry c = c .before .before .before .before .before .before .before .before .before .before .before .before .before
+abbrev Entry : Type 0
+Entry = tie.Start Inv-loop μ-loop
+
+-- the entry, from where the buffers are known: past the sheet's lists, the tables and the block's
+abbrev lent : tie.After-slice-known4 Inv-loop μ-loop → Entry
+lent c =
+    let sheet = c .before .before .before .before in
+    let tables = sheet .before .before .before in
+    tables .before .before .before .before .before
+
+-- and from the loop's test
+abbrev entry : tie.At-loop Inv-loop μ-loop → Entry
+entry c = lent (c .before)
+
+-- where the turn's row is written, from where the buffers are given back; and the turn
+abbrev written : tie.After-slice-known8 Inv-loop μ-loop → tie.After-write-row Inv-loop μ-loop
+written c =
+    let two-back = c .before .before .before .before in
+    two-back .before .before .before .before
+
+abbrev turn : tie.After-write-row Inv-loop μ-loop → tie.In-loop Inv-loop μ-loop
+turn c = c .before .before .before .before .before
 
 loop-holds : tie.Need-loop-holds Inv-loop μ-loop
-loop-holds c =
-    let b = c .before .before .before .before .before .before .before .before .before .before .before .before in
-    (omega arith, (record { vertices-same = refl; triangles-same = refl; store-same = refl; edges-same = refl }, b .pre .1 .1 .1 .1 .1))
+loop-holds c = (omega arith, (same-self, lent c .pre .1 .1 .1 .1 .1))
 
 write-row-requires : tie.Need-write-row-requires Inv-loop μ-loop
 write-row-requires c κs =
@@ -39,21 +57,21 @@ write-row-requires c κs =
 
 add-u : tie.Need-add-u Inv-loop μ-loop
 add-u c =
-    let here = c .before .before .before .before .before .before .before .before .before .before .before .before .before in
+    let here = turn (written c) in
     omega (arith, here .loop-test .taken, entry (here .before) .pre .1 .0 .0 .few)
 
 loop-less : tie.Need-loop-less Inv-loop μ-loop
-loop-less c = omega (arith, c .before .before .before .before .before .before .before .before .before .before .before .before .before .loop-test .taken)
+loop-less c = omega (arith, turn (written c) .loop-test .taken)
 
 loop-again : tie.Need-loop-again Inv-loop μ-loop
 loop-again c =
-    let written = c .before .before .before .before .before .before .before .before .write-row in
-    let here = c .before .before .before .before .before .before .before .before .before .before .before .before .before in (
+    let here = turn (written c) in
+    let w = written c .write-row in (
       omega (arith, here .loop-test .taken),
       (
         same-then (here .before .loop .inv .1 .0)
-            record { vertices-same = omega (arith, written .kept); triangles-same = omega (arith, written .kept); store-same = omega (arith, written .kept); edges-same = omega (arith, written .kept) },
-        written .ensures,
+            record { vertices-same = omega (arith, w .kept); triangles-same = omega (arith, w .kept); store-same = omega (arith, w .kept); edges-same = omega (arith, w .kept) },
+        w .ensures,
       ),
     )
 

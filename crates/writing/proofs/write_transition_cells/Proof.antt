@@ -10,7 +10,9 @@ use Rattle.writing.proofs.write_transition_cells.Tie as tie
 returns : tie.Need-returns
 unfolding meshOf
 returns c =
-    let b = c .before .before .before .before .before .before .before .before in
+    let lent = c .before .before in
+    let lists = lent .before .before .before .before in
+    let b = lists .before .before in
     let s = star (b .args .header) (b .args .centre .now) (b .args .neighbours .now) in
     (rw (no-sides s (c .if1 .taken) (regularMesh s)) (b .pre .1 .1 .0), read-unnamed s _ (c .if1 .taken) (b .pre .1 .1 .1))
 

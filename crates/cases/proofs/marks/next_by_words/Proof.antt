@@ -35,8 +35,9 @@ least-requires c κs = search needs
 returns : tie.Need-returns Inv-loop μ-loop
 returns c =
     let word = c .before .before .before .eight-at in
-    let l = c .before .before .before .before .before .loop in
-    let known = c .before .before .before .before .before .before in
+    let turn = c .before .before .before .before .before in
+    let l = turn .loop in
+    let known = turn .before in
     let a = known .before .args in
     let clear = c .before .clear-bytes .ensures in
     let bytes : (k : ℕ) → getD (a .marks .now) k 0 < 256 = λ k. omega (arith, known .shared-slice-known .given k) in

@@ -14,18 +14,24 @@ use Rattle.cases.proofs.transition.row_on.Tie as tie
 abbrev Inv-loop : tie.InvT-loop
 Inv-loop n threshold fine lines cases₀ marks₀ start v₀ cases marks v =
     (v ≤ n)
-    × (((length cases ≡ length cases₀) × RowPut (nineInside threshold fine lines) start v cases₀ cases)
-    × ((length marks ≡ length marks₀) × RowPut (λ k. markOf allTransition (nineInside threshold fine lines k)) start v marks₀ marks))
+    × (length cases ≡ length cases₀)
+    × RowPut (nineInside threshold fine lines) start v cases₀ cases
+    × (length marks ≡ length marks₀)
+    × RowPut (λ k. markOf allTransition (nineInside threshold fine lines k)) start v marks₀ marks
 
 abbrev μ-loop : tie.MeasureT-loop
 μ-loop n threshold fine lines cases₀ marks₀ start v₀ cases marks v = n - v
 
+-- the entry, from the loop's test
+abbrev entry : tie.At-loop Inv-loop μ-loop → tie.Start Inv-loop μ-loop
+entry c = c .before .before .before .before
+
 loop-holds : tie.Need-loop-holds Inv-loop μ-loop
-loop-holds c = (omega arith, ((refl, none-put _ _ _), (refl, none-put _ _ _)))
+loop-holds c = (omega arith, refl, none-put _ _ _, refl, none-put _ _ _)
 
 nine-requires : tie.Need-nine-requires Inv-loop μ-loop
 nine-requires c κs =
-    let p = c .before .before .before .before .before .pre in
+    let p = entry (c .before) .pre in
     let v = c .before .loop .v in
     (omega arith, (p .1 (2 * v) (omega arith), (p .1 (2 * v + 1) (omega arith), p .1 (2 * v + 2) (omega arith))))
 
@@ -56,16 +62,13 @@ loop-less c = search needs
 loop-again : tie.Need-loop-again Inv-loop μ-loop
 loop-again c =
     let l = c .before .before .before .loop in
-    let start = c .before .before .before .before .before .before .before .args .start in
+    let start = entry (c .before .before .before) .args .start in
     let number = c .before .nine .ensures in (
       omega arith,
-      (
-        (rw length-set (l .inv .1 .0 .0), one-more _ start (l .v) _ _ (l .cases) (l .inv .1 .0 .1) (omega arith) number),
-        (
-          rw length-set (l .inv .1 .1 .0),
-          one-more _ start (l .v) _ _ (l .marks) (l .inv .1 .1 .1) (omega arith) (c .side-mark .ensures ∙ ap (markOf allTransition) number),
-        ),
-      ),
+      rw length-set (l .inv .1),
+      one-more _ start (l .v) _ _ (l .cases) (l .inv .2) (omega arith) number,
+      rw length-set (l .inv .3),
+      one-more _ start (l .v) _ _ (l .marks) (l .inv .4) (omega arith) (c .side-mark .ensures ∙ ap (markOf allTransition) number),
     )
 
 mul-result : tie.Need-mul-result Inv-loop μ-loop
@@ -80,8 +83,8 @@ same-length-2 c = omega arith
 returns : tie.Need-returns Inv-loop μ-loop
 returns c =
     let l = c .before .loop in
-    let e : l .v ≡ c .before .before .before .before .before .args .n = omega arith in
-    (rw e at (l .inv .1 .0 .1), (rw e at (l .inv .1 .1 .1), omega arith))
+    let e : l .v ≡ entry (c .before) .args .n = omega arith in
+    (rw e at (l .inv .2), (rw e at (l .inv .4), omega arith))
 
 pub row-on-spec : {M : Type 1} → statement M
 row-on-spec =

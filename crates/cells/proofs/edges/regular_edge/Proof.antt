@@ -35,12 +35,12 @@ axis-requires c κs = search needs
 add-result : tie.Need-add-result
 add-result c =
     let place = c .before .before in
-    omega (arith, place .in-block .ensures .1, c .axis .ensures .1, few place .square, few place .cube)
+    omega (arith, place .in-block .ensures .1, c .axis .ensures .1, c .before .voxel-b-index .ensures .1, few place .square, few place .cube)
 
 cast-result : tie.Need-cast-result
 cast-result c =
     let place = c .before .before in
-    omega (arith, place .in-block .ensures .1, c .axis .ensures .1, few place .square, few place .cube)
+    omega (arith, place .in-block .ensures .1, c .axis .ensures .1, c .before .voxel-b-index .ensures .1, few place .square, few place .cube)
 
 returns : tie.Need-returns
 returns c =

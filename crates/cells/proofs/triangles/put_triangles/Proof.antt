@@ -21,6 +21,13 @@ Inv-loop row turned index triangles₀ base count t₀ triangles t =
 abbrev μ-loop : tie.MeasureT-loop
 μ-loop row turned index triangles₀ base count t₀ triangles t = count - t
 
+-- the entry, from the loop's test, and that from where the turn's triangle is put
+abbrev start : tie.At-loop Inv-loop μ-loop → tie.Start Inv-loop μ-loop
+start c = c .before .before .before .before
+
+abbrev turn : tie.After-put-triangle Inv-loop μ-loop → tie.At-loop Inv-loop μ-loop
+turn c = c .before .before .before .before
+
 triangle-count-requires : tie.Need-triangle-count-requires Inv-loop μ-loop
 triangle-count-requires c κs = search needs
 
@@ -47,8 +54,8 @@ loop-less c = search needs
 
 loop-again : tie.Need-loop-again Inv-loop μ-loop
 loop-again c =
-    let l = c .before .before .before .before .before .before .loop in
-    let a = c .before .before .before .before .before .before .before .before .before .before .args in (
+    let l = turn (c .before .before) .loop in
+    let a = start (turn (c .before .before)) .args in (
       search needs,
       triangles-more (rowTriangle (a .row .now) (a .turned) (a .index .now)) (a .base) (l .t) _ (a .triangles .now) _ _
           (c .before .before .before .triangle .ensures) (l .inv .1) (c .before .before .put-triangle .ensures),
@@ -62,7 +69,7 @@ same-length c = ap length (c .before .loop .inv .1) ∙ length-lay 3 triangleInd
 
 returns : tie.Need-returns Inv-loop μ-loop
 returns c =
-    let a = c .before .before .before .before .before .args in
+    let a = start (c .before) .args in
     let e : c .before .loop .t ≡ trianglesOf (a .row .now) = omega arith in
     (omega arith, rw e at (c .before .loop .inv .1))
 

@@ -10,6 +10,10 @@ use Rattle.grid.proofs.voxel_blocks.place.Tie as tie
 sum : (c : tie.Start) → outside (c .args .n) (c .args .x) + outside (c .args .n) (c .args .y) + outside (c .args .n) (c .args .z) ≤ 1
 sum c = sampled-sum (c .args .n) (c .args .x) (c .args .y) (c .args .z) (c .pre .1)
 
+-- the entry, from where z is told to be inside or not
+abbrev start : tie.After-outside-by3 → tie.Start
+start c = c .before .before .before .before .before
+
 outside-by-requires : tie.Need-outside-by-requires
 outside-by-requires c κs = search needs
 
@@ -51,7 +55,7 @@ outside-by-requires-3 c κs = search needs
 
 across-requires-3 : tie.Need-across-requires-3
 across-requires-3 c κs =
-    let s = c .before .before .before .before .before .before in
+    let s = start (c .before) in
     let total = sum s in
     let x = not-outside-inner (s .args .n) (s .args .x) (omega arith) in
     let y = not-outside-inner (s .args .n) (s .args .y) (omega arith) in
@@ -59,15 +63,15 @@ across-requires-3 c κs =
 
 returns-3 : tie.Need-returns-3
 returns-3 c =
-    let s = c .before .before .before .before .before .before .before in
+    let s = start (c .before .before) in
     let total = sum s in
     let a = s .args in
     (rw (place-across-z (a .n) (a .x) (a .y) (a .z) (omega arith) (omega arith) (omega arith)) (c .across3 .ensures .0), c .across3 .ensures .1)
 
 -- where none is outside
-inner : (c : tie.Else3) → let a = c .before .before .before .before .before .before .args in (Inner (a .n) (a .x)) × ((Inner (a .n) (a .y)) × (Inner (a .n) (a .z)))
+inner : (c : tie.Else3) → let a = start (c .before) .args in (Inner (a .n) (a .x)) × ((Inner (a .n) (a .y)) × (Inner (a .n) (a .z)))
 inner c =
-    let a = c .before .before .before .before .before .before .args in
+    let a = start (c .before) .args in
     (not-outside-inner (a .n) (a .x) (omega arith), (not-outside-inner (a .n) (a .y) (omega arith), not-outside-inner (a .n) (a .z) (omega arith)))
 
 sub-in-block : tie.Need-sub-in-block
@@ -84,7 +88,7 @@ in-block-requires c κs = omega (arith, inner c)
 
 returns-4 : tie.Need-returns-4
 returns-4 c =
-    let a = c .before .before .before .before .before .before .before .args in
+    let a = start (c .before .before) .args in
     (rw (place-inner (a .n) (a .x) (a .y) (a .z) (omega arith) (omega arith) (omega arith)) (c .in-block .ensures .0), c .in-block .ensures .1)
 
 pub place-spec : {M : Type 1} → statement M

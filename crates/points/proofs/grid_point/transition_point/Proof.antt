@@ -59,14 +59,16 @@ regular-point-requires c κs = search needs
 returns : tie.Need-returns
 unfolding transitionPoint
 returns c =
-    let told = c .before .before .before .before .before .before in
+    let asked = c .before in
+    let told = asked .before .before .before .before .before in
     λ ns is. rw (told .p .given .1) (c .fine-grid-point .ensures ns is)
 
 returns-2 : tie.Need-returns-2
 unfolding transitionPoint
 returns-2 c =
     let at = c .before in
-    let told = at .before .before .before .before .before .before in
+    let asked = at .before in
+    let told = asked .before .before .before .before .before in
     λ ns is. rw (told .p2 .given .1, ← (at .face-point .ensures .0)) (c .regular-point .ensures ns)
 
 pub transition-point-spec : {M : Type 1} → statement M

@@ -60,8 +60,9 @@ loop-less c = omega arith
 
 loop-again : tie.Need-loop-again Inv-loop μ-loop
 loop-again c =
-    let start = c .before .before .before .before .before .before .args in
-    let turn = c .before .before .before .loop in
+    let at-loop = c .before .before .before in
+    let start = at-loop .before .before .before .args in
+    let turn = at-loop .loop in
     let float = floatFrom (start .bytes .now) (start .from) in
     let x = c .float-known .result in
     let is : x ≡ float (turn .k) = c .float-known .ensures ∙ ap (ofBits binary32) (c .before .word-at .ensures) in

@@ -22,8 +22,9 @@ enum-known-verdict c = search needs
 returns : tie.Need-returns
 unfolding readStl
 returns c =
-    let args = c .before .before .before .before .before .before .args in
-    sym (ap (readAnswer (args .bytes .now) (args .positions .now)) (sym (c .before .before .before .judge-reading .ensures) ∙ c .before .verdict .given .1))
+    let judged = c .before .before .before in
+    let args = judged .before .before .before .args in
+    sym (ap (readAnswer (args .bytes .now) (args .positions .now)) (sym (judged .judge-reading .ensures) ∙ c .before .verdict .given .1))
 
 module _ (c : tie.After-enum-told) where
   abbrev start : tie.Start

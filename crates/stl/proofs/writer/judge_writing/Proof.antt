@@ -40,7 +40,7 @@ enum-told-2 : tie.Need-enum-told-2
 enum-told-2 c = search needs
 
 -- 16 has passed
-few : (c : tie.After-enum-told2) → triangleCount (c .before .before .before .before .before .before .before .args .triangles .now) ≤ mostTriangles
+few : (c : tie.After-enum-told2) → let many = c .before .before .before in triangleCount (many .before .before .before .before .args .triangles .now) ≤ mostTriangles
 few c =
     let many = c .before .before .before in
     leb-true _ _ (unless-passed _ _ (sym (many .before .before .unless .ensures) ∙ many .enum-told .given .1))

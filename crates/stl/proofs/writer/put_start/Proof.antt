@@ -24,9 +24,10 @@ same-length c = search needs
 
 returns : tie.Need-returns
 returns c =
-    let header = c .before .before .before .before .before .before in
+    let word = c .before .before in
+    let header = word .before .before .before .before in
     let args = header .before .before .before .args in
-    c .before .before .put-word .ensures
+    word .put-word .ensures
     ∙ ap (λ (l : List ℕ). sets l headerLength (littleBytes (args .count))) (header .put-zeros .ensures) ∙ start-put (args .bytes .now) (args .count)
 
 pub put-start-spec : {M : Type 1} → statement M

@@ -43,13 +43,14 @@ loop-less c = omega arith
 
 loop-again : tie.Need-loop-again Inv-loop μ-loop
 loop-again c =
-    let begun = c .before .before .before .before .before .before in
+    let put-here = c .before .before in
+    let begun = put-here .before .before .before .before in
     let turn = begun .loop in
     let start = begun .before .before .before .before .args in
     let facet = facetOf (start .vertices .now) (start .triangles .now) in
-    let put : c .before .before .put-triangle .last .0 ≡ sets (start .bytes .now) startLength (gather facet (turn .t + 1)) =
-    c .before .before .put-triangle .ensures
-    ∙ ap₂ (λ (l : List ℕ) (at : ℕ). sets l at (facet (turn .t))) (turn .inv .2) (c .before .before .before .file-length .ensures)
+    let put : put-here .put-triangle .last .0 ≡ sets (start .bytes .now) startLength (gather facet (turn .t + 1)) =
+    put-here .put-triangle .ensures
+    ∙ ap₂ (λ (l : List ℕ) (at : ℕ). sets l at (facet (turn .t))) (turn .inv .2) (put-here .before .file-length .ensures)
     ∙ sets-gather facet triangleLength (length-facet (start .vertices .now) (start .triangles .now)) (start .bytes .now) startLength (turn .t) in
     (omega arith, ap length put ∙ length-sets (start .bytes .now) startLength (gather facet (turn .t + 1)), put)
 

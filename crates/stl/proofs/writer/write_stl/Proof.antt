@@ -23,16 +23,21 @@ judge-writing-requires c κs = search needs
 enum-known-verdict : tie.Need-enum-known-verdict
 enum-known-verdict c = search needs
 
+-- the entry, from where the verdict is told
+abbrev entered : tie.After-judge-writing → tie.Start
+entered c = c .before .before .before .before
+
 returns : tie.Need-returns
 unfolding writeStl
 returns c =
-    let args = c .before .before .before .before .before .before .before .args in
+    let judged = c .before .before .before in
+    let args = entered judged .args in
     sym
-    (ap (writeAnswer (args .vertices .now) (args .triangles .now) (args .bytes .now)) (sym (c .before .before .before .judge-writing .ensures) ∙ c .before .verdict .given .1))
+    (ap (writeAnswer (args .vertices .now) (args .triangles .now) (args .bytes .now)) (sym (judged .judge-writing .ensures) ∙ c .before .verdict .given .1))
 
 module _ (c : tie.After-enum-told) where
   abbrev start : tie.Start
-  start = c .before .before .before .before .before .before
+  start = entered (c .before .before)
 
   abbrev vertices : List Float
   vertices = start .args .vertices .now
@@ -64,7 +69,9 @@ put-triangles-requires c κs =
 
 file-length-requires : tie.Need-file-length-requires
 file-length-requires c κs =
-    omega (arith, is-writable (c .before .before .before .before .before .before .before .before) .few)
+    let put = c .before .before in
+    let begun = put .before .before .before .before in
+    omega (arith, is-writable (begun .before .before) .few)
 
 same-length : tie.Need-same-length
 same-length c = search needs

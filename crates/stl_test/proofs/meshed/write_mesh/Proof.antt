@@ -21,8 +21,9 @@ slice-aggregate-write-block c = search needs
 
 write-block-requires : tie.Need-write-block-requires
 write-block-requires c κs =
-    let read = c .before .before .before .before .before .before .read-record in
-    read-held _ _ _ (read .result) _ (read .ensures) (c .before .before .before .read .given .1)
+    let known = c .before .before .before in
+    let read = known .before .before .before .read-record in
+    read-held _ _ _ (read .result) _ (read .ensures) (known .read .given .1)
 
 returns : tie.Need-returns
 returns c = search needs
