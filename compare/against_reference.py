@@ -13,7 +13,7 @@ import subprocess
 import sys
 from pathlib import Path
 
-from calling import HERE, Progress, missing, seeds
+from calling import HERE, in_turn, missing, seeds
 import reference
 
 PROGRAMS = HERE / "target" / "release"
@@ -76,10 +76,9 @@ def main(arguments):
     build()
     first, count = all_seeds.start, len(all_seeds)
     maker = subprocess.Popen([PROGRAMS / "blocks", str(count), str(first)], stdout=subprocess.PIPE)
-    progress = Progress(count)
     oracle = Oracle()
     regular, transition, vertices, triangles = set(), set(), 0, 0
-    for seed in all_seeds:
+    for seed in in_turn(all_seeds):
         record = next_record(maker.stdout)
         ours = reference.both_texts(record)
         theirs = oracle.answer(record)
@@ -91,7 +90,6 @@ def main(arguments):
         triangles += int(made_triangles)
         for met, cases in zip((regular, transition), cases_met(reference.parse(record))):
             met |= cases
-        progress.step()
     print("%d blocks from seed %d: no difference; %d vertices, %d triangles; "
           "%d of 256 regular cases met, %d of 512 transition cases"
           % (count, first, vertices, triangles, len(regular), len(transition)))

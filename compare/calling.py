@@ -65,34 +65,27 @@ def seeds(words, usage):
     return range(first, first + count)
 
 
-class Progress:
-    """How far a run is, on a terminal now and then, elsewhere a line for each tenth."""
-
-    def __init__(self, count):
-        self.count = count
-        self.done = 0
-        self.terminal = sys.stderr.isatty()
-
-    def step(self):
-        self.done += 1
-        if self.terminal and (self.done % 50 == 0 or self.done == self.count):
-            end = "\n" if self.done == self.count else "\r"
-            print("%d of %d" % (self.done, self.count), end=end, file=sys.stderr, flush=True)
-        elif not self.terminal and self.done * 10 // self.count > (self.done - 1) * 10 // self.count:
-            print("%d of %d" % (self.done, self.count), file=sys.stderr, flush=True)
+def in_turn(all_seeds):
+    """Each seed, and after it how far the run has come: on a terminal now and then, elsewhere a line for each tenth."""
+    count, terminal = len(all_seeds), sys.stderr.isatty()
+    for done, seed in enumerate(all_seeds, 1):
+        yield seed
+        if terminal and (done % 50 == 0 or done == count):
+            end = "\n" if done == count else "\r"
+            print("%d of %d" % (done, count), end=end, file=sys.stderr, flush=True)
+        elif not terminal and done * 10 // count > (done - 1) * 10 // count:
+            print("%d of %d" % (done, count), file=sys.stderr, flush=True)
 
 
 def answers(all_seeds, make, ours, fault):
     """Our answer to what each seed makes; the first that has a fault ends the comparison."""
-    progress = Progress(len(all_seeds))
-    for seed in all_seeds:
+    for seed in in_turn(all_seeds):
         given = make(random.Random(seed))
         answer = ours.answer(given)
         wrong = fault(given, answer)
         if wrong:
             sys.exit("seed %d: %s" % (seed, wrong))
         yield answer
-        progress.step()
 
 
 def tally(met):

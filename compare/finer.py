@@ -17,7 +17,7 @@ import sys
 from collections import Counter, defaultdict
 from typing import NamedTuple
 
-from calling import Ours, Progress, seeds
+from calling import Ours, in_turn, seeds
 import reference
 from reference import ROTATIONS
 
@@ -290,14 +290,13 @@ def told_met(name, met):
 
 def main(words):
     all_seeds = seeds(words, __doc__)
-    ours, tally, progress = Ours(), Tally(), Progress(len(all_seeds))
-    for seed in all_seeds:
+    ours, tally = Ours(), Tally()
+    for seed in in_turn(all_seeds):
         side = seed % 6
         pair = a_pair(random.Random(seed), side)
         coarse, fine = (meshed(ours, block) for block in pair)
         tally.sides(seed, pair[0].n, side, coarse, fine)
         tally.vertices(seed, side, pair[0], coarse, fine)
-        progress.step()
     lines = ["%d pairs; every side of the common face off its rim is shared by two triangles of opposite direction: %s"
              % (len(all_seeds), ", ".join("%d %s" % (k, where) for where, k in sorted(tally.shared.items())))]
     lines.append("  %d of the 512 transition cases met" % len(tally.cases))

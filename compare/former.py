@@ -13,7 +13,7 @@ import subprocess
 import sys
 
 from against_reference import PROGRAMS, build, next_record
-from calling import Progress, seeds
+from calling import in_turn, seeds
 import records
 import reference
 
@@ -39,15 +39,13 @@ def main(arguments):
     program, all_seeds = arguments[0], seeds(arguments[1:], __doc__)
     build()
     maker = subprocess.Popen([PROGRAMS / "blocks", str(len(all_seeds)), str(all_seeds.start)], stdout=subprocess.PIPE)
-    progress = Progress(len(all_seeds))
     met = 0
-    for seed in all_seeds:
+    for seed in in_turn(all_seeds):
         record = next_record(maker.stdout)
         if len(record) <= reference.LISTING_BYTES:
             met += 1
             if listed(program, record) != reference.listing(record):
                 sys.exit("seed %d: not the listing of today" % seed)
-        progress.step()
     refused = 0
     for n, record in larger():
         refused += 1

@@ -13,7 +13,7 @@ import random
 import sys
 from collections import Counter
 
-from calling import MARK, Progress, seeds, tally
+from calling import MARK, in_turn, seeds, tally
 import records
 import reference
 from layers import ZEROS
@@ -97,10 +97,9 @@ class Comparison:
 
 def main(words):
     all_seeds = seeds(words, __doc__)
-    comparison, progress = Comparison(), Progress(len(all_seeds))
-    for seed in all_seeds:
+    comparison = Comparison()
+    for seed in in_turn(all_seeds):
         comparison.call(seed)
-        progress.step()
     print("%d calls, no difference; %d layers were passed over; %d meshes with a zero of the other sign; answers met: %s"
           % (len(all_seeds), comparison.over, comparison.turned, tally(comparison.met)))
 

@@ -14,7 +14,7 @@ import struct
 import sys
 from collections import Counter
 
-from calling import MARK, Program, Progress, seeds, tally
+from calling import MARK, Program, in_turn, seeds, tally
 import reference
 
 ZEROS = [0x00000000, 0x80000000]
@@ -122,10 +122,9 @@ class Comparison:
 
 def main(words):
     all_seeds = seeds(words, __doc__)
-    comparison, progress = Comparison(), Progress(len(all_seeds))
-    for seed in all_seeds:
+    comparison = Comparison()
+    for seed in in_turn(all_seeds):
         comparison.seed(seed)
-        progress.step()
     print("%d summaries made and %d samples set, no difference; answers met in making: %s; in setting: %s"
           % (sum(comparison.made.values()), sum(comparison.set.values()), tally(comparison.made), tally(comparison.set)))
 

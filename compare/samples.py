@@ -13,7 +13,7 @@ import struct
 import sys
 from collections import Counter
 
-from calling import Program, Progress, seeds
+from calling import Program, in_turn, seeds
 import reference
 from damaged import BAD, LIMIT
 
@@ -67,8 +67,8 @@ def called(answer):
 
 def main(words):
     all_seeds = seeds(words, __doc__)
-    ours, met, progress = Ours(), Counter(), Progress(len(all_seeds))
-    for seed in all_seeds:
+    ours, met = Ours(), Counter()
+    for seed in in_turn(all_seeds):
         chance = random.Random(seed)
         n, record = a_record(chance)
         if chance.random() < 0.15:
@@ -79,7 +79,6 @@ def main(words):
             if found != wanted:
                 sys.exit("seed %d, point %s: ours %s, the reference %s" % (seed, point, found, wanted))
             met[called(wanted[1:])] += 1
-        progress.step()
     told = ", ".join("%s: %d" % pair for pair in sorted(met.items()))
     print("%d records, %d points, no difference; met %s" % (len(all_seeds), POINTS * len(all_seeds), told))
 

@@ -14,7 +14,7 @@ import struct
 import sys
 from collections import Counter
 
-from calling import MARK, Program, Progress, seeds, tally
+from calling import MARK, Program, in_turn, seeds, tally
 import reference
 from damaged import Call
 
@@ -142,12 +142,11 @@ class Comparison:
 
 def main(words):
     all_seeds = seeds(words, __doc__)
-    comparison, progress = Comparison(), Progress(len(all_seeds))
-    for seed in all_seeds:
+    comparison = Comparison()
+    for seed in in_turn(all_seeds):
         chance = random.Random(seed)
         comparison.mesh(seed, chance)
         comparison.file(seed, chance)
-        progress.step()
     print("%d meshes and %d files, no difference; answers met in writing: %s; in reading: %s"
           % (len(all_seeds), len(all_seeds), tally(comparison.written), tally(comparison.read)))
 

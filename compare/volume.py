@@ -17,7 +17,7 @@ import struct
 import sys
 from collections import Counter
 
-from calling import MARK, Ours as Mesher, Program, Progress, seeds, tally
+from calling import MARK, Ours as Mesher, Program, in_turn, seeds, tally
 import reference
 
 SIZES = [1, 2, 3, 4, 5, 7, 9, 12, 17, 20]
@@ -155,9 +155,9 @@ def check_star(ours, mesher, seed):
 
 def main(words):
     all_seeds = seeds(words, __doc__)
-    ours, mesher, met, progress = Ours(), Mesher(), Counter(), Progress(len(all_seeds))
+    ours, mesher, met = Ours(), Mesher(), Counter()
     stars = sides = 0
-    for seed in all_seeds:
+    for seed in in_turn(all_seeds):
         chance = random.Random(seed)
         cut = Cut(chance)
         for _ in range(chance.choice([0, 0, 1, 1, 2])):
@@ -165,7 +165,6 @@ def main(words):
         met[compare(ours, seed, *cut.parts())[0][0]] += 1
         if seed % 10 == 0:
             stars, sides = stars + 1, sides + check_star(ours, mesher, seed)
-        progress.step()
     print("%d cuts, no difference; answers met: %s; %d blocks with %d finer neighbours pass 8"
           % (len(all_seeds), tally(met), stars, sides))
 

@@ -13,7 +13,7 @@ import subprocess
 import sys
 from fractions import Fraction
 
-from calling import Progress, seeds
+from calling import in_turn, seeds
 import reference
 from against_reference import PROGRAMS, build, next_record
 
@@ -124,8 +124,8 @@ def main(words):
     all_seeds = seeds(words, __doc__)
     build()
     maker = subprocess.Popen([PROGRAMS / "blocks", str(len(all_seeds)), str(all_seeds.start)], stdout=subprocess.PIPE)
-    worst, progress, vertices = Worst(), Progress(len(all_seeds)), 0
-    for seed in all_seeds:
+    worst, vertices = Worst(), 0
+    for seed in in_turn(all_seeds):
         block, chance = reference.parse(next_record(maker.stdout)), random.Random(seed)
         Watched.made = []
         reference.mesh_of(block, Watched)
@@ -139,7 +139,6 @@ def main(words):
         except AssertionError as fault:
             sys.exit("seed %d: %s" % (seed, fault))
         vertices += len(Watched.made)
-        progress.step()
     print("%d blocks from seed %d, %d vertices, %d edges: all as proved"
           % (len(all_seeds), all_seeds.start, vertices, 2 * EDGES * len(all_seeds)))
     for kind, (amount, where) in sorted(worst.all.items()):

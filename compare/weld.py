@@ -13,7 +13,7 @@ import struct
 import sys
 from collections import Counter
 
-from calling import Program, Progress, seeds, tally
+from calling import Program, in_turn, seeds, tally
 import reference
 from damaged import Call
 
@@ -125,10 +125,9 @@ class Comparison:
 
 def main(words):
     all_seeds = seeds(words, __doc__)
-    comparison, progress = Comparison(), Progress(len(all_seeds))
-    for seed in all_seeds:
+    comparison = Comparison()
+    for seed in in_turn(all_seeds):
         comparison.call(seed)
-        progress.step()
     told = len(all_seeds), comparison.doubled, tally(comparison.met)
     print("%d calls, no difference; %d vertices were doubled; answers met: %s" % told)
 

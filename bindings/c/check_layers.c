@@ -2,7 +2,7 @@
  * Summaries by layer from C: made, kept up to date where a sample is set, the places that stay as they were, and each refusal with
  * nothing altered; and extraction with one, which leaves what it leaves without it and reads less.
  */
-#include "lent.h"
+#include "lists.h"
 
 enum { N = 3, SAMPLES = SIRVESHAN_CENTRE_LENGTH(N), LENGTH = SIRVESHAN_SUMMARY_LENGTH(N), FLOATS = LENGTH + 3 };
 
@@ -112,23 +112,9 @@ static void refused(void)
 /* Extraction with a summary, or without one. The surface is in the middle one of the three layers. */
 enum { VERTICES = SIRVESHAN_MOST_VERTICES(N, 0), CORNERS = 3 * SIRVESHAN_MOST_TRIANGLES(N, 0), PLACES = SIRVESHAN_STORE_LENGTH(N) };
 
-typedef struct lists {
-    float *vertices;
-    uint32_t *store, *triangles, *edges;
-} lists;
-
 static lists lent(void)
 {
-    lists made = {room(6 * VERTICES), room(PLACES), room(CORNERS), room(VERTICES)};
-    return made;
-}
-
-static void release(lists used)
-{
-    free(used.vertices);
-    free(used.store);
-    free(used.triangles);
-    free(used.edges);
+    return rooms(6 * VERTICES, PLACES, CORNERS, VERTICES);
 }
 
 static sirveshan_extracted extracted(lists to, const float *summary, size_t floats, size_t store)

@@ -2,9 +2,8 @@
  * Extraction with the further list from C: the grid edge of each vertex, all else as without the list, the places that stay as
  * they were, refusal 23 between 9 and 10; and a mesh that is welded by what it tells.
  */
-#include "lent.h"
-
 #include "field.h"
+#include "lists.h"
 
 enum { N = 2, VERTICES = 11, TRIANGLES = 8, MORE = 3, FLOATS = 6 * VERTICES + MORE, CORNERS = 3 * TRIANGLES + MORE };
 
@@ -23,23 +22,9 @@ static uint32_t edge_at(int x, int y)
     return (uint32_t)(3 * SIRVESHAN_PLACE(N, x, y, 0) + 2);
 }
 
-typedef struct lists {
-    float *vertices;
-    uint32_t *store, *triangles, *edges;
-} lists;
-
 static lists marked(void)
 {
-    lists made = {room(FLOATS), room(SIRVESHAN_STORE_LENGTH(N)), room(CORNERS), room(VERTICES + MORE)};
-    return made;
-}
-
-static void release(lists used)
-{
-    free(used.vertices);
-    free(used.store);
-    free(used.triangles);
-    free(used.edges);
+    return rooms(FLOATS, SIRVESHAN_STORE_LENGTH(N), CORNERS, VERTICES + MORE);
 }
 
 /* Extraction with so many places lent, as many as wanted but where a test lends fewer. */
