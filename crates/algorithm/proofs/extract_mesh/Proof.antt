@@ -127,43 +127,53 @@ measured c = c .before
 abbrev past : tie.After-numbers-asked → tie.After-enum-told2
 past c = told (measured c)
 
+-- that, from where the store's part is lent, the vertices' and the triangles'
+abbrev by-store : tie.After-write-mesh-arg → tie.After-numbers-asked
+by-store c = c .before
+
+abbrev by-vertices : tie.After-write-mesh-arg2 → tie.After-numbers-asked
+by-vertices c = by-store (c .before .before)
+
+abbrev by-triangles : tie.After-write-mesh-arg3 → tie.After-numbers-asked
+by-triangles c = by-vertices (c .before .before)
+
 slice-relend-prefix-write-mesh : tie.Need-slice-relend-prefix-write-mesh
 slice-relend-prefix-write-mesh c = store-long (measured c)
 
 slice-aggregate-write-mesh : tie.Need-slice-aggregate-write-mesh
-slice-aggregate-write-mesh c = sym (length-take-le _ _ (store-long (measured (c .before))))
+slice-aggregate-write-mesh c = sym (length-take-le _ _ (store-long (measured (by-store c))))
 
 mul-write-mesh : tie.Need-mul-write-mesh
-mul-write-mesh c = omega (arith, counted (past (c .before .before)) .count-mesh .ensures .0 .vertices)
+mul-write-mesh c = omega (arith, counted (past (by-store (c .before))) .count-mesh .ensures .0 .vertices)
 
 slice-relend-prefix-write-mesh-2 : tie.Need-slice-relend-prefix-write-mesh-2
-slice-relend-prefix-write-mesh-2 c = room (past (c .before .before)) .0
+slice-relend-prefix-write-mesh-2 c = room (past (by-store (c .before))) .0
 
 slice-aggregate-write-mesh-2 : tie.Need-slice-aggregate-write-mesh-2
-slice-aggregate-write-mesh-2 c = sym (length-take-le _ _ (room (past (c .before .before .before)) .0))
+slice-aggregate-write-mesh-2 c = sym (length-take-le _ _ (room (past (by-vertices c)) .0))
 
 mul-write-mesh-2 : tie.Need-mul-write-mesh-2
-mul-write-mesh-2 c = omega (arith, counted (past (c .before .before .before .before)) .count-mesh .ensures .0 .triangles)
+mul-write-mesh-2 c = omega (arith, counted (past (by-vertices (c .before))) .count-mesh .ensures .0 .triangles)
 
 slice-relend-prefix-write-mesh-3 : tie.Need-slice-relend-prefix-write-mesh-3
-slice-relend-prefix-write-mesh-3 c = room (past (c .before .before .before .before)) .1
+slice-relend-prefix-write-mesh-3 c = room (past (by-vertices (c .before))) .1
 
 slice-aggregate-write-mesh-3 : tie.Need-slice-aggregate-write-mesh-3
-slice-aggregate-write-mesh-3 c = sym (length-take-le _ _ (room (past (c .before .before .before .before .before)) .1))
+slice-aggregate-write-mesh-3 c = sym (length-take-le _ _ (room (past (by-triangles c)) .1))
 
 -- the numbers' part
 numbers-long : (c : tie.After-numbers-asked) → c .numbers-asked .result ≤ length (entry (past c) .args .edges .now)
 numbers-long c = omega (arith, c .numbers-asked .ensures, long (past c))
 
 slice-relend-prefix-write-mesh-4 : tie.Need-slice-relend-prefix-write-mesh-4
-slice-relend-prefix-write-mesh-4 c = numbers-long (c .before .before .before .before .before)
+slice-relend-prefix-write-mesh-4 c = numbers-long (by-triangles c)
 
 slice-aggregate-write-mesh-4 : tie.Need-slice-aggregate-write-mesh-4
-slice-aggregate-write-mesh-4 c = sym (length-take-le _ _ (numbers-long (c .before .before .before .before .before .before)))
+slice-aggregate-write-mesh-4 c = sym (length-take-le _ _ (numbers-long (by-triangles (c .before))))
 
 write-mesh-requires : tie.Need-write-mesh-requires
 write-mesh-requires c κs =
-    let place = measured (c .before .before .before .before .before .before) in
+    let place = measured (by-triangles (c .before)) in
     let pre = entry (told place) .pre in
     (pre .0, (pre .1 .0, exact place))
 
@@ -183,8 +193,7 @@ returns-3 : tie.Need-returns-3
 returns-3 c =
     let two-back = c .before .before .before .before in
     let written = two-back .before .before .before .before in
-    let parts-lent = written .before in
-    let asked = parts-lent .before .before .before .before .before .before in
+    let asked = by-triangles (written .before .before) in
     let place = measured asked in
     let w = written .write-mesh in
     let count-is = asked .numbers-asked .ensures in

@@ -12,6 +12,10 @@ use Rattle.algorithm.proofs.judge.Tie as tie
 abbrev starOf : tie.Start → Star
 starOf b = star (b .args .header) (b .args .centre .now) (b .args .neighbours .now)
 
+-- the entry, from where 1 to 7 are judged
+abbrev judged-at : tie.After-judge-star → tie.Start
+judged-at c = c .before .before .before .before
+
 judge-star-requires : tie.Need-judge-star-requires
 judge-star-requires c κs = search needs
 
@@ -20,16 +24,16 @@ enum-known-shape c = search needs
 
 returns : tie.Need-returns
 returns c =
-    let b = c .before .before .before .before .before .before .before in
+    let b = judged-at (c .before .before .before) in
     let star-is : judgeStar (starOf b) ≡ Refused (c .before .shape .given .0 .0) = cc in
     rw star-is
 
 enum-told : tie.Need-enum-told
 enum-told c = search needs
 
--- the entry, from the place where 1 to 7 have passed
+-- and from where they have passed
 abbrev start : tie.After-enum-told → tie.Start
-start c = c .before .before .before .before .before .before
+start c = judged-at (c .before .before)
 
 star-passed : (c : tie.After-enum-told) → judgeStar (starOf (start c)) ≡ Passed
 star-passed c = cc

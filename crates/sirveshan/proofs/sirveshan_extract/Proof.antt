@@ -20,9 +20,11 @@ same-length-2 c = search needs
 same-length-3 : tie.Need-same-length-3
 same-length-3 c = search needs
 
+-- from the end back to the call, past the places where its lists are given back
 returns : tie.Need-returns
 returns c =
-    let made = c .before .before .before .before .before .before .before .extract .ensures in
+    let vertices-back = c .before .before .before .before in
+    let made = vertices-back .before .before .before .extract .ensures in
     λ i. record {
       answer = (c .as-extracted .ensures ∙ ap₂ asExtracted (made .0) (made .1 .1 .1 .1)) i;
       store = made .1 .0 i;

@@ -23,9 +23,11 @@ same-length-3 c = search needs
 same-length-4 : tie.Need-same-length-4
 same-length-4 c = search needs
 
+-- from the end back to the call, past the places where its lists are given back
 returns : tie.Need-returns
 returns c =
-    let made = c .before .before .before .before .before .before .before .before .before .extract-layered .ensures in
+    let triangles-back = c .before .before .before .before in
+    let made = triangles-back .before .before .before .before .before .extract-layered .ensures in
     λ i. record {
       answer = (c .as-extracted .ensures ∙ ap₂ asExtracted (made .0) (made .1 .1 .1 .1 .0)) i;
       store = made .1 .0 i;

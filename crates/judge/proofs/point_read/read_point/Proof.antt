@@ -23,10 +23,13 @@ enum-known-verdict c = search needs
 enum-told : tie.Need-enum-told
 enum-told c = search needs
 
--- where the verdict passes
-passed : (c : tie.After-enum-told) → let a = c .before .before .before .before .args in Read (a .n) (length (a .samples .now))
+-- the entry, from where the verdict passes
+abbrev start : tie.After-enum-told → tie.Start
+start c = c .before .before .before .before
+
+passed : (c : tie.After-enum-told) → let a = start c .args in Read (a .n) (length (a .samples .now))
 passed c =
-    let a = c .before .before .before .before .args in
+    let a = start c .args in
     read-passed (a .n) (length (a .samples .now)) (sym (c .before .before .judge-block .ensures) ∙ c .enum-told .given .1)
 
 one-up-requires : tie.Need-one-up-requires
@@ -59,10 +62,14 @@ returns c =
     ap (answer (c .before .before .before .before .before))
     (sym (c .before .verdict .given .1) ∙ c .before .before .before .judge-block .ensures)
 
+-- the verdict, from where the point is read
+abbrev told : tie.After-reading → tie.After-enum-told
+told c = c .before .before .before .before
+
 -- a signed argument reaches the callee as its bits, and `toZ-ofZ` reads the number back
-reads : (c : tie.After-reading) → c .reading .result ≡ read (c .before .before .before .before .before .before .before .before)
+reads : (c : tie.After-reading) → c .reading .result ≡ read (start (told c))
 reads c =
-    let s = c .before .before .before .before .before .before .before .before in
+    let s = start (told c) in
     let x = rw (toZ-ofZ {w = w32} (s .fits .x)) at (c .before .before .before .one-up .ensures) in
     let y = rw (toZ-ofZ {w = w32} (s .fits .y)) at (c .before .before .one-up2 .ensures) in
     let z = rw (toZ-ofZ {w = w32} (s .fits .z)) at (c .before .one-up3 .ensures) in
@@ -71,8 +78,8 @@ reads c =
 returns-2 : tie.Need-returns-2
 unfolding readPoint
 returns-2 c =
-    let told = c .before .before .before .before .before in
-    let verdict = sym (told .before .before .judge-block .ensures) ∙ told .enum-told .given .1 in
+    let past = told (c .before) in
+    let verdict = sym (past .before .before .judge-block .ensures) ∙ past .enum-told .given .1 in
     rw (verdict, ← reads (c .before)) (c .answered .ensures)
 
 pub read-point-spec : {M : Type 1} → statement M

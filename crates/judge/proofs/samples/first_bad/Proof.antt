@@ -37,8 +37,9 @@ add-t10 c = search needs
 
 returns : tie.Need-returns Inv-loop μ-loop
 returns c =
-    let start = c .before .before .before .before .before .before .args in
-    let turn = c .before .before .before .before .loop in
+    let at-loop = c .before .before .before .before in
+    let turn = at-loop .loop in
+    let start = at-loop .before .before .args in
     let bad = not-true (c .before .is-usable .result) (c .if1 .taken) in
     let here :
     usableFrom (start .from) (start .samples .now) (turn .place) ≡ Refused (BadSample (start .from + turn .place)) =
@@ -54,8 +55,9 @@ loop-less c = search needs
 
 loop-again : tie.Need-loop-again Inv-loop μ-loop
 loop-again c =
-    let start = c .before .before .before .before .before .before .args in
-    let turn = c .before .before .before .before .loop in
+    let at-loop = c .before .before .before .before in
+    let turn = at-loop .loop in
+    let start = at-loop .before .before .args in
     let good = not-false (c .before .is-usable .result) (c .if1 .left) in
     let here : usableFrom (start .from) (start .samples .now) (turn .place) ≡ Passed = rw (← c .before .is-usable .ensures, good) in
     (omega arith, not-yet (usableFrom (start .from) (start .samples .now)) (turn .place) (turn .inv .1) here)
