@@ -46,12 +46,6 @@ module _ (t : CodeUse) (next : ℕ) (vertices : List Float) (store : List ℕ) w
         store-is = rw k;
       }
 
--- it is stored where it is new, and the other place does not matter then
-stored : (new : Bool) (own other next : ℕ) (store : List ℕ)
-    → cond new (set store own next) store ≡ cond new (set store (cond new own other) next) store
-stored true own other next store = refl
-stored false own other next store = refl
-
 -- ---- what a code comes to
 
 pub use-makes : (s : Star) (at : CellIndex) (code : ℕ) → useAt s at code .makes ≡ makesAt at code
@@ -110,15 +104,25 @@ one-made s at code makes makes-is m = made-one (useAt s at code) ∙ ap one (use
 
 module _ (s : Star) (at : CellIndex) (code next r : ℕ) (vertices : List Float) (store : List ℕ)
     (makes : Bool) (makes-is : makes ≡ makesAt at code) (r-is : r ≡ reuseIndex code) where
-  pub code-made : (vertices′ : List Float) (v : Vertex) (new : Bool) → v ≡ useAt s at code .made .vertex
-      → ((edge : ℕ) → vertices′ ≡ layVertices vertices next (record { vertex = v; edge = edge } ∷ [])) → new ≡ eqb (isNew code) 1 → makes ≡ true
-      → CodePut (useAt s at code) next vertices store next (next + 1) vertexReads vertices′ (cond new (set store (placeAt (subdivisions s) at r) next) store)
-  code-made vertices′ v new v-is put new-is m =
-      let t = useAt s at code in
-      let place : t .place ≡ cond new (placeAt (subdivisions s) at r) (placeAt (subdivisions s) (backFrom at code) r) =
-      rw (new-is, r-is) (use-place s at code) in
-      use-made t next vertices store (use-makes s at code ∙ sym makes-is ∙ m) vertices′ _ (rw v-is at (put (t .made .edge)))
-      (rw (use-stores s at code ∙ sym new-is, place) (stored new _ _ next store))
+  module _ (vertices′ : List Float) (v : Vertex) (new : Bool) (v-is : v ≡ useAt s at code .made .vertex)
+      (put : (edge : ℕ) → vertices′ ≡ layVertices vertices next (record { vertex = v; edge = edge } ∷ []))
+      (new-is : new ≡ eqb (isNew code) 1) (m : makes ≡ true) where
+    pub code-stored : (p : ℕ) → p ≡ placeAt (subdivisions s) at r → new ≡ true
+        → CodePut (useAt s at code) next vertices store next (next + 1) vertexReads vertices′ (set store p next)
+    code-stored p p-is e =
+        let t = useAt s at code in
+        let stores : t .stores ≡ true = use-stores s at code ∙ sym new-is ∙ e in
+        let fresh : eqb (isNew code) 1 ≡ true = sym new-is ∙ e in
+        let place : t .place ≡ placeAt (subdivisions s) at (reuseIndex code) = rw fresh at (use-place s at code) in
+        use-made t next vertices store (use-makes s at code ∙ sym makes-is ∙ m) vertices′ (set store p next)
+        (rw v-is at (put (t .made .edge))) (rw stores (cc))
+
+    pub code-loose : new ≡ false → CodePut (useAt s at code) next vertices store next (next + 1) vertexReads vertices′ store
+    code-loose e =
+        let t = useAt s at code in
+        let stores : t .stores ≡ false = use-stores s at code ∙ sym new-is ∙ e in
+        use-made t next vertices store (use-makes s at code ∙ sym makes-is ∙ m) vertices′ store
+        (rw v-is at (put (t .made .edge))) (rw stores)
 
   pub code-taken : (p : ℕ) (from : CellIndex) → from ≡ backFrom at code → p ≡ placeAt (subdivisions s) from r → makes ≡ false
       → CodePut (useAt s at code) next vertices store (getD store p 0) next 0 vertices store

@@ -1,7 +1,6 @@
 -- `put_inner` meets its contract: a new code makes a vertex and stores it, and any other takes one. Assumes nothing.
 use Prim.Native.Nat.{_<_}
 use mathlib.Core.Path.{sym, ap, _∙_}
-use mathlib.Core.Bool.{true}
 use native.Mathlib.Omega.{arith}
 use borrow.Author.Needs.{needs}
 use Rattle.model.specs.Star.{star}
@@ -9,7 +8,7 @@ use Rattle.model.specs.Mesh.{regularUse}
 use Rattle.grid.specs.StorePlaces.{small-store}
 use Rattle.codes.specs.declared.CellIndex.the-variants.{Regular}
 use Rattle.codes.specs.Kinds.{slots}
-use Rattle.vertices.specs.Uses.{index-within, code-made, code-taken, back-placed}
+use Rattle.vertices.specs.Uses.{index-within, code-stored, code-taken, back-placed}
 use Rattle.vertices.proofs.Inners.{inner-placed, inner-stays, inner-makes}
 use Rattle.vertices.proofs.put_inner.Statement.{statement}
 use Rattle.vertices.proofs.put_inner.Tie as tie
@@ -90,9 +89,9 @@ returns c =
     let new = m .new-vertex .ensures in
     let taken = put .before .before .before .if1 .taken in
     λ ns.
-    rw (c .regular-place .ensures .0) (code-made (star (a .header) (a .centre .now) ns) (Regular (a .at)) (a .code) (a .next) _ (a .vertices .now) (a .store .now) _
-    (new ∙ inner-makes (b .pre .1 .0 .0) (a .code)) (m .before .reuse-index .ensures .0) _ _ true (put .before .inner-vertex .ensures ns)
-    (put .put-vertex .ensures) (sym taken ∙ new) taken)
+    code-stored (star (a .header) (a .centre .now) ns) (Regular (a .at)) (a .code) (a .next) _ (a .vertices .now) (a .store .now) _
+    (new ∙ inner-makes (b .pre .1 .0 .0) (a .code)) (m .before .reuse-index .ensures .0) _ _ _ (put .before .inner-vertex .ensures ns)
+    (put .put-vertex .ensures) new taken _ (c .regular-place .ensures .0) taken
 
 regular-back-requires : tie.Need-regular-back-requires
 regular-back-requires c κs =
