@@ -1,4 +1,6 @@
 // Refusal 8: the first point of a named side's face at which the centre and the neighbour lie on two sides of the threshold.
+#![tactic(auto)]
+
 ghost use Rattle.std.specs.Prelude.{◌≡◌, ◌<◌, length, get_or};
 ghost use Rattle.std.specs.Bool.{beq};
 ghost use Rattle.std.specs.Float.{nan};

@@ -1,5 +1,7 @@
 // Extraction: the mesh of a block and its finer neighbours. The block is judged, the mesh is counted, and then it is written into the lent
 // buffers, cell by cell.
+#![tactic(auto)]
+
 ghost use Rattle.std.specs.Prelude.{◌≡◌, cond, ◌≤◌, length};
 ghost use Rattle.model.specs.Star.{star};
 ghost use Rattle.model.specs.Mesh.{store_length};

@@ -1,6 +1,8 @@
 // The case numbers. A sheet holds those of a layer of regular cells, or of a side's transition cells, row by row; beside it stand marks,
 // which tell the cells that are cut. The writing pass has each cell read its own samples (crates/regular, transition); the counting pass
 // reads a regular sample once (crates/pairs).
+#![tactic(auto)]
+
 ghost use Rattle.std.specs.Prelude.{◌≡◌, ◌+◌, ◌*◌, ◌≤◌, ◌<◌, length, get_or};
 ghost use Rattle.std.specs.Float.{nan};
 ghost use Rattle.model.specs.Limits.{most_subdivisions};

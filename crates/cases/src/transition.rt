@@ -27,7 +27,7 @@ fn side_mark(case: u16) -> u8
 }
 
 // The first places of the three lines that a row of cells lies on, and their step.
-#[derive(Drop)]
+#[derive(Clone, Copy)]
 struct Lines {
     a: usize,
     b: usize,

@@ -1,4 +1,6 @@
 // What a vertex code comes to in its cell: whether it makes a vertex, the cell that it steps back to, and how many vertices a row of codes makes.
+#![tactic(auto)]
+
 ghost use Rattle.std.specs.Prelude.{◌≡◌, false, cond, ◌≤◌, ◌<◌, length, get_or};
 ghost use Rattle.tables.specs.RulesSlots.{crossed_at_top};
 ghost use Rattle.laws.specs.Steps.{total};
@@ -9,7 +11,7 @@ use model::{FacePoint, Xyz};
 use tables::tables_wrapper::{new_vertex, reuse_dx, reuse_dy, reuse_dz};
 
 // Where a cell lies: a regular cell in the block, a transition cell on a side.
-#[derive(Drop)]
+#[derive(Clone, Copy)]
 pub enum CellIndex {
     Regular(Xyz),
     Transition(FacePoint),

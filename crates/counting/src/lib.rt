@@ -1,5 +1,7 @@
 // The counting pass: how many vertices and triangles the cells make. It writes nothing that was lent, so that 10 is answered before
 // anything is touched. Each kind of cell has a loop over its sheets; that over a sheet's cells that are cut serves both.
+#![tactic(auto)]
+
 ghost use Rattle.std.specs.Prelude.{◌≡◌, List, [], ◌+◌, ◌*◌, ◌<◌, ◌≤◌, ◌^◌, Float, length};
 ghost use Rattle.laws.specs.Steps.{iterate};
 ghost use Rattle.model.specs.Limits.{most_subdivisions, side_count};

@@ -10,13 +10,13 @@ use crate::voxel_blocks::in_block;
 use model::Direction;
 
 // How far a step leads up, and how far down: one of the two is 0.
-#[derive(Drop)]
+#[derive(Clone, Copy)]
 pub struct Stride {
     pub up: usize,
     pub down: usize,
 }
 
-#[derive(Drop)]
+#[derive(Clone, Copy)]
 pub struct FaceWalk {
     pub first: usize,
     pub u: Stride,

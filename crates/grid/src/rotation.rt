@@ -97,7 +97,7 @@ pub fn face_point(n: usize, side: usize, u: usize, v: usize) -> Xyz
 }
 
 // A fine point of a face: here counted in half steps of the centre, there the same point in the neighbour.
-#[derive(Drop)]
+#[derive(Clone, Copy)]
 pub struct FinePoints {
     pub here: Xyz,
     pub there: Xyz,

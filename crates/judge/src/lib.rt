@@ -1,4 +1,6 @@
 // The refusals of document 01, each judged as its model says: what extraction, the reader and the writer share.
+#![tactic(auto)]
+
 ghost use Rattle.std.specs.Prelude.{◌≡◌, ◌≤◌};
 ghost use Rattle.model.specs.Limits.{most_subdivisions};
 ghost use Rattle.model.specs.Refusals.{numbers, numbers_of, unless, or_else};

@@ -1,5 +1,7 @@
 // Runs the judges, the point read and the position of a moved point on small blocks, and holds each answer against what document 01
 // says of it.
+#![tactic(auto)]
+
 mod faces;
 mod figures;
 mod given;

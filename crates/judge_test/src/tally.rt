@@ -2,7 +2,7 @@
 use judge::numbers_of;
 use model::{PlaceKind, PointRead, Refusal, Verdict};
 
-#[derive(Drop)]
+#[derive(Clone, Copy)]
 pub struct Tally {
     pub passed: u64,
     pub failed: u64,

@@ -1,5 +1,7 @@
 // Lines of samples among those of a record, a step apart, and read from its bytes. The points of a side's face lie on such lines, one for each step
 // along the side's U: the centre's own points, and the fine ones of its neighbour there.
+#![tactic(auto)]
+
 ghost use Rattle.std.specs.Prelude.{◌≡◌, ◌*◌, ◌≤◌, get_or};
 ghost use Rattle.std.specs.Float.{nan};
 ghost use Rattle.model.specs.Record.{count_of, samples_of};
@@ -14,7 +16,7 @@ use model::Header;
 use record::fields::sample_of;
 
 // So many samples: the first stands at `first` among those that begin at `start`.
-#[derive(Drop)]
+#[derive(Clone, Copy)]
 pub struct Line {
     pub start: usize,
     pub first: usize,

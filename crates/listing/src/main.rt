@@ -1,4 +1,6 @@
 // Document 01's listing program: one block record from standard input; its mesh, or its refusal, on standard output.
+#![tactic(auto)]
+
 use libc::STDIN_FILENO;
 use printing::print_listing;
 

@@ -1,5 +1,7 @@
 // The listing of each record of data/, in the order of the files' names: meshes with and without finer sides, each refusal that a record
 // can come to, and the longest record that is read. tools/listing_vectors.py makes the records, and the lines that must be printed.
+#![tactic(auto)]
+
 ghost use Rattle.std.specs.Prelude.{◌<◌};
 
 use libc::STDOUT_FILENO;

@@ -1,4 +1,6 @@
 // Refusal 17: the first triangle one of whose corners names no vertex, judged by whatever takes a list of triangles.
+#![tactic(auto)]
+
 ghost use Rattle.std.specs.Prelude.{◌≡◌, ◌*◌, ltb};
 ghost use Rattle.model.specs.Corners.{triangle_count, judge_named};
 ghost use Rattle.naming.specs.Corners.{all_named};

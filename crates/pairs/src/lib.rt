@@ -1,5 +1,7 @@
 // The sheet of a layer of regular cells for the counting pass, in which a sample is read once. A place holds a pair: whether its point of one
 // layer is inside, and twice the same of the layer after it. The case numbers come from pairs alone.
+#![tactic(auto)]
+
 ghost use Rattle.std.specs.Prelude.{◌≡◌, List, [], ℕ, ◌+◌, ◌-◌, ◌*◌, ◌/◌, ◌≤◌, ◌<◌, Float, length};
 ghost use Rattle.laws.specs.Steps.{listed};
 ghost use Rattle.model.specs.Limits.{most_subdivisions};

@@ -1,4 +1,6 @@
 // Document 01's listing of a block record: its mesh, or its refusal, on standard output.
+#![tactic(auto)]
+
 ghost use Rattle.std.specs.Prelude.{length};
 ghost use Rattle.record.specs.Reading.{Held};
 

@@ -1,5 +1,7 @@
 // Runs the vectors of data/, which tools/record_vectors.py makes and describes: the reader, the writer and the viewer's calls on
 // records and blocks, answers and lent buffers held against what the vectors say. Writes how many of each file agreed.
+#![tactic(auto)]
+
 mod reading;
 mod vectors;
 mod writing;
@@ -7,13 +9,13 @@ mod writing;
 use vectors::word;
 
 // What stands at a place of a file: a vector that agreed or did not, with the place after it; or none.
-#[derive(Drop)]
+#[derive(Clone, Copy)]
 enum Step {
     Next(bool, usize),
     End,
 }
 
-#[derive(Drop)]
+#[derive(Clone, Copy)]
 struct Tally {
     passed: u64,
     failed: u64,

@@ -1,4 +1,6 @@
 // The sheet of a layer of regular cells, between two planes of samples: each cell reads its own eight, from four lines along z.
+#![tactic(auto)]
+
 ghost use Rattle.std.specs.Prelude.{◌≡◌, List, ℕ, ◌+◌, ◌*◌, ◌^◌, ◌≤◌, ◌<◌, Float, length};
 ghost use Rattle.model.specs.Limits.{most_subdivisions};
 ghost use Rattle.model.specs.Samples.{sample_length};

@@ -18,7 +18,7 @@ use model::{FacePoint, Header};
 use words::floats::float_of;
 
 // The places of a face's point in the list of the centre and in that of the neighbours.
-#[derive(Drop)]
+#[derive(Clone, Copy)]
 struct Places {
     coarse: usize,
     fine: usize,

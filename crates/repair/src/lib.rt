@@ -1,5 +1,7 @@
 // A repair pass for damaged deliveries (document 02, [5]): samples that cannot be used become the filler, then fine samples that disagree
 // with the centre take its bits, and every change is listed. specs/Definition says what is changed, listed and refused.
+#![tactic(auto)]
+
 ghost use Rattle.std.specs.Prelude.{◌≡◌};
 ghost use Rattle.repair.specs.Definition.{delivery, judge_repair, repair};
 
@@ -15,7 +17,7 @@ use model::{Header, Refusal, Verdict};
 use words::floats::bits_of;
 
 // A sample that was changed: list 0 is the centre, 1 the neighbours.
-#[derive(Drop)]
+#[derive(Clone, Copy)]
 pub struct Change {
     pub list: u32,
     pub place: u32,
@@ -24,7 +26,7 @@ pub struct Change {
 }
 
 // The number of changes that were made.
-#[derive(Drop)]
+#[derive(Clone, Copy)]
 pub enum Repaired {
     Changes(usize),
     Refused(Refusal),

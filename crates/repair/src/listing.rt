@@ -13,7 +13,7 @@ use crate::faces::{mismatch_at, spot_count};
 use crate::samples::filler_at;
 use model::Header;
 
-#[derive(Drop)]
+#[derive(Clone, Copy)]
 pub enum Found {
     At(Change),
     Nothing,

@@ -2,6 +2,8 @@
 // the Rust mesher's; a refusal is by document 01's table. What is compared: the answer's number and its three numbers; every vertex bit,
 // every triangle index and every place of the index store; and that each place beyond, on a refusal each place, is as it was.
 // The files are v00, v01 and so on, vectors laid end to end; calls.rt says what a vector is.
+#![tactic(auto)]
+
 ghost use Rattle.std.specs.Prelude.{◌<◌};
 
 mod agreement;
@@ -13,7 +15,7 @@ use libc::STDOUT_FILENO;
 // Lines on failures.
 const MOST_LINES: u64 = 10;
 
-#[derive(Drop)]
+#[derive(Clone, Copy)]
 struct Tally {
     passed: u64,
     failed: u64,

@@ -5,7 +5,7 @@ ghost use Rattle.replay.specs.Spans.{Within};
 use words::big::word_at;
 
 // Where the bytes of a part begin and end.
-#[derive(Drop)]
+#[derive(Clone, Copy)]
 pub struct Span {
     pub start: usize,
     pub end: usize,

@@ -1,5 +1,7 @@
 // Totals over a day's blocks (document 02, [2]): the sheet of a run of records, a line a record and a total, worked out from the samples in
 // the records' bytes. specs/Definition says what each figure is, which records are refused and where the sheet ends.
+#![tactic(auto)]
+
 ghost use Rattle.std.specs.Prelude.{◌≡◌, ◌+◌, ◌≤◌, ◌<◌, length, drop};
 ghost use Rattle.model.specs.Record.{header_of, star_of};
 ghost use Rattle.record.specs.Accepted.{Accepted};
@@ -22,7 +24,7 @@ use words::big::word_at;
 
 // Grid edges, by the axis that they lie along.
 #[repr(C)]
-#[derive(Drop)]
+#[derive(Clone, Copy)]
 pub struct Edges {
     pub x: u64,
     pub y: u64,
@@ -31,7 +33,7 @@ pub struct Edges {
 
 // The figures of a record, or of several added up.
 #[repr(C)]
-#[derive(Drop)]
+#[derive(Clone, Copy)]
 pub struct Figures {
     pub inside: u64,
     pub edges: Edges,
@@ -40,28 +42,28 @@ pub struct Figures {
 }
 
 // A record's line: its figures, or why it is refused.
-#[derive(Drop)]
+#[derive(Clone, Copy)]
 pub enum Line {
     Counted(Figures),
     Refused(Refusal),
 }
 
 // A line, and where the next record begins: at the run's end there is none.
-#[derive(Drop)]
+#[derive(Clone, Copy)]
 pub struct LineAt {
     pub line: Line,
     pub next: usize,
 }
 
 // What stands at a place of a run: a line, nothing more, or that the whole run is refused.
-#[derive(Drop)]
+#[derive(Clone, Copy)]
 pub enum SheetLine {
     Line(LineAt),
     End,
     Refused(Refusal),
 }
 
-#[derive(Drop)]
+#[derive(Clone, Copy)]
 pub enum SheetTotal {
     Total(Figures),
     Refused(Refusal),

@@ -1,5 +1,7 @@
 // Prints the sheet of the run of records on standard input as the command does with --csv: a line a record, and the total. The run, which
 // tools/sheet_vectors.py makes and describes, has every kind of line; stdout has what tools/reference.py says of it.
+#![tactic(auto)]
+
 use judge::numbers_of;
 use libc::{STDIN_FILENO, STDOUT_FILENO};
 use model::Refusal;

@@ -1,5 +1,7 @@
 // The C face: every call that code in C or Rust makes of this project. Each requires nothing, answers by value, and writes to no lent
 // buffer but those that the definition it cites fills.
+#![tactic(auto)]
+
 ghost use Rattle.std.specs.Prelude.{◌≡◌};
 ghost use Rattle.model.specs.Star.{star};
 ghost use Rattle.model.specs.Extraction.{extract};
@@ -38,7 +40,7 @@ use weld::Welded;
 
 // In each answer the refusal's number is 0 where nothing is refused, and what stands beside it is 0 where something is.
 #[repr(C)]
-#[derive(Drop)]
+#[derive(Clone, Copy)]
 pub struct Extracted {
     pub refused: Numbers,
     pub counts: Counts,
@@ -46,42 +48,42 @@ pub struct Extracted {
 }
 
 #[repr(C)]
-#[derive(Drop)]
+#[derive(Clone, Copy)]
 pub struct HeaderRead {
     pub refused: Numbers,
     pub header: Header,
 }
 
 #[repr(C)]
-#[derive(Drop)]
+#[derive(Clone, Copy)]
 pub struct Written {
     pub refused: Numbers,
     pub length: usize,
 }
 
 #[repr(C)]
-#[derive(Drop)]
+#[derive(Clone, Copy)]
 pub struct TrianglesRead {
     pub refused: Numbers,
     pub triangles: usize,
 }
 
 #[repr(C)]
-#[derive(Drop)]
+#[derive(Clone, Copy)]
 pub struct Mended {
     pub refused: Numbers,
     pub changes: usize,
 }
 
 #[repr(C)]
-#[derive(Drop)]
+#[derive(Clone, Copy)]
 pub struct SamplesCut {
     pub refused: Numbers,
     pub samples: usize,
 }
 
 #[repr(C)]
-#[derive(Drop)]
+#[derive(Clone, Copy)]
 pub struct Sampled {
     pub refused: Numbers,
     pub value: f32,
@@ -89,7 +91,7 @@ pub struct Sampled {
 }
 
 #[repr(C)]
-#[derive(Drop)]
+#[derive(Clone, Copy)]
 pub struct WeldedCounts {
     pub refused: Numbers,
     pub counts: Counts,
@@ -100,7 +102,7 @@ const IN_BLOCK: usize = SIDES;
 
 // The next record begins there; 0 where there is no line.
 #[repr(C)]
-#[derive(Drop)]
+#[derive(Clone, Copy)]
 pub struct LineTold {
     pub refused: Numbers,
     pub figures: Figures,
@@ -108,7 +110,7 @@ pub struct LineTold {
 }
 
 #[repr(C)]
-#[derive(Drop)]
+#[derive(Clone, Copy)]
 pub struct TotalTold {
     pub refused: Numbers,
     pub figures: Figures,

@@ -19,7 +19,7 @@ use words::little::put_word;
 const MOST_TRIANGLES: usize = 4294967295;
 
 // The bit patterns of a position.
-#[derive(Drop)]
+#[derive(Clone, Copy)]
 struct Corner {
     x: u32,
     y: u32,

@@ -1,5 +1,7 @@
 // Meshes the records of data/, writes each mesh as an STL file and holds it to the stored one; reads the stored one and writes it again from
 // what was read. tools/stl_vectors.py makes the records and the files, with no code of ours, and the lines that must be printed.
+#![tactic(auto)]
+
 mod again;
 mod meshed;
 

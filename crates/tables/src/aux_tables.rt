@@ -4,20 +4,20 @@ ghost use Rattle.tables.specs.Points as Points;
 ghost use Rattle.tables.specs.Points.{cell_point};
 
 // A point of the fine face, in fine steps from the cell's corner.
-#[derive(Drop)]
+#[derive(Clone, Copy)]
 pub struct Offset {
     pub u: usize,
     pub v: usize,
 }
 
 // A point of the coarse face, in steps of the block's own grid.
-#[derive(Drop)]
+#[derive(Clone, Copy)]
 pub struct Corner {
     pub u: usize,
     pub v: usize,
 }
 
-#[derive(Drop)]
+#[derive(Clone, Copy)]
 pub enum CellPoint {
     Fine(Offset),
     Coarse(Corner),

@@ -1,6 +1,8 @@
 // The Transvoxel tables of tools/tables: set down from knowledge of the published ones, and not yet compared with that file
 // (docs/DIFFERENCES.md). One function hands out each array, to be called once, high up, and lent down from there; a row of a lent
 // array, by case number, is lent on. Rules T1 to T6 over the tables stand in specs/.
+#![tactic(auto)]
+
 ghost use Rattle.std.specs.Prelude.{◌≡◌, ◌+◌, ◌*◌, ◌%◌, ◌<◌, ◌≤◌, length, take, drop};
 ghost use Rattle.tables.specs.Arrays.{regular_cell_class, regular_cell_data, regular_vertex_data};
 ghost use Rattle.tables.specs.Arrays.{transition_cell_class, transition_cell_data, transition_vertex_data};

@@ -1,4 +1,6 @@
 // A cell's vertices: each is made and put into the buffer, or taken from the index store.
+#![tactic(auto)]
+
 ghost use Rattle.std.specs.Prelude.{◌≡◌, false, cond, List, [], ◌∷◌, ℕ, ◌+◌, ◌*◌, ◌≤◌, ◌<◌, Float, eqb, length};
 ghost use Rattle.tables.specs.Codes.{is_new};
 ghost use Rattle.tables.specs.Cases.{vertices_of};
@@ -26,14 +28,14 @@ use tables::tables_wrapper::{new_vertex, reuse_index, voxel_a_index, voxel_b_ind
 const VERTEX_READS: u64 = 14;
 
 // A cell's vertex, the index of the next one that is made, and the samples read.
-#[derive(Drop)]
+#[derive(Clone, Copy)]
 struct Indexed {
     index: u32,
     next: usize,
     reads: u64,
 }
 
-#[derive(Drop)]
+#[derive(Clone, Copy)]
 pub struct Filled {
     pub cell: CellVertices,
     pub next: usize,

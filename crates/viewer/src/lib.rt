@@ -1,6 +1,8 @@
 // What the viewer asks of a record's bytes (document 01, 'Block record'): its subdivisions, whether it is blank, a sample. Each judges the
 // record first and answers one number; the point read (document 02, [4]) tells the sample with its place kind. The calls of crate sirveshan
 // hand them on to C.
+#![tactic(auto)]
+
 ghost use Rattle.std.specs.Prelude.{◌≡◌, ◌+◌, ◌^◌, ◌≤◌};
 ghost use Rattle.model.specs.Samples.{reading_at};
 ghost use Rattle.model.specs.Refusals.{numbers_of};

@@ -1,5 +1,7 @@
 // Cutting blocks from a raw volume (document 02, [8]): the samples of a block, extension faces included, taken from one flat volume of f32.
 // specs/Definition says what is taken and what is refused.
+#![tactic(auto)]
+
 ghost use Rattle.std.specs.Prelude.{◌≡◌};
 ghost use Rattle.volume.specs.Definition.{cut_block};
 
@@ -13,7 +15,7 @@ use judging::judge_cut;
 use model::{Refusal, Verdict, Xyz};
 
 // The number of samples that were cut.
-#[derive(Drop)]
+#[derive(Clone, Copy)]
 pub enum BlockCut {
     Samples(usize),
     Refused(Refusal),

@@ -2,6 +2,8 @@
 // specs/.
 
 // In the place of the sheet that the other kind of cell has.
+#![tactic(auto)]
+
 pub const NO_LAYER: [u8; 0] = [];
 
 pub const NO_SIDE: [u16; 0] = [];

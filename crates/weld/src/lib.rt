@@ -1,5 +1,7 @@
 // The weld (document 02, [10]): of the regular vertices made on one grid edge only the first is kept, the kept close up in their order, and the
 // triangles are renumbered, all in the lists that are lent. specs/Definition says what is left and what is refused.
+#![tactic(auto)]
+
 ghost use Rattle.std.specs.Prelude.{◌≡◌};
 ghost use Rattle.weld.specs.Definition.{judge_weld, weld};
 
@@ -15,7 +17,7 @@ use naming::judge_named;
 use pass::pass;
 
 // The new counts.
-#[derive(Drop)]
+#[derive(Clone, Copy)]
 pub enum Welded {
     Mesh(Counts),
     Refused(Refusal),

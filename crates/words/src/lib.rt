@@ -1,4 +1,6 @@
 // Words of four bytes among bytes, in both orders, and floats by their bit patterns: what records and STL files are made of.
+#![tactic(auto)]
+
 ghost use Rattle.std.specs.Prelude.{◌≡◌, [], ◌∷◌, ◌+◌, ◌*◌, ◌≤◌, ◌<◌, length};
 ghost use Rattle.std.proofs.lemmas.List.Edits.{sets};
 ghost use Rattle.words.specs.Orders.{turned};

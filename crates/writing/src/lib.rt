@@ -1,5 +1,7 @@
 // The writing pass: the mesh into the lent buffers, cell by cell in document 01's order. Each kind of cell has a loop over its
 // sheets; that over a sheet's cells that are cut serves both.
+#![tactic(auto)]
+
 ghost use Rattle.std.specs.Prelude.{◌≡◌, ◌+◌, ◌*◌, ◌≤◌, ◌<◌, length, replicate};
 ghost use Rattle.laws.specs.Steps.{total};
 ghost use Rattle.model.specs.Limits.{most_subdivisions, side_count};
@@ -39,7 +41,7 @@ const NOTHING: Progress = Progress {
 };
 
 // What is written, and the samples that case numbers have read beside those of the vertices.
-#[derive(Drop)]
+#[derive(Clone, Copy)]
 struct Pass {
     counts: Progress,
     reads: u64,

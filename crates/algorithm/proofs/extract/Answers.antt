@@ -1,0 +1,15 @@
+-- `extract` meets its contract: the core with no summary and no further list judges what document 01 says.
+use lib.ListN.{length}
+use Rattle.model.specs.Star.{star}
+use Rattle.model.specs.Extraction.{judge_extraction, extract}
+use Rattle.layers.specs.Layered.{spared_none}
+use Rattle.algorithm.proofs.Answers.{told, none_told}
+use Rattle.algorithm.proofs.extract.Goals as goal
+
+pub returns : goal.returns
+unfolding extract judge_extraction
+returns c =
+    let a = c.args in
+    let s = star a.header a.centre.now a.neighbours.now in
+    let left = c.extract_numbered.ensures.0 in
+    told (rw (spared_none s, none_told _ s (length a.store-1.now) (length a.vertices-1.now) (length a.triangles-1.now) 0) at left)

@@ -1,0 +1,11 @@
+-- `extract_layered` meets its contract: what the core leaves is what the definition's steps leave, where the layers that are passed over take none.
+use Rattle.model.specs.Star.{star}
+use Rattle.algorithm.proofs.Answers.{told_layered}
+use Rattle.algorithm.proofs.extract_layered.Goals as goal
+
+pub returns : goal.returns
+returns c =
+    let a = c.args in
+    let s = star a.header a.centre.now a.neighbours.now in
+    let left = c.extract_numbered.ensures in
+    told_layered s a.summary.now a.store-1.now a.vertices-1.now a.triangles-1.now a.edges-1.now _ _ _ _ _ left.0 left.1

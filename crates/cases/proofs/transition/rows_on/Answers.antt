@@ -1,0 +1,120 @@
+-- `transition::rows_on` meets its contract. The loop's invariant: the rows passed have their numbers and marks, and what they read is counted.
+use Prim.Native.Nat.{ℕ, ◌+◌, ◌-◌, ◌*◌, ◌≤◌, ◌<◌}
+use mathlib.Core.Path.{◌≡◌, ap, ◌∙◌}
+use mathlib.Core.List.{List}
+use native.Mathlib.Nat.{add-zero}
+use native.Mathlib.Omega.{arith}
+use lib.Ieee.{Float}
+use lib.ListN.{length}
+use Rattle.model.specs.Limits.{most_subdivisions}
+use Rattle.model.specs.Mesh.{transition_reads}
+use Rattle.grid.specs.declared.face_walk.FaceWalk.{FaceWalk}
+use Rattle.cases.specs.declared.transition.Lines.{Lines}
+use Rattle.cases.specs.Sheets.{row_start, sheet_places, Sheet}
+use Rattle.cases.specs.Marks.{all_transition, mark_of}
+use Rattle.cases.specs.Faces.{nine_inside, OnWalk}
+use Rattle.cases.specs.RowPlaces.{row_fits}
+use Rattle.cases.specs.Rows.{row_as, one_more_row}
+use Rattle.cases.proofs.transition.rows_on.Goals as goal
+use Rattle.cases.proofs.transition.rows_on.Goals.{In-loop-u}
+
+record SoFar (n : ℕ) (threshold : Float) (fine : List Float) (walk : FaceWalk) (rows : ℕ) (cases₀ marks₀ : List ℕ) (at : ℕ) (cases marks : List ℕ) (reads u : ℕ)
+    : Type 0 where
+  within : u ≤ rows
+  cases_long : length cases ≡ sheet_places
+  marks_long : length marks ≡ sheet_places
+  numbers : (case : ℕ → ℕ → ℕ) → OnWalk case threshold fine n walk rows at → Sheet case n at cases₀ → Sheet case n (at + u) cases
+  marked : (case : ℕ → ℕ → ℕ) → OnWalk case threshold fine n walk rows at → Sheet (λ j k. mark_of all_transition (case j k)) n at marks₀
+      → Sheet (λ j k. mark_of all_transition (case j k)) n (at + u) marks
+  reads_are : reads ≡ transition_reads * n * u
+  reads-few : reads ≤ transition_reads * most_subdivisions * u
+
+-- the row is one of the sheet's
+row_is : (c : In-loop-u) → c.args.at + (c.loop-u.u) < c.args.n
+row_is c = omega (arith, c.loop-u-test.true, c.requires.0.1.0)
+
+row_within : (c : In-loop-u) → row_start c.args.n (c.args.at + (c.loop-u.u)) + c.args.n ≤ sheet_places
+row_within c = omega (arith, row_fits _ _ c.requires.0.0 (row_is c))
+
+pub loop-u-init : goal.loop-u-init
+loop-u-init c =
+    record {
+      within = omega arith;
+      cases_long = omega arith;
+      marks_long = omega arith;
+      numbers = λ case on first. simp add-zero first;
+      marked = λ case on first. simp add-zero first;
+      reads_are = omega arith;
+      reads-few = omega arith;
+    }
+
+pub lines_at-lines-requires : goal.lines_at-lines-requires
+lines_at-lines-requires c =
+    let leads = c.requires.1.leads in
+    let taken = c.loop-u-test.true in
+    (omega (arith, row_is c, c.requires.0.0), (leads _ (omega (arith, taken)), (leads _ (omega (arith, taken)), leads _ (omega (arith, taken)))))
+
+pub overflow_add-start-in-loop-u : goal.overflow_add-start-in-loop-u
+overflow_add-start-in-loop-u c = omega (arith, row_is (goal.at.overflow_add-start-in-loop-u c).In-loop-u, c.requires.0.0)
+
+pub overflow_mul-start : goal.overflow_mul-start
+overflow_mul-start c = omega (arith, row_within (goal.at.overflow_mul-start c).In-loop-u)
+
+pub row_on-reads-requires : goal.row_on-reads-requires
+row_on-reads-requires c =
+    let so_far = c.loop-u.invariant in
+    let within = row_within (goal.at.row_on-reads-requires c).In-loop-u in (
+      (c.requires.0.0, (omega (arith, within, so_far.cases_long), omega (arith, within, so_far.marks_long))),
+      λ v2 h. rw c.lines_at-lines.ensures (c.requires.1.lined (c.loop-u.u) v2 c.loop-u-test.true h),
+    )
+
+pub overflow_add-reads : goal.overflow_add-reads
+overflow_add-reads c =
+    omega (arith, c.loop-u.invariant.reads-few, c.row_on-reads.ensures.1.1, row_is (goal.at.overflow_add-reads c).In-loop-u, c.requires.0.0)
+
+pub overflow_add-u : goal.overflow_add-u
+overflow_add-u c = omega (arith, row_is (goal.at.overflow_add-u c).In-loop-u, c.requires.0.0)
+
+pub loop-u-smaller : goal.loop-u-smaller
+loop-u-smaller c = omega (arith, c.loop-u-test.true)
+
+pub loop-u-preserved : goal.loop-u-preserved
+loop-u-preserved c =
+    let a = c.args in
+    let so_far = c.loop-u.invariant in
+    let lines = c.lines_at-lines.ensures in
+    let row = c.row_on-reads in
+    let next : a.at + c.loop-u.u + 1 ≡ a.at + (c.loop-u.u + 1) = omega arith in
+    let number : (case : ℕ → ℕ → ℕ) → OnWalk case a.threshold a.fine.now a.n a.walk a.rows a.at → (v : ℕ) → v < a.n
+    → nine_inside a.threshold a.fine.now c.lines_at-lines.result v ≡ case (a.at + c.loop-u.u) v =
+    λ case on v h. ap (λ (l : Lines). nine_inside a.threshold a.fine.now l v) lines ∙ on.number (c.loop-u.u) v c.loop-u-test.true h in
+    record {
+      within = omega (arith, c.loop-u-test.true);
+      cases_long = row.auto.1.1.1.1.0 ∙ so_far.cases_long;
+      marks_long = row.auto.1.1.1.1.1.0 ∙ so_far.marks_long;
+      numbers = λ case on first.
+          rw next at (one_more_row _ _ (a.at + c.loop-u.u) _ _ (row_as (number case on) row.ensures.0) (so_far.numbers case on first));
+      marked = λ case on first.
+          rw next at
+          (one_more_row _ _ (a.at + c.loop-u.u) _ _ (row_as (λ v h. ap (mark_of all_transition) (number case on v h)) row.ensures.1.0) (so_far.marked case on first));
+      reads_are = omega (arith, row.ensures.1.1, so_far.reads_are);
+      reads-few = omega (arith, row.ensures.1.1, so_far.reads-few, c.requires.0.0);
+    }
+
+pub shape_of-cases : goal.shape_of-cases
+shape_of-cases c = omega arith
+
+pub shape_of-marks : goal.shape_of-marks
+shape_of-marks c = omega arith
+
+pub returns : goal.returns
+returns c =
+    let so_far = c.loop-u.invariant in
+    let p = c.requires.0 in
+    let end : c.loop-u.u ≡ c.args.rows = omega (arith, c.loop-u-test.false, so_far.within) in (
+      λ case on first. rw end at (so_far.numbers case on first),
+      (
+        λ case on first. rw end at (so_far.marked case on first),
+        (rw end at so_far.reads_are, omega (arith, so_far.reads-few, so_far.within, p.0, p.1.0)),
+      ),
+    )

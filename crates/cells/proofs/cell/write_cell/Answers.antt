@@ -1,0 +1,45 @@
+-- `cell::write_cell` meets its contract: the vertices and then the triangles make the cell. The winding plays no part in the
+-- vertices. Assumes nothing.
+use mathlib.Core.Path.{refl}
+use native.Mathlib.Omega.{arith}
+use Rattle.model.specs.Mesh.{fill_to, triangle_of}
+use Rattle.model.specs.Star.{star}
+use Rattle.cells.specs.Fills.{cell_put}
+use Rattle.codes.specs.Kinds.{cell_of}
+use Rattle.cells.specs.Rows.{row_triangle}
+use Rattle.cells.proofs.cell.write_cell.Goals as goal
+
+pub fill_cell-filled-requires : goal.fill_cell-filled-requires
+unfolding fill_to
+fill_cell-filled-requires c =
+    let p = c.requires in
+    (p.0, ((omega (arith, p.1.0.1), (p.1.0.1.few_vertices, p.1.0.0)), (p.1.1.0, p.1.1.1.0)))
+
+pub put_edges-requires : goal.put_edges-requires
+put_edges-requires c =
+    let p = c.requires in
+    ((p.0.centred.parts.few, (p.0.placed, omega (arith, p.1.1.1.0.short))), (omega (arith, p.1.0.1), (p.1.0.1.few_vertices, p.1.0.0)))
+
+pub put_triangles-made-requires : goal.put_triangles-made-requires
+put_triangles-made-requires c =
+    let p = c.requires in
+    (p.1.0.1, p.1.1.1.1.0)
+
+pub overflow_add-reads : goal.overflow_add-reads
+unfolding fill_to
+overflow_add-reads c =
+    let p = c.requires.1.1.1 in
+    let put = c.fill_cell-filled.ensures in
+    omega (arith, p.0.short, p.1.1, put.reads_are)
+
+pub returns : goal.returns
+unfolding fill_to triangle_of row_triangle
+returns c =
+    let a = c.args in
+    let put = c.put_triangles-made.ensures in
+    let s = star a.header a.centre.now a.neighbours.now in
+    let cell = cell_of s a.at a.codes.now a.row.now a.turned in (
+      cell_put cell a.counts.vertices-1 a.counts.triangles-1 a.vertices-1.now a.triangles-1.now a.store-1.now _ _ _ _ _ _ _ _ _ c.requires.1.1.1.1.1
+          c.fill_cell-filled.ensures put.0 put.1,
+      c.put_edges.ensures s a.turned a.store-1.now refl,
+    )

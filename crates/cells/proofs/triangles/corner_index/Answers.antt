@@ -1,0 +1,17 @@
+-- `triangles::corner_index` meets its contract: the row says that each corner is one of twelve. Assumes nothing.
+use Prim.Native.Nat.{ℕ}
+use mathlib.Core.Path.{ap}
+use native.Mathlib.Omega.{arith}
+use lib.ListN.{get_or}
+use Rattle.cells.proofs.triangles.corner_index.Goals as goal
+
+pub offset_bounds-index-at : goal.offset_bounds-index-at
+offset_bounds-index-at c =
+    omega (arith, c.requires.0.corner_in c.args.j c.requires.1)
+
+pub bounds-index-at : goal.bounds-index-at
+bounds-index-at c =
+    omega (arith, c.requires.0.corner_in c.args.j c.requires.1)
+
+pub returns : goal.returns
+returns c = ap (λ (k : ℕ). get_or c.args.index.now k 0) c.wide-at.ensures.0

@@ -1,0 +1,23 @@
+-- `count_regular_cells` meets its contract: what each layer adds is added up, those passed over add nothing, and the pairs go with the walk.
+use Prim.Native.Nat.{◌-◌, ◌*◌, ◌≤◌}
+use mathlib.Core.Path.{◌≡◌}
+use mathlib.Core.List.{List, []}
+use lib.Ieee.{Float}
+use lib.ListN.{length}
+use Rattle.laws.specs.Steps.{iterate}
+use Rattle.model.specs.Star.{star}
+use Rattle.model.specs.Mesh.{regular_layer}
+use Rattle.cases.specs.Sheets.{sheet_places}
+use Rattle.cases.specs.Pairs.{point_bit, Upper}
+use Rattle.counting.proofs.Growth.{Come}
+use Rattle.counting.proofs.count_regular_cells.Given as goal
+
+abbrev pub invariant-loop-x : goal.invariant-loop-x
+invariant-loop-x l =
+    (l.paired ≤ l.n)
+    × (length l.cases ≡ sheet_places)
+    × Upper l.n (point_bit (star l.header l.centre []) paired) l.cases
+    × Come (sheet_places * l.paired) (λ (ns : List Float). iterate (regular_layer (star l.header l.centre ns)) l.paired) l.marks l.counts l.x
+
+abbrev pub decreases-loop-x : goal.decreases-loop-x
+decreases-loop-x l = l.n - l.paired

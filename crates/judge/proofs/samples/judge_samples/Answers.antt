@@ -1,0 +1,12 @@
+-- `judge::samples::judge_samples` meets its contract: the two lists are judged one after the other, and pass if all can be used.
+use Rattle.judge.specs.Counted.{both_usable, one-after-the-other}
+use Rattle.judge.proofs.samples.judge_samples.Goals as goal
+
+pub returns-then-all_usable : goal.returns-then-all_usable
+returns-then-all_usable c =
+    let lent = c.args in
+    both_usable lent.centre.now lent.neighbours.now c.all_usable.ensures c.all_usable-2.ensures
+    c.if-all_usable.true
+
+pub returns : goal.returns
+returns c = rw (one-after-the-other, c.or_else.ensures, c.first_bad.ensures, c.first_bad-2.ensures)

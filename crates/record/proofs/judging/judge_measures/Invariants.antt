@@ -1,0 +1,17 @@
+-- `judge_measures` meets its contract. The loop's invariant: no measure passed is refused.
+use Prim.Native.Nat.{ℕ, ◌-◌, ◌≤◌}
+use mathlib.Core.Path.{◌≡◌}
+use mathlib.Core.List.{List}
+use Rattle.model.specs.declared.Refusal.TheVariants.{Measure}
+use Rattle.model.specs.declared.Verdict.{Verdict}
+use Rattle.model.specs.declared.Verdict.TheVariants.{Passed}
+use Rattle.model.specs.Refusals.{unless, first}
+use Rattle.model.specs.Judging.{measure_usable}
+use Rattle.model.specs.Record.{header_of}
+use Rattle.record.proofs.judging.judge_measures.Given as goal
+
+abbrev judged : List ℕ → ℕ → Verdict
+judged bytes which = unless (measure_usable (header_of bytes).block (header_of bytes).threshold which) (Measure which)
+
+abbrev pub invariant-loop-which : goal.invariant-loop-which
+invariant-loop-which l = (l.which ≤ 5) × (first (judged l.bytes) l.which ≡ Passed)

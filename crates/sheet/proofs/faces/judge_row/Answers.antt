@@ -1,0 +1,62 @@
+-- `faces::judge_row` meets its contract. The loop's invariant: no point passed over differs.
+use Prim.Native.Nat.{◌+◌, ◌-◌, ◌≤◌}
+use mathlib.Core.Path.{◌≡◌, refl, sym, ◌∙◌}
+use native.Mathlib.Omega.{arith}
+use borrow.Author.Tests.{not-true, not-false}
+use Rattle.model.specs.declared.Refusal.TheVariants.{FaceMismatch}
+use Rattle.model.specs.declared.Verdict.TheVariants.{Passed, Refused}
+use Rattle.model.specs.Judging.{faces_agree, face_spot}
+use Rattle.model.specs.Record.{samples_of, star_of}
+use Rattle.judge.specs.First.{not_yet, hit}
+use Rattle.sheet.specs.Faces.{agree_on, RowLined, row_lined}
+use Rattle.sheet.proofs.faces.judge_row.Goals as goal
+use Rattle.sheet.proofs.faces.judge_row.Goals.{After-spot_agrees, In-loop-v, Start}
+
+lined : (e : Start) → RowLined e.args.src.now e.args.header e.args.side e.args.u
+lined e = row_lined e.args.src.now e.args.side e.args.u e.args.header e.requires.1.0 e.requires.1.1.0 e.requires.1.1.1
+
+on_row : (c : In-loop-v) → (c.loop-v.v) ≤ c.args.header.block.subdivisions
+on_row c = omega (arith, c.loop-v-test.true)
+
+lined_at_after_spot_agrees : (e : After-spot_agrees) → RowLined e.args.src.now e.args.header e.args.side e.args.u
+lined_at_after_spot_agrees e = row_lined e.args.src.now e.args.side e.args.u e.args.header e.requires.1.0 e.requires.1.1.0 e.requires.1.1.1
+
+on_row_at_after_spot_agrees : (c : After-spot_agrees) → (c.loop-v.v) ≤ c.args.header.block.subdivisions
+on_row_at_after_spot_agrees c = omega (arith, c.loop-v-test.true)
+
+-- what is found of a point is what the definition compares
+told : (c : After-spot_agrees) → c.spot_agrees.result ≡ faces_agree (star_of c.args.src.now) c.args.side c.args.u (c.loop-v.v)
+told c =
+    c.spot_agrees.ensures
+    ∙ (λ i. agree_on c.args.header.threshold (samples_of c.args.src.now) (c.coarse_line-coarse.ensures i) (c.fine_line-fine.ensures i) (c.loop-v.v))
+    ∙ (lined_at_after_spot_agrees c).agree (c.loop-v.v) (on_row_at_after_spot_agrees c)
+
+pub loop-v-init : goal.loop-v-init
+loop-v-init c = (omega arith, refl)
+
+pub spot_agrees-requires : goal.spot_agrees-requires
+spot_agrees-requires c = (
+  (c.requires.0, omega (arith, on_row c, c.requires.1.1.0.few)),
+  (
+    rw c.coarse_line-coarse.ensures ((lined (goal.at.spot_agrees-requires c).Start).coarse (c.loop-v.v) (on_row c)),
+    rw c.fine_line-fine.ensures ((lined (goal.at.spot_agrees-requires c).Start).fine (c.loop-v.v) (on_row c)),
+  ),
+)
+
+pub returns-then-not-spot_agrees : goal.returns-then-not-spot_agrees
+returns-then-not-spot_agrees c =
+    let at-spot = FaceMismatch (record { side = c.args.side; u = c.args.u; v = c.loop-v.v }) in
+    let found : (face_spot (star_of c.args.src.now) c.args.side c.args.u) (c.loop-v.v) ≡ Refused at-spot = rw (← told (goal.at.returns-then-not-spot_agrees c).After-spot_agrees, not-true c.spot_agrees.result c.if-not-spot_agrees.true) in
+    sym (hit ((face_spot (star_of c.args.src.now) c.args.side c.args.u)) (c.loop-v.v) (c.args.header.block.subdivisions + 1) at-spot c.loop-v.invariant.1 found c.loop-v-test.true)
+
+pub loop-v-preserved : goal.loop-v-preserved
+loop-v-preserved c =
+    let turn = c.loop-v in
+    let passed : (face_spot (star_of c.args.src.now) c.args.side c.args.u) turn.v ≡ Passed = rw (← told (goal.at.loop-v-preserved c).After-spot_agrees, not-false c.spot_agrees.result c.if-not-spot_agrees.false) in
+    (omega (arith, c.loop-v-test.true), not_yet ((face_spot (star_of c.args.src.now) c.args.side c.args.u)) turn.v turn.invariant.1 passed)
+
+pub returns : goal.returns
+returns c =
+    let turn = c.loop-v in
+    let end : turn.v ≡ c.args.header.block.subdivisions + 1 = omega (arith, c.loop-v-test.false) in
+    sym (rw end at turn.invariant.1)

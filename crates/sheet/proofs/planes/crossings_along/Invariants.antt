@@ -1,0 +1,18 @@
+-- `planes::crossings_along` meets its contract. The loop's invariant: what is found is the sum over the lines passed.
+use Prim.Native.Nat.{ℕ, ◌+◌, ◌-◌, ◌*◌, ◌≤◌}
+use mathlib.Core.Path.{◌≡◌}
+use Rattle.laws.specs.Steps.{total}
+use Rattle.model.specs.Star.{Star, subdivisions}
+use Rattle.sheet.specs.Definition.{crosses_z}
+use Rattle.cases.specs.Sheets.{Measured, Plane}
+use Rattle.sheet.proofs.planes.crossings_along.Given as goal
+
+abbrev inLine : Star → ℕ → ℕ → ℕ
+inLine s x y = total (crosses_z s x y) (subdivisions s)
+
+abbrev pub invariant-loop-y : goal.invariant-loop-y
+invariant-loop-y l =
+    (l.y ≤ l.n + 1) × ((l.found ≤ l.n * l.y) × ((s : Star) (x : ℕ) → Measured s l.n l.threshold → Plane s x l.plane → l.found ≡ total (inLine s x) l.y))
+
+abbrev pub decreases-loop-y : goal.decreases-loop-y
+decreases-loop-y l = l.n + 1 - l.y

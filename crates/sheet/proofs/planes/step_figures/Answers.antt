@@ -1,0 +1,50 @@
+-- `planes::step_figures` meets its contract.
+use Prim.Native.Nat.{◌+◌, ◌*◌, ◌≤◌}
+use mathlib.Core.Path.{◌≡◌, ◌∙◌}
+use native.Mathlib.Omega.{arith}
+use Rattle.laws.specs.Sums.{square}
+use Rattle.model.specs.Star.{subdivisions}
+use Rattle.sheet.specs.Definition.{crosses_x}
+use Rattle.cases.specs.RowPlaces.{layer_fits}
+use Rattle.sheet.specs.Planes.{plane_places, crossing_sum, measured, plane_across}
+use Rattle.sheet.proofs.planes.step_figures.Goals as goal
+use Rattle.sheet.proofs.planes.step_figures.Goals.{Start}
+
+few : (e : Start) → (e.args.n + 1) * (e.args.n + 1) ≤ plane_places
+few e = layer_fits e.args.n e.requires.0
+
+pub overflow_mul-n : goal.overflow_mul-n
+overflow_mul-n c = omega (arith, few (goal.at.overflow_mul-n c).Start)
+
+pub crossings-x-requires : goal.crossings-x-requires
+crossings-x-requires c =
+    (omega (arith, few (goal.at.crossings-x-requires c).Start, c.requires.1.0.0), (omega (arith, few (goal.at.crossings-x-requires c).Start, c.requires.1.0.1), omega (arith, few (goal.at.crossings-x-requires c).Start)))
+
+pub returns : goal.returns
+returns c =
+    let a = c.args in
+    let plane = c.plane_figures-plane.ensures in
+    let across = c.crossings-x.ensures in (
+      record {
+        inside = plane.0.inside;
+        x = omega (arith, across.1, few (goal.at.returns c).Start);
+        y = plane.0.y;
+        z = plane.0.z;
+        vertices = omega (arith, c.requires.1.1.vertices);
+        triangles = omega (arith, c.requires.1.1.triangles);
+      },
+      λ s x is p q counted.
+          let above = plane.1 s (x + 1) is q in
+          let across-are =
+          across.0
+          ∙ measured s a.n a.threshold
+          (λ k t. crossing_sum t a.low.now 0 a.high.now 0 ((k + 1) * (k + 1)) ≡ square (crosses_x s x) (subdivisions s + 1)) is
+          (plane_across s x a.low.now a.high.now p q) in
+          λ i.
+          record {
+            inside = (above i).inside;
+            edges = record { x = across-are i; y = (above i).edges.y; z = (above i).edges.z };
+            vertices = counted.vertices_are i;
+            triangles = counted.triangles_are i;
+          },
+    )

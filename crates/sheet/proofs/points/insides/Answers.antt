@@ -1,0 +1,28 @@
+-- `points::insides` meets its contract. The loop's invariant: what is found is the sum over the samples passed.
+use Prim.Native.Nat.{ℕ, ◌+◌, ◌-◌}
+use mathlib.Core.Path.{◌≡◌, refl, ap₂}
+use mathlib.Core.List.{List}
+use native.Mathlib.Numerals.{add-one}
+use native.Mathlib.Omega.{arith}
+use lib.Ieee.{Float, nan}
+use lib.ListN.{get_or}
+use Rattle.model.specs.Formulas.{inside_bit}
+use Rattle.sheet.proofs.points.insides.Goals as goal
+
+abbrev bit : Float → List Float → ℕ → ℕ
+bit threshold samples k = inside_bit threshold (get_or samples k nan)
+
+pub loop-k-init : goal.loop-k-init
+loop-k-init c = (omega arith, (refl, omega arith))
+
+pub loop-k-preserved : goal.loop-k-preserved
+loop-k-preserved c =
+    let turn = c.loop-k in
+    let found = c.inside_bit-found.ensures in
+    (omega (arith, c.loop-k-test.true), (rw add-one (ap₂ ◌+◌ turn.invariant.1.0 found.0), omega (arith, found.1)))
+
+pub returns : goal.returns
+returns c =
+    let turn = c.loop-k in
+    let end : turn.k ≡ c.args.count = omega (arith, c.loop-k-test.false) in
+    (rw end at turn.invariant.1.0, omega arith)

@@ -1,0 +1,17 @@
+-- `inner_vertex` meets its contract: its two points are corners that no block face touches. Assumes nothing.
+use Rattle.model.specs.Star.{star}
+use Rattle.vertices.specs.Making.{regular_made}
+use Rattle.vertices.proofs.Inners.{corner_inside_lem}
+use Rattle.vertices.proofs.inner_vertex.Goals as goal
+
+pub vertex_inside-requires : goal.vertex_inside-requires
+vertex_inside-requires c =
+    let inner = c.requires.1.0 in
+    (c.requires.0, (corner_inside_lem inner _ _ c.corner_point-a.ensures, corner_inside_lem inner _ _ c.corner_point-b.ensures))
+
+pub returns : goal.returns
+returns c =
+    let a = c.args in
+    λ ns. regular_made (star a.header a.centre.now ns) a.at.x a.at.y a.at.z a.code _ _ _ _ _
+    c.voxel_a_index.ensures.0 c.voxel_b_index.ensures.0 c.corner_point-a.ensures c.corner_point-b.ensures
+    (c.vertex_inside.ensures ns)

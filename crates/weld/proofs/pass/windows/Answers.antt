@@ -1,0 +1,118 @@
+-- `pass::windows` meets its contract. The invariant: the vertices of the windows passed are welded, and the corners that name them renumbered.
+-- Assumes nothing.
+use Prim.Native.Nat.{◌-◌}
+use mathlib.Core.Path.{◌≡◌, refl, ◌∙◌}
+use native.Mathlib.Omega.{arith}
+use Rattle.weld.specs.Leaves.{Room, Tables, AsLong}
+use Rattle.weld.specs.Seen.{noted_none}
+use Rattle.weld.specs.Corners.{welded_none, all_welded_more}
+use Rattle.weld.proofs.pass.windows.Goals as goal
+use Rattle.weld.proofs.pass.windows.Goals.{After-close-k, After-window_end-end, In-loop-start}
+
+tables : (c : In-loop-start) → let l = c.loop-start in Tables l.seen-1 l.hints-1
+tables c =
+    let given = c.requires.1.0 in
+    let as_long = c.loop-start.invariant.as_long in
+    record { words = omega (arith, given.words, as_long.seen_same); slots = omega (arith, given.slots, as_long.hints_same) }
+
+-- the window that begins here has room
+room : (c : After-window_end-end) → let l = c.loop-start in
+    Room l.start c.window_end-end.result l.k l.vertices-1 l.edges-1 l.table-1
+room c =
+    let l = c.loop-start in
+    let given = c.requires.0 in
+    let end = c.window_end-end.ensures in
+    let as_long = l.invariant.as_long in
+    record {
+      few = l.invariant.few;
+      ordered = omega (arith, end.0);
+      in_table = omega (arith, end.1.1, as_long.table_same, l.invariant.places_are);
+      short = omega (arith, end.1.0, given.short);
+      in_edges = omega (arith, end.1.0, given.in_edges, as_long.edges_same);
+      in_vertices = omega (arith, end.1.0, given.in_vertices, as_long.vertices_same);
+    }
+
+-- it is closed, and all five lists are as long as they were
+still-long : (c : After-close-k) → let l = c.loop-start in let last = c.close-k.new.1.1.1 in
+    AsLong l.vertices-1 last.0 l.edges-1 last.1.0 l.seen-1 last.1.1.0 l.hints-1 last.1.1.1.0 l.table-1 last.1.1.1.1.0
+still-long c =
+    let kept = c.close-k.auto.1.1.1 in
+    record { vertices_same = kept.0; edges_same = kept.1.0; seen_same = kept.1.1.0; hints_same = kept.1.1.1.0; table_same = kept.1.1.1.1.0 }
+
+pub loop-start-init : goal.loop-start-init
+loop-start-init c =
+    let a = c.args in
+    record {
+      within = omega arith;
+      few = omega arith;
+      places_are = refl;
+      triangles_same = refl;
+      as_long = record { vertices_same = refl; edges_same = refl; seen_same = refl; hints_same = refl; table_same = refl };
+      noted = noted_none a.seen-1.now a.edges-1.now;
+      welded = welded_none a.vertices-1.now a.triangles-1.now a.edges-1.now;
+    }
+
+pub window_end-end-requires : goal.window_end-end-requires
+window_end-end-requires c = (c.loop-start-test.true, omega (arith, c.requires.1.1, c.loop-start.invariant.places_are))
+
+pub close-k-requires : goal.close-k-requires
+close-k-requires c =
+    ((room (goal.at.close-k-requires c).After-window_end-end, tables (goal.at.close-k-requires c).In-loop-start), c.loop-start.invariant.noted)
+
+pub renumber-requires : goal.renumber-requires
+renumber-requires c =
+    omega (arith, (room (goal.at.renumber-requires c).After-window_end-end).in_table, (still-long (goal.at.renumber-requires c).After-close-k).table_same)
+
+pub loop-start-smaller : goal.loop-start-smaller
+loop-start-smaller c =
+    omega (arith, c.window_end-end.ensures, c.loop-start-test.true)
+
+pub loop-start-preserved : goal.loop-start-preserved
+loop-start-preserved c =
+    let a = c.args in
+    let l = c.loop-start in
+    let end = c.window_end-end in
+    let close = c.close-k in
+    let renumber = c.renumber in
+    let as_long = l.invariant.as_long in
+    let still = still-long (goal.at.loop-start-preserved c).After-close-k in
+    record {
+      within = end.ensures.1.0;
+      few = close.ensures.within;
+      places_are = l.invariant.places_are;
+      triangles_same = renumber.auto.1.1.1.0 ∙ l.invariant.triangles_same;
+      as_long = record {
+        vertices_same = still.vertices_same ∙ as_long.vertices_same;
+        edges_same = still.edges_same ∙ as_long.edges_same;
+        seen_same = still.seen_same ∙ as_long.seen_same;
+        hints_same = still.hints_same ∙ as_long.hints_same;
+        table_same = still.table_same ∙ as_long.table_same;
+      };
+      noted = close.ensures.noted;
+      welded = all_welded_more l.start end.result a.vertices-1.now a.triangles-1.now a.edges-1.now l.k l.vertices-1 l.triangles-1 l.edges-1
+          (room (goal.at.loop-start-preserved c).After-window_end-end).ordered as_long.edges_same as_long.vertices_same l.invariant.welded close.result _ _ _ _ _ close.ensures renumber.ensures;
+    }
+
+pub shape_of-vertices : goal.shape_of-vertices
+shape_of-vertices c = c.loop-start.invariant.as_long.vertices_same
+
+pub shape_of-triangles : goal.shape_of-triangles
+shape_of-triangles c = c.loop-start.invariant.triangles_same
+
+pub shape_of-edges : goal.shape_of-edges
+shape_of-edges c = c.loop-start.invariant.as_long.edges_same
+
+pub shape_of-seen : goal.shape_of-seen
+shape_of-seen c = c.loop-start.invariant.as_long.seen_same
+
+pub shape_of-hints : goal.shape_of-hints
+shape_of-hints c = c.loop-start.invariant.as_long.hints_same
+
+pub shape_of-table : goal.shape_of-table
+shape_of-table c = c.loop-start.invariant.as_long.table_same
+
+pub returns : goal.returns
+returns c =
+    let l = c.loop-start in
+    let all : l.start ≡ c.args.v = omega (arith, l.invariant.within) in
+    rw all at l.invariant.welded

@@ -1,0 +1,9 @@
+-- `seen::note` meets its contract: the bit that is set is the number's, and the others stay. Assumes nothing.
+use Rattle.weld.specs.Seen.{marked}
+use Rattle.weld.proofs.seen.note.Goals as goal
+
+pub returns : goal.returns
+returns c =
+    let a = c.args in
+    let slot = c.slot-word in
+    rw slot.ensures.0 (marked a.seen.now a.number (rw slot.ensures.0 at slot.ensures.1))
