@@ -13,7 +13,7 @@ use Rattle.laws.specs.Below.{all_below, each_below}
 use Rattle.laws.specs.Ranges.{both_ways, beq_eq, eq_beq, then_given, then_of, none_or_all, hold_all}
 use Rattle.model.specs.declared.Verdict.TheVariants.{Passed}
 use Rattle.model.specs.Limits.{side_count}
-use Rattle.model.specs.Samples.{inBlock}
+use Rattle.model.specs.Samples.{in_block}
 use Rattle.model.specs.Sides.{named}
 use Rattle.model.specs.Rotations.{xyz}
 use Rattle.model.specs.Formulas.{inside, inside_bit}
@@ -22,7 +22,7 @@ use Rattle.model.specs.Points.{fine_sample}
 use Rattle.model.specs.Judging.{judge_faces}
 use Rattle.model.specs.Mesh.{mesh_of}
 use Rattle.model.specs.Blank.{lies_as, centre_as, side_as, sides_as, is_blank, blank_before}
-use Rattle.grid.specs.Places.{in_block, sample_is}
+use Rattle.grid.specs.Places.{in_block_lem, sample_is}
 use Rattle.blankness.specs.Weights.{alike, of_alike, by_ones, all_ones}
 use Rattle.blankness.specs.OneSide.{centre_in, fine_in, OneSide, one_side_none, none_one_side}
 
@@ -38,7 +38,7 @@ rows_all Q m (suc a) h k l = go (dec_lt k (m * a)) (λ b. rows_all Q m a (λ i j
         let e : m * a + (k - m * a) ≡ k = omega arith in
         rw e at (h a (k - m * a) (le_refl _) (omega (arith, mul-suc m a)))
 
-points_all : (Q : ℕ → Type 0) (n : ℕ) → ((x y z : ℕ) → x ≤ n → y ≤ n → z ≤ n → Q (inBlock n x y z))
+points_all : (Q : ℕ → Type 0) (n : ℕ) → ((x y z : ℕ) → x ≤ n → y ≤ n → z ≤ n → Q (in_block n x y z))
     → (k : ℕ) → k < (n + 1) * (n + 1) * (n + 1) → Q k
 points_all Q n h =
     rows_all Q ((n + 1) * (n + 1)) (n + 1)
@@ -58,14 +58,14 @@ module _ (s : Star) where
   abbrev place_in : ℕ → Bool
   place_in k = inside s.threshold (get_or s.centre k nan)
 
-  place_point : (x y z : ℕ) → x ≤ n → y ≤ n → z ≤ n → place_in (inBlock n x y z) ≡ centre_in s x y z
+  place_point : (x y z : ℕ) → x ≤ n → y ≤ n → z ≤ n → place_in (in_block n x y z) ≡ centre_in s x y z
   unfolding centre_in
   place_point x y z hx hy hz =
       ap (inside s.threshold) (sym (sample_is n s.centre (xyz x y z) (record { x_in = hx; y_in = hy; z_in = hz })))
 
   first_point : place_in 0 ≡ centre_in s 0 0 0
   first_point =
-      let e : inBlock n 0 0 0 ≡ 0 = omega (arith, mul-zero ((n + 1) * (n + 1)), mul-zero (n + 1)) in
+      let e : in_block n 0 0 0 ≡ 0 = omega (arith, mul-zero ((n + 1) * (n + 1)), mul-zero (n + 1)) in
       rw e at (place_point 0 0 0 (omega arith) (omega arith) (omega arith))
 
   -- ---- the definition goes by tests; what it says of the points
@@ -86,7 +86,7 @@ module _ (s : Star) where
         record {
           centre = λ x y z hx hy hz.
               sym (place_point x y z hx hy hz)
-              ∙ beq_eq _ _ (each_below (place_test b) points (inBlock n x y z) c (in_block n x y z hx hy hz));
+              ∙ beq_eq _ _ (each_below (place_test b) points (in_block n x y z) c (in_block_lem n x y z hx hy hz));
           fine = λ side hs is_named u2 v2 hu hv.
               let whole = then_given (named s.mask side) _ (each_below side_test side_count side f hs) is_named in
               let row = each_below (λ u2. all_below (spot_test side u2) (2 * n + 1)) (2 * n + 1) u2 whole (omega arith) in

@@ -6,7 +6,7 @@ use Rattle.std.specs.Float.{nan}
 use borrow.Author.Tests.{le-leb, eq-eqb, ne_eqb, leb-true, leb-false, eqb-true, eqb-false}
 use Rattle.model.specs.Limits.{most_fine, side_count}
 use Rattle.model.specs.declared.Xyz.{Xyz}
-use Rattle.model.specs.Samples.{sample_length, inBlock, on_face, place_of, outside, sampled, reading_at, value_at, sample_of}
+use Rattle.model.specs.Samples.{sample_length, in_block, on_face, place_of, outside, sampled, reading_at, value_at, sample_of}
 
 -- a point of the block
 pub record Within (n : ℕ) (p : Xyz) : Type 0 where
@@ -34,8 +34,8 @@ in_grid {x} {y} {m} hx hy =
     omega (arith, mul-add m x 1)
 
 module _ (n : ℕ) where
-  pub in_block : (x y z : ℕ) → x ≤ n → y ≤ n → z ≤ n → inBlock n x y z < (n + 1) * (n + 1) * (n + 1)
-  in_block x y z hx hy hz =
+  pub in_block_lem : (x y z : ℕ) → x ≤ n → y ≤ n → z ≤ n → in_block n x y z < (n + 1) * (n + 1) * (n + 1)
+  in_block_lem x y z hx hy hz =
       let m = n + 1 in
       let row : m * y + z < m * m = in_grid (omega arith) (omega arith) in
       let layer : m * m * (x + 1) ≤ m * m * m = mul-le-mul_left (m * m) (omega arith) in
@@ -126,7 +126,7 @@ module _ (n x y z : ℕ) where
   unfolding place_of
   place_across_z ex ey ez = in_leaves n x _ _ _ ex ∙ in_leaves n y _ _ _ ey ∙ out_picks n z _ _ _ ez
 
-  pub place_inner : outside n x ≡ 0 → outside n y ≡ 0 → outside n z ≡ 0 → place_of n x y z ≡ inBlock n (x - 1) (y - 1) (z - 1)
+  pub place_inner : outside n x ≡ 0 → outside n y ≡ 0 → outside n z ≡ 0 → place_of n x y z ≡ in_block n (x - 1) (y - 1) (z - 1)
   unfolding place_of
   place_inner ex ey ez = in_leaves n x _ _ _ ex ∙ in_leaves n y _ _ _ ey ∙ in_leaves n z _ _ _ ez
 
@@ -147,7 +147,7 @@ module _ (n x y z : ℕ) where
       by_steps (outside n x) (omega arith)
       (λ ex. by_steps (outside n y) (omega arith)
       (λ ey. by_steps (outside n z) (omega arith)
-      (λ ez. rw (place_inner n x y z ex ey ez) (omega (arith, in_block n (x - 1) (y - 1) (z - 1) (at_most x ex) (at_most y ey) (at_most z ez))))
+      (λ ez. rw (place_inner n x y z ex ey ez) (omega (arith, in_block_lem n (x - 1) (y - 1) (z - 1) (at_most x ex) (at_most y ey) (at_most z ez))))
       (λ ez. rw (place_across_z n x y z ex ey ez) (across_in n 4 z x y (omega arith) (inner x ex) (inner y ey))))
       (λ ey. rw (place_across_y n x y z ex ey) (across_in n 2 y x z (omega arith) (inner x ex) (inner z (omega arith)))))
       (λ ex. rw (place_across_x n x y z ex) (across_in n 0 x y z (omega arith) (inner y (omega arith)) (inner z (omega arith))))
@@ -171,13 +171,13 @@ module _ (n x y z : ℕ) where
 
 module _ (n x y z : ℕ) (hx : x ≤ n) (hy : y ≤ n) (hz : z ≤ n) where
   -- the place of an in-block point is one sum
-  pub place_in_block : place_of n (x + 1) (y + 1) (z + 1) ≡ inBlock n x y z
+  pub place_in_block : place_of n (x + 1) (y + 1) (z + 1) ≡ in_block n x y z
   place_in_block =
       let ex : x + 1 - 1 ≡ x = omega arith in
       let ey : y + 1 - 1 ≡ y = omega arith in
       let ez : z + 1 - 1 ≡ z = omega arith in
       place_inner n (x + 1) (y + 1) (z + 1) (here_not_outside n x hx) (here_not_outside n y hy) (here_not_outside n z hz)
-      ∙ (λ i. inBlock n (ex i) (ey i) (ez i))
+      ∙ (λ i. in_block n (ex i) (ey i) (ez i))
 
 -- ---- steps
 
@@ -210,7 +210,7 @@ steps_sampled n p h =
     }
 
 -- so a read of an in-block point is one sum and an index
-pub sample_is : (n : ℕ) (samples : List Float) (p : Xyz) → Within n p → sample_of n samples p ≡ get_or samples (inBlock n p.x p.y p.z) nan
+pub sample_is : (n : ℕ) (samples : List Float) (p : Xyz) → Within n p → sample_of n samples p ≡ get_or samples (in_block n p.x p.y p.z) nan
 sample_is n samples p h =
     value_is n (p.x + 1) (p.y + 1) (p.z + 1) samples (steps_sampled n p h).here
     ∙ ap (λ (k : ℕ). get_or samples k nan) (place_in_block n p.x p.y p.z h.x_in h.y_in h.z_in)

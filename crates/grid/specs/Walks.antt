@@ -7,16 +7,16 @@ use Rattle.std.specs.Float.{nan}
 use Rattle.model.specs.Limits.{most_fine}
 use Rattle.model.specs.declared.Xyz.{Xyz}
 use Rattle.model.specs.declared.Direction.{Direction}
-use Rattle.model.specs.Samples.{sample_length, inBlock, reading_at, value_of, value_at, sample_of}
+use Rattle.model.specs.Samples.{sample_length, in_block, reading_at, value_of, value_at, sample_of}
 use Rattle.model.specs.Rotations.{rotation_of, point_from}
 use Rattle.grid.specs.declared.face_walk.Stride.{Stride}
 use Rattle.grid.specs.declared.face_walk.FaceWalk.{FaceWalk}
-use Rattle.grid.specs.Places.{Within, small, in_block}
+use Rattle.grid.specs.Places.{Within, small, in_block_lem}
 use Rattle.grid.specs.Kinds.{in_block_reading, in_block_reading_lem}
 use Rattle.grid.specs.RotationLaws.{OnSide, UnitVector, turned, units, point_in}
 
 abbrev pub among : ℕ → Xyz → ℕ
-among m p = inBlock m p.x p.y p.z
+among m p = in_block m p.x p.y p.z
 
 -- the place of the point (u, v, w) of a side among the samples of a block of m subdivisions
 unfoldable pub side_place : ℕ → ℕ → ℕ → ℕ → ℕ → ℕ
@@ -85,7 +85,7 @@ module _ (m k : ℕ) (d : Direction) (to from : Xyz) (steps : Steps k d to from)
     steps_leads : Leads (among m from) (stride_of m d) k
     steps_leads =
         let cube = (small m few).cube in
-        let to-small = in_block m to.x to.y to.z to_in.x_in to_in.y_in to_in.z_in in
+        let to-small = in_block_lem m to.x to.y to.z to_in.x_in to_in.y_in to_in.z_in in
         record { enough = omega (arith, steps_lead); within = omega (arith, steps_lead, down_small, cube, to-small) }
 
     steps_along : along_by (among m from) (stride_of m d) k ≡ among m to
@@ -153,7 +153,7 @@ module _ (m side w : ℕ) where
     spot_in =
         let p = point u v in
         let h = point_in side m u v w on in
-        omega (arith, in_block m p.x p.y p.z h.x_in h.y_in h.z_in)
+        omega (arith, in_block_lem m p.x p.y p.z h.x_in h.y_in h.z_in)
 
     pub spot_reading : (samples : List Float)
         → let p = point u v in in_block_reading samples (side_place m side w u v) ≡ reading_at m samples (p.x + 1) (p.y + 1) (p.z + 1)

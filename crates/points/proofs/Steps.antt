@@ -7,8 +7,8 @@ use native.Mathlib.Omega.{arith}
 use borrow.Author.Tests.{ne_eqb}
 use Rattle.model.specs.declared.Xyz.{Xyz}
 use Rattle.model.specs.Limits.{most_fine, side_count}
-use Rattle.model.specs.Samples.{sample_length, inBlock, on_face, place_of, outside}
-use Rattle.grid.specs.Places.{Within, in_block, place_in, place_in_block, steps_sampled, here_not_outside}
+use Rattle.model.specs.Samples.{sample_length, in_block, on_face, place_of, outside}
+use Rattle.grid.specs.Places.{Within, in_block_lem, place_in, place_in_block, steps_sampled, here_not_outside}
 use Rattle.grid.specs.Places.{across_of, place_across_x, place_across_y, place_across_z}
 use Rattle.points.specs.Steps.{Reach, up_from, down_from}
 use Rattle.points.specs.StepKinds.{by_less, below, above}
@@ -61,7 +61,7 @@ module _ (n : ℕ) (p : Xyz) (h : Within n p) where
   m = n + 1
 
   abbrev here : ℕ
-  here = inBlock n p.x p.y p.z
+  here = in_block n p.x p.y p.z
 
   one_up : (i j : ℕ) → m * (i + 1 - 1) + (j + 1 - 1) ≡ m * i + j
   one_up i j =
@@ -113,7 +113,7 @@ module _ (n : ℕ) (p : Xyz) (h : Within n p) where
   -- the point's own place, and the three axes
   module _ (few : n ≤ most_fine) where
     here_in : here < sample_length n
-    here_in = omega (arith, in_block n p.x p.y p.z h.x_in h.y_in h.z_in)
+    here_in = omega (arith, in_block_lem n p.x p.y p.z h.x_in h.y_in h.z_in)
 
     pub reach_x : Reach n here (m * m) 0 p.x p.y p.z
     reach_x =

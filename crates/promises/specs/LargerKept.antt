@@ -20,7 +20,7 @@ use Rattle.model.specs.Mesh.{store_length, regular_mesh}
 use Rattle.model.specs.Extraction.{outcome, judge_extraction, extract, read_point}
 use Rattle.model.specs.Record.{header_of, count_of, judge_length, judge_version, judge_record, read_answer, read_record, write_record}
 use Rattle.model.specs.Viewer.{subdivisions_answer, blank_answer, record_point, sample_answer}
-use Rattle.grid.specs.Places.{small, in_block, place_in}
+use Rattle.grid.specs.Places.{small, in_block_lem, place_in}
 use Rattle.grid.specs.StorePlaces.{small_store, regular_place_in, transition_place_in}
 use Rattle.closed.specs.Clauses.{edge_at}
 use Rattle.closed.specs.NoHole.{no_hole}
@@ -134,7 +134,7 @@ module _ (s : Star) (few : subdivisions s ≤ most_subdivisions) where
       let l = (no_hole s).lying i h in
       let low = l.on.low in
       let within = l.of_block in
-      let below = in_block n low.x low.y low.z (omega arith) (omega arith) (omega arith) in
+      let below = in_block_lem n low.x low.y low.z (omega arith) (omega arith) (omega arith) in
       let most = mul-le-mul (mul-le-mul m m) m in
       omega (arith, below, most, l.named.held, within.axis_is)
     where

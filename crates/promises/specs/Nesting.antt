@@ -1,8 +1,8 @@
 -- What was promised of places (document 02, [6]), for every block: each is worked out by nesting, one multiply at a time, and no value on the way is above
--- the place itself, so that no width beyond the place's own is needed. It lists the values in the order in which grid's `in_block`, `on_face`,
+-- the place itself, so that no width beyond the place's own is needed. It lists the values in the order in which grid's `in_block_lem`, `on_face`,
 -- `regular_place` and `transition_place` make them; what these answer is the model's place, as it was. Definitions only.
 use Rattle.std.specs.Prelude.{ℕ, ◌+◌, ◌*◌, ◌≤◌, ◌≡◌, List, [], ◌∷◌, ◌++◌}
-use Rattle.model.specs.Samples.{sample_length, inBlock, on_face}
+use Rattle.model.specs.Samples.{sample_length, in_block, on_face}
 use Rattle.model.specs.Mesh.{regular_place, transition_place}
 use Rattle.grid.specs.Nesting.{nested}
 use Rattle.grid.specs.RotationLaws.{OnSide}
@@ -26,7 +26,7 @@ pub record Nested (m a b c : ℕ) (parts : List ℕ) (place : ℕ) : Type 0 wher
 
 pub record NestedPlaces : Type 0 where
   -- the in-block point (x, y, z), so also where the line of samples at (x, y) starts
-  pub in_block : (n x y z : ℕ) → Nested (n + 1) x y z [] (inBlock n x y z)
+  pub in_block_lem : (n x y z : ℕ) → Nested (n + 1) x y z [] (in_block n x y z)
   -- the point (i, j) of an extension face
   pub on_face_lem : (n face i j : ℕ) → Nested (n + 1) (n + 1 + face) i j ((n + 1 + face) ∷ []) (on_face n face i j)
   -- the index store: a regular cell's place, and a transition cell's
@@ -38,9 +38,9 @@ pub record NestedPlaces : Type 0 where
 
 pub record Steps : Type 0 where
   -- one step along an axis: the lower place and the stride make the upper one
-  pub along_x : (n x y z : ℕ) → inBlock n x y z + (n + 1) * (n + 1) ≡ inBlock n (x + 1) y z
-  pub along_y : (n x y z : ℕ) → inBlock n x y z + (n + 1) ≡ inBlock n x (y + 1) z
-  pub along_z : (n x y z : ℕ) → inBlock n x y z + 1 ≡ inBlock n x y (z + 1)
+  pub along_x : (n x y z : ℕ) → in_block n x y z + (n + 1) * (n + 1) ≡ in_block n (x + 1) y z
+  pub along_y : (n x y z : ℕ) → in_block n x y z + (n + 1) ≡ in_block n x (y + 1) z
+  pub along_z : (n x y z : ℕ) → in_block n x y z + 1 ≡ in_block n x y (z + 1)
   -- along a side, from its first place to that of a row and from there to that of a point, the centre's own or the finer neighbour's: each value on the
   -- way is below the length of the block's samples
   pub row : (m side w u v : ℕ) → OnSide side m u v w → StepSizes (sample_length m) (walk_of m side w).first (walk_of m side w).u u

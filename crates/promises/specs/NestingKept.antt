@@ -1,14 +1,14 @@
 -- What was promised of places holds: a number is at most itself times one that is not 0, and multiplied out the nests are the model's places.
 use Rattle.std.specs.Prelude.{ℕ, ◌+◌, ◌*◌, ◌≤◌, [], ◌∷◌}
 use Rattle.std.proofs.Common.{arith}
-use Rattle.model.specs.Samples.{inBlock, on_face}
+use Rattle.model.specs.Samples.{in_block, on_face}
 use Rattle.model.specs.Mesh.{regular_place, transition_place}
 use Rattle.grid.specs.Nesting.{on_the_way, in_block_nested, on_face_nested, regular_nested, transition_nested}
 use Rattle.grid.specs.OnTheWalk.{row_sizes, spot_sizes}
 use Rattle.promises.specs.Nesting.{Nested, NestingPromises}
 
-in_block : (n x y z : ℕ) → Nested (n + 1) x y z [] (inBlock n x y z)
-in_block n x y z =
+in_block_lem : (n x y z : ℕ) → Nested (n + 1) x y z [] (in_block n x y z)
+in_block_lem n x y z =
     let e = in_block_nested n x y z in
     record { is = e; way = omega (arith, e, on_the_way (n + 1) x y z (omega arith)) }
 
@@ -31,7 +31,7 @@ transition n side u v r some =
 pub nesting_kept : NestingPromises
 nesting_kept =
     record {
-      places = record { in_block = in_block; on_face_lem = on_face_lem; regular = regular; transition = transition };
+      places = record { in_block_lem = in_block_lem; on_face_lem = on_face_lem; regular = regular; transition = transition };
       steps = record {
         along_x = λ n x y z. omega arith;
         along_y = λ n x y z. omega arith;

@@ -21,7 +21,7 @@ use Rattle.model.specs.Samples.{on_face, place_of, outside, sampled, kind_of, is
 use Rattle.model.specs.Extraction.{read_point}
 use Rattle.model.specs.Record.{header_of, samples_of}
 use Rattle.model.specs.Viewer.{record_point}
-use Rattle.grid.specs.Places.{Within, Inner, inner_le, in_block, outside_by, not_outside_inner, here_not_outside, sampled_sum, value_is, steps_sampled}
+use Rattle.grid.specs.Places.{Within, Inner, inner_le, in_block_lem, outside_by, not_outside_inner, here_not_outside, sampled_sum, value_is, steps_sampled}
 use Rattle.grid.specs.Places.{across_of, place_across_x, place_across_y, place_across_z, place_inner}
 use Rattle.grid.specs.Kinds.{kind_across_x, kind_across_y, kind_across_z, kind_inner}
 use Rattle.grid.specs.Reads.{corner_sampled, face_sampled, neighbour_sampled}
@@ -171,7 +171,7 @@ module _ (n : ℕ) (x y z : ℤ) where
         is = kind_inner n (one_up n x) (one_up n y) (one_up n z) ox oy oz;
         near = omega (arith, ox, oy, oz);
         stored = rw (place_inner n (one_up n x) (one_up n y) (one_up n z) ox oy oz)
-            (in_block n _ _ _ (in_le n x s.x_in) (in_le n y s.y_in) (in_le n z s.z_in));
+            (in_block_lem n _ _ _ (in_le n x s.x_in) (in_le n y s.y_in) (in_le n z s.z_in));
       }
   kinded (Face zero) s = across_x false (low_picks n x s.out_so) s.a_in s.b_in
   kinded (Face (suc zero)) s = across_x true (high_picks n x s.out_so) s.a_in s.b_in

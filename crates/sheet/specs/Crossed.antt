@@ -9,11 +9,11 @@ use Rattle.laws.specs.Sums.{total_none, total_same, total_last, total_rows, how_
 use Rattle.laws.specs.Counting.{pick, one, how_many, has}
 use Rattle.laws.specs.Ranges.{passes, both_ways}
 use Rattle.model.specs.declared.Xyz.{Xyz}
-use Rattle.model.specs.Samples.{inBlock}
+use Rattle.model.specs.Samples.{in_block}
 use Rattle.model.specs.Rotations.{xyz}
 use Rattle.model.specs.Star.{Star, subdivisions}
 use Rattle.model.specs.Mesh.{Made, regular_mesh}
-use Rattle.grid.specs.Places.{in_block}
+use Rattle.grid.specs.Places.{in_block_lem}
 use Rattle.closed.specs.Clauses.{Edge, edge, high, number, edges_most, OfBlock, Names, edge_at}
 use Rattle.closed.specs.Cells.{same_point}
 use Rattle.closed.specs.Places.{Begins, begun_one, begins}
@@ -75,7 +75,7 @@ module _ (s : Star) where
       let o = (no_hole s).lying i h in
       let e = o.on in
       let b = o.of_block in
-      let small = in_block n e.low.x e.low.y e.low.z (omega (arith, b.high_x)) (omega (arith, b.high_y)) (omega (arith, b.high_z)) in
+      let small = in_block_lem n e.low.x e.low.y e.low.z (omega (arith, b.high_x)) (omega (arith, b.high_y)) (omega (arith, b.high_z)) in
       omega (arith, o.named.held, small, b.axis_is)
 
   abbrev counted : Edge → ℕ
@@ -148,6 +148,6 @@ module _ (s : Star) where
       ∙ box_three (λ x y z. counted (edge x y z 0)) (λ x y z. counted (edge x y z 1)) (λ x y z. counted (edge x y z 2)) m m m
       ∙ (λ i. along_x i + along_y i + along_z i)
     where
-      three_axes : (x y z : ℕ) → total (λ j. one (carries_vertex s (3 * inBlock n x y z + j))) 3
+      three_axes : (x y z : ℕ) → total (λ j. one (carries_vertex s (3 * in_block n x y z + j))) 3
           ≡ counted (edge x y z 0) + counted (edge x y z 1) + counted (edge x y z 2)
       three_axes x y z = omega arith

@@ -13,14 +13,14 @@ use Rattle.model.specs.declared.PlaceKind.TheVariants.{InBlock}
 use Rattle.model.specs.declared.Reading.{Reading}
 use Rattle.model.specs.declared.Reading.TheVariants.{Value}
 use Rattle.model.specs.Limits.{most_subdivisions}
-use Rattle.model.specs.Samples.{sample_length, inBlock, value_of, value_at, sample_of}
+use Rattle.model.specs.Samples.{sample_length, in_block, value_of, value_at, sample_of}
 use Rattle.model.specs.Rotations.{xyz}
 use Rattle.model.specs.Formulas.{inside, inside_bit}
 use Rattle.model.specs.Star.{Star, subdivisions}
 use Rattle.model.specs.Mesh.{empty_mesh, regular_layer}
 use Rattle.model.specs.OverCells.{triangles_at}
 use Rattle.model.specs.Record.{header_of, count_of, samples_of, star_of}
-use Rattle.grid.specs.Places.{in_block}
+use Rattle.grid.specs.Places.{in_block_lem}
 use Rattle.grid.specs.Kinds.{in_block_reading_lem}
 use Rattle.cases.specs.Sheets.{Measured, Plane}
 use Rattle.cases.specs.RowPlaces.{row_before}
@@ -180,20 +180,20 @@ module _ (bytes : List ℕ) (x : ℕ) (hx : x ≤ (header_of bytes).block.subdiv
   subs = (header_of bytes).block.subdivisions
 
   pub plane_read : (plane : List Float)
-      → ((k : ℕ) → k < (subs + 1) * (subs + 1) → get_or plane k nan ≡ get_or (samples_of bytes) (inBlock subs x 0 0 + k) nan) → Plane (star_of bytes) x plane
+      → ((k : ℕ) → k < (subs + 1) * (subs + 1) → get_or plane k nan ≡ get_or (samples_of bytes) (in_block subs x 0 0 + k) nan) → Plane (star_of bytes) x plane
   plane_read plane read =
       record {
         reading_at_lem = λ y z hy hz.
-            let at : inBlock subs x 0 0 + ((subs + 1) * y + z) ≡ inBlock subs x y z = omega arith in
+            let at : in_block subs x 0 0 + ((subs + 1) * y + z) ≡ in_block subs x y z = omega arith in
             ap of_block
             (read ((subs + 1) * y + z) (row_before subs y (subs + 1) z (omega arith) hz)
             ∙ ap (λ (k : ℕ). get_or (samples_of bytes) k nan) at
-            ∙ sym (get_or-take (sample_length subs) (samples_of bytes) (inBlock subs x y z) nan (omega (arith, in_block subs x y z hx hy hz))))
+            ∙ sym (get_or-take (sample_length subs) (samples_of bytes) (in_block subs x y z) nan (omega (arith, in_block_lem subs x y z hx hy hz))))
             ∙ sym (in_block_reading_lem subs (star_of bytes).centre (xyz x y z) (record { x_in = hx; y_in = hy; z_in = hz }));
       }
 
   -- each of them is one of the record's
-  pub plane_in : (k : ℕ) → k < (subs + 1) * (subs + 1) → inBlock subs x 0 0 + k < count_of bytes
+  pub plane_in : (k : ℕ) → k < (subs + 1) * (subs + 1) → in_block subs x 0 0 + k < count_of bytes
   plane_in k h =
       let most : (subs + 1) * (subs + 1) * (x + 1) ≤ (subs + 1) * (subs + 1) * (subs + 1) = mul-le-mul_left ((subs + 1) * (subs + 1)) (omega arith) in
       omega (arith, most, mul-add ((subs + 1) * (subs + 1)) x 1)

@@ -9,14 +9,14 @@ use Rattle.std.proofs.Math.Seq.{get_or-take, get_or-drop}
 use Rattle.model.specs.declared.Xyz.{Xyz}
 use Rattle.model.specs.declared.Verdict.TheVariants.{Passed}
 use Rattle.model.specs.Limits.{most_size}
-use Rattle.model.specs.Samples.{sample_length, sample_of, inBlock}
+use Rattle.model.specs.Samples.{sample_length, sample_of, in_block}
 use Rattle.model.specs.Sides.{named, named_below, neighbour_length, neighbour_of}
 use Rattle.model.specs.Rotations.{neighbour_point}
 use Rattle.model.specs.Star.{Star, subdivisions, neighbour_at}
 use Rattle.model.specs.Points.{fine_sample}
 use Rattle.model.specs.Judging.{usable, measure_usable, judge_star}
 use Rattle.grid.specs.Shape.{Shaped}
-use Rattle.grid.specs.Places.{Within, in_block, sample_is}
+use Rattle.grid.specs.Places.{Within, in_block_lem, sample_is}
 use Rattle.grid.specs.RotationLaws.{OnFineFace, neighbour_point_in}
 use Rattle.grid.specs.SideLaws.{NeighbourThere, part_ends}
 use Rattle.judge.specs.Passing.{star_measures, star_samples, star_shaped}
@@ -27,8 +27,8 @@ use Rattle.weights.specs.Coordinates.{Measured, usable_small, usable_size_small}
 
 -- ---- what passes
 
-in_cube : (n x y z : ℕ) → x ≤ n → y ≤ n → z ≤ n → inBlock n x y z < sample_length n
-in_cube n x y z hx hy hz = omega (arith, in_block n x y z hx hy hz)
+in_cube : (n x y z : ℕ) → x ≤ n → y ≤ n → z ≤ n → in_block n x y z < sample_length n
+in_cube n x y z hx hy hz = omega (arith, in_block_lem n x y z hx hy hz)
 
 module _ (s : Star) (fit : AreF32 s) (passed : judge_star s ≡ Passed) where
   pub shaped : Shaped s
@@ -83,7 +83,7 @@ module _ (s : Star) (fit : AreF32 s) (passed : judge_star s ≡ Passed) where
       let k = named_below s.mask side * l in
       let p = neighbour_point n side u2 v2 in
       let w = neighbour_point_in n side u2 v2 on in
-      let at = inBlock (2 * n) p.x p.y p.z in
+      let at = in_block (2 * n) p.x p.y p.z in
       let there : NeighbourThere n s.mask s.neighbours side =
       record { few = h.few; sides = h.sides; side_is = on.side_is; is_named = is_named; neighbours_are = h.neighbours_are } in
       let small : at < l = in_cube (2 * n) _ _ _ w.x_in w.y_in w.z_in in

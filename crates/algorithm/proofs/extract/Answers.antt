@@ -12,4 +12,4 @@ returns c =
     let a = c.args in
     let s = star a.header a.centre.now a.neighbours.now in
     let left = c.extract_numbered.ensures.0 in
-    told (rw (spared_none s, none_told _ s (length a.store-1.now) (length a.vertices-1.now) (length a.triangles-1.now) 0) at left)
+    told (rw (spared_none s, none_told _ s (length a.store.now) (length a.vertices.now) (length a.triangles.now) 0) at left)

@@ -22,7 +22,7 @@ listed_at_after_judge_room_room c = cc
 
 -- what the judges have told then
 roomed : (r : After-judge_room-room) → Roomed ((let a = r.args in
-    lent_of a.numbered a.header a.centre.now a.neighbours.now a.summary.now a.store-1.now a.vertices-1.now a.triangles-1.now a.edges-1.now)) r.count_mesh-counts.result r.judge_room-room.result
+    lent_of a.numbered a.header a.centre.now a.neighbours.now a.summary.now a.store.now a.vertices.now a.triangles.now a.edges.now)) r.count_mesh-counts.result r.judge_room-room.result
 roomed r =
     record { counts_are = r.count_mesh-counts.ensures.1; listed = sym r.judge_numbers-listed.ensures ∙ listed_at_after_judge_room_room r; room_is = r.judge_room-room.ensures }
 
@@ -35,18 +35,18 @@ listed_at_in_default_room c = cc
 
 -- what the judges have told then
 roomed_at_in_default_room : (r : In_default-room) → Roomed ((let a = r.args in
-    lent_of a.numbered a.header a.centre.now a.neighbours.now a.summary.now a.store-1.now a.vertices-1.now a.triangles-1.now a.edges-1.now)) r.count_mesh-counts.result r.judge_room-room.result
+    lent_of a.numbered a.header a.centre.now a.neighbours.now a.summary.now a.store.now a.vertices.now a.triangles.now a.edges.now)) r.count_mesh-counts.result r.judge_room-room.result
 roomed_at_in_default_room r =
     record { counts_are = r.count_mesh-counts.ensures.1; listed = sym r.judge_numbers-listed.ensures ∙ listed_at_in_default_room r; room_is = r.judge_room-room.ensures }
 
-room : (c : In_default-room) → (6 * c.count_mesh-counts.result.vertices-1 ≤ length c.args.vertices-1.now) × (3 * c.count_mesh-counts.result.triangles-1 ≤ length c.args.triangles-1.now)
+room : (c : In_default-room) → (6 * c.count_mesh-counts.result.vertices ≤ length c.args.vertices.now) × (3 * c.count_mesh-counts.result.triangles ≤ length c.args.triangles.now)
 room c = has_room (roomed_at_in_default_room c) (passed c)
 
 -- the further list has the places that are written
-long : (c : In_default-room) → cond c.args.numbered c.count_mesh-counts.result.vertices-1 0 ≤ length c.args.edges-1.now
-long c = numbers_there c.args.numbered _ _ (roomed_at_in_default_room c).listed-1
+long : (c : In_default-room) → cond c.args.numbered c.count_mesh-counts.result.vertices 0 ≤ length c.args.edges.now
+long c = numbers_there c.args.numbered _ _ (roomed_at_in_default_room c).listed
 
-store_long : (c : After-store_length-places) → c.store_length-places.result ≤ length c.args.store-1.now
+store_long : (c : After-store_length-places) → c.store_length-places.result ≤ length c.args.store.now
 store_long c = omega (arith, c.store_length-places.ensures, c.requires.1.1)
 
 -- the parts that are lent are just enough
@@ -63,22 +63,22 @@ listed_at_after_numbers_asked_numbers c = cc
 
 -- what the judges have told then
 roomed_at_after_numbers_asked_numbers : (r : After-numbers_asked-numbers) → Roomed ((let a = r.args in
-    lent_of a.numbered a.header a.centre.now a.neighbours.now a.summary.now a.store-1.now a.vertices-1.now a.triangles-1.now a.edges-1.now)) r.count_mesh-counts.result r.judge_room-room.result
+    lent_of a.numbered a.header a.centre.now a.neighbours.now a.summary.now a.store.now a.vertices.now a.triangles.now a.edges.now)) r.count_mesh-counts.result r.judge_room-room.result
 roomed_at_after_numbers_asked_numbers r =
     record { counts_are = r.count_mesh-counts.ensures.1; listed = sym r.judge_numbers-listed.ensures ∙ listed_at_after_numbers_asked_numbers r; room_is = r.judge_room-room.ensures }
 
 -- the further list has the places that are written
-long_at_after_numbers_asked_numbers : (c : After-numbers_asked-numbers) → cond c.args.numbered c.count_mesh-counts.result.vertices-1 0 ≤ length c.args.edges-1.now
-long_at_after_numbers_asked_numbers c = numbers_there c.args.numbered _ _ (roomed_at_after_numbers_asked_numbers c).listed-1
+long_at_after_numbers_asked_numbers : (c : After-numbers_asked-numbers) → cond c.args.numbered c.count_mesh-counts.result.vertices 0 ≤ length c.args.edges.now
+long_at_after_numbers_asked_numbers c = numbers_there c.args.numbered _ _ (roomed_at_after_numbers_asked_numbers c).listed
 
 -- the numbers' part
-numbers-long : (c : After-numbers_asked-numbers) → c.numbers_asked-numbers.result ≤ length c.args.edges-1.now
+numbers-long : (c : After-numbers_asked-numbers) → c.numbers_asked-numbers.result ≤ length c.args.edges.now
 numbers-long c = omega (arith, c.numbers_asked-numbers.ensures, long_at_after_numbers_asked_numbers c)
 
 pub returns-in-Refused : goal.returns-in-Refused
 returns-in-Refused c =
     rw c.refused.ensures (no_list ((let a = c.args in
-    lent_of a.numbered a.header a.centre.now a.neighbours.now a.summary.now a.store-1.now a.vertices-1.now a.triangles-1.now a.edges-1.now)) c.count_mesh-counts.ensures.1 c.judge_numbers-listed.ensures _ (cc))
+    lent_of a.numbered a.header a.centre.now a.neighbours.now a.summary.now a.store.now a.vertices.now a.triangles.now a.edges.now)) c.count_mesh-counts.ensures.1 c.judge_numbers-listed.ensures _ (cc))
 
 pub returns-in-Refused-room : goal.returns-in-Refused-room
 returns-in-Refused-room c =
@@ -91,7 +91,7 @@ pub slice_bounds-write_mesh-end-2 : goal.slice_bounds-write_mesh-end-2
 slice_bounds-write_mesh-end-2 c = sym (length-take-le _ _ (store_long (goal.at.slice_bounds-write_mesh-end-2 c).After-store_length-places))
 
 pub overflow_mul-counts : goal.overflow_mul-counts
-overflow_mul-counts c = omega (arith, c.count_mesh-counts.ensures.0.vertices-1)
+overflow_mul-counts c = omega (arith, c.count_mesh-counts.ensures.0.vertices)
 
 pub slice_bounds-write_mesh-end-3 : goal.slice_bounds-write_mesh-end-3
 slice_bounds-write_mesh-end-3 c = (room (goal.at.slice_bounds-write_mesh-end-3 c).In_default-room).0
@@ -100,7 +100,7 @@ pub slice_bounds-write_mesh-end-4 : goal.slice_bounds-write_mesh-end-4
 slice_bounds-write_mesh-end-4 c = sym (length-take-le _ _ (room (goal.at.slice_bounds-write_mesh-end-4 c).In_default-room).0)
 
 pub overflow_mul-counts-2 : goal.overflow_mul-counts-2
-overflow_mul-counts-2 c = omega (arith, c.count_mesh-counts.ensures.0.triangles-1)
+overflow_mul-counts-2 c = omega (arith, c.count_mesh-counts.ensures.0.triangles)
 
 pub slice_bounds-write_mesh-end-5 : goal.slice_bounds-write_mesh-end-5
 slice_bounds-write_mesh-end-5 c = (room (goal.at.slice_bounds-write_mesh-end-5 c).In_default-room).1
@@ -125,7 +125,7 @@ returns c =
     let count_is = c.numbers_asked-numbers.ensures in
     rw count_is
     (done (roomed (goal.at.returns c).After-judge_room-room) (passed (goal.at.returns c).In_default-room) c.store_length-places.result c.store_length-places.ensures _ _ _ _ _
-    (exact_still {edges₀ = c.args.edges-1.now} {edges = c.args.edges-1.now}
+    (exact_still {edges₀ = c.args.edges.now} {edges = c.args.edges.now}
     (record { vertices_same = w.auto.1.1.1.1.1.0; triangles_same = w.auto.1.1.1.1.1.1.0; store_same = w.auto.1.1.1.1.0; edges_same = refl })
     (exact (goal.at.returns c).After-store_length-places))
     w.ensures.0 w.ensures.1.0

@@ -8,24 +8,24 @@ use Rattle.algorithm.proofs.extract_numbered.Goals as goal
 use Rattle.algorithm.proofs.extract_numbered.Goals.{In_default}
 
 judged-passed : (c : In_default) → let l = (let a = c.args in
-    lent_of a.numbered a.header a.centre.now a.neighbours.now a.summary.now a.store-1.now a.vertices-1.now a.triangles-1.now a.edges-1.now) in judged c.args.layered l.s l.summary (length l.store-1) ≡ Passed
+    lent_of a.numbered a.header a.centre.now a.neighbours.now a.summary.now a.store.now a.vertices.now a.triangles.now a.edges.now) in judged c.args.layered l.s l.summary (length l.store) ≡ Passed
 judged-passed c = cc
 
 pub returns-in-Refused : goal.returns-in-Refused
 returns-in-Refused c =
     rw c.refused.ensures (refused ((let a = c.args in
-    lent_of a.numbered a.header a.centre.now a.neighbours.now a.summary.now a.store-1.now a.vertices-1.now a.triangles-1.now a.edges-1.now)) c.args.layered _ (cc))
+    lent_of a.numbered a.header a.centre.now a.neighbours.now a.summary.now a.store.now a.vertices.now a.triangles.now a.edges.now)) c.args.layered _ (cc))
 
 pub extract_mesh-requires : goal.extract_mesh-requires
 extract_mesh-requires c =
     let layered = c.args.layered in
     let l = (let a = c.args in
-    lent_of a.numbered a.header a.centre.now a.neighbours.now a.summary.now a.store-1.now a.vertices-1.now a.triangles-1.now a.edges-1.now) in
-    let held = length l.store-1 in
+    lent_of a.numbered a.header a.centre.now a.neighbours.now a.summary.now a.store.now a.vertices.now a.triangles.now a.edges.now) in
+    let held = length l.store in
     let e = judged-passed (goal.at.extract_mesh-requires c).In_default in
     (shaped layered l.s l.summary held e, (trusted_there layered l.s l.summary held e, store_held layered l.s l.summary held e))
 
 pub returns : goal.returns
 returns c =
     rw (passed ((let a = c.args in
-    lent_of a.numbered a.header a.centre.now a.neighbours.now a.summary.now a.store-1.now a.vertices-1.now a.triangles-1.now a.edges-1.now)) c.args.layered (judged-passed (goal.at.returns c).In_default)) c.extract_mesh.ensures
+    lent_of a.numbered a.header a.centre.now a.neighbours.now a.summary.now a.store.now a.vertices.now a.triangles.now a.edges.now)) c.args.layered (judged-passed (goal.at.returns c).In_default)) c.extract_mesh.ensures

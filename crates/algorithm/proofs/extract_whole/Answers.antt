@@ -12,5 +12,5 @@ returns c =
     let a = c.args in
     let s = star a.header a.centre.now a.neighbours.now in
     let left = c.extract_numbered.ensures in
-    let left' = rw (spared_none s, none_told _ s (length a.store-1.now) (length a.vertices-1.now) (length a.triangles-1.now) (length a.edges-1.now)) at left in
+    let left' = rw (spared_none s, none_told _ s (length a.store.now) (length a.vertices.now) (length a.triangles.now) (length a.edges.now)) at left in
     told_whole left'.0 left'.1

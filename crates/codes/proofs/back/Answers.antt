@@ -5,10 +5,10 @@ use Rattle.codes.specs.Staying.{regular_kept, transition_kept}
 use Rattle.codes.proofs.back.Goals as goal
 
 pub regular_back-requires : goal.regular_back-requires
-regular_back-requires c = regular_kept c.args.at-1 c.args.code c.requires _ c.in-Regular.is
+regular_back-requires c = regular_kept c.args.at c.args.code c.requires _ c.in-Regular.is
 
 pub transition_back-requires : goal.transition_back-requires
-transition_back-requires c = transition_kept c.args.at-1 c.args.code c.requires _ c.in-Transition.is
+transition_back-requires c = transition_kept c.args.at c.args.code c.requires _ c.in-Transition.is
 
 pub returns-in-Regular : goal.returns-in-Regular
 returns-in-Regular c = rw c.in-Regular.is (ap Regular c.regular_back.ensures)

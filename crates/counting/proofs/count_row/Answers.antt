@@ -34,7 +34,7 @@ number_at-case-requires c = omega (arith, fits (goal.at.number_at-case-requires 
 
 pub count_sheet_cell-more-requires : goal.count_sheet_cell-more-requires
 count_sheet_cell-more-requires c =
-    (c.requires.0, rw c.number_at-case.ensures (c.requires.1.1.number_at-case c.args.u c.loop-v.v c.requires.1.0 c.loop-v-test.true))
+    (c.requires.0, rw c.number_at-case.ensures (c.requires.1.1.number_at c.args.u c.loop-v.v c.requires.1.0 c.loop-v-test.true))
 
 pub plus-counts-requires : goal.plus-counts-requires
 plus-counts-requires c =

@@ -11,7 +11,7 @@ use Rattle.counting.proofs.pair_at.Goals as goal
 pub returns-then-paired-x : goal.returns-then-paired-x
 returns-then-paired-x c =
     let a = c.args in
-    subst (λ (x : ℕ). Upper a.header.block.subdivisions (point_bit (star a.header a.centre.now []) x) a.pairs-1.now) c.if-paired-x.true c.requires.1.1
+    subst (λ (x : ℕ). Upper a.header.block.subdivisions (point_bit (star a.header a.centre.now []) x) a.pairs.now) c.if-paired-x.true c.requires.1.1
 
 pub returns : goal.returns
 returns c =

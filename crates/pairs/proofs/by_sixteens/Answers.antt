@@ -15,12 +15,12 @@ loop-i-preserved c =
     let put = c.put_sixteen in
     let l = c.loop-i in
     let a = c.args in
-    let part : ℕ → ℕ = λ k. paired_with a.threshold a.samples.now l.pairs-1 (l.i + k) in (
+    let part : ℕ → ℕ = λ k. paired_with a.threshold a.samples.now l.pairs (l.i + k) in (
       omega arith,
       (
         omega arith,
         sixteen_more _ _ l.i _ part _ _ _ _ l.invariant.1.1 (omega arith) c.sixteen-numbers.ensures put.ensures
-            (λ k h. paired_still a.threshold a.samples.now _ l.pairs-1 l.i (l.i + k) l.invariant.1.1 (omega arith)),
+            (λ k h. paired_still a.threshold a.samples.now _ l.pairs l.i (l.i + k) l.invariant.1.1 (omega arith)),
       ),
     )
 

@@ -20,8 +20,8 @@ loop-i-preserved c =
         rw length-set l.invariant.1.0,
         λ before put.
             let so_far = l.invariant.1.1 before put in
-            first_more _ l.i _ before l.pairs-1 so_far (omega arith)
-            ((rw here at c.paired.ensures) ∙ paired_still a.threshold a.samples.now before l.pairs-1 l.i l.i so_far (omega arith)),
+            first_more _ l.i _ before l.pairs so_far (omega arith)
+            ((rw here at c.paired.ensures) ∙ paired_still a.threshold a.samples.now before l.pairs l.i l.i so_far (omega arith)),
       ),
     )
 

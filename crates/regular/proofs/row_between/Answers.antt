@@ -15,7 +15,7 @@ loop-z-preserved c =
       omega arith,
       (
         rw length-set l.invariant.1.0,
-        λ before put. one_more _ _ l.z _ before l.cases-1 (l.invariant.1.1 before put) (omega arith) (omega (arith, c.four-low.ensures.0, c.four-sum.ensures.0)),
+        λ before put. one_more _ _ l.z _ before l.cases (l.invariant.1.1 before put) (omega arith) (omega (arith, c.four-low.ensures.0, c.four-sum.ensures.0)),
       ),
     )
 

@@ -18,7 +18,7 @@ loop-y-preserved c =
     let written = c.row-reads in (
       omega arith,
       written.auto.1.1.1.1.1.0 ∙ l.invariant.1,
-      λ s x is p q. one_more_row _ _ l.y l.cases-1 _ (written.ensures.0 s x is p q) (l.invariant.2 s x is p q),
+      λ s x is p q. one_more_row _ _ l.y l.cases _ (written.ensures.0 s x is p q) (l.invariant.2 s x is p q),
       omega (arith, written.ensures.1, l.invariant.3),
       omega (arith, written.ensures.1, l.invariant.4),
     )

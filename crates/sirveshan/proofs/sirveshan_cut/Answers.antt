@@ -9,5 +9,5 @@ returns c =
     let left = c.cut_block.ensures in
     λ i. record {
       answer = (c.as_samples_cut.ensures ∙ ap (λ (o : CutOutcome). as_samples_cut o.answer) left) i;
-      samples = (left i).samples-1;
+      samples = (left i).samples;
     }

@@ -7,4 +7,4 @@ use Rattle.sirveshan.proofs.sirveshan_make_summary.Goals as goal
 pub returns : goal.returns
 returns c =
     let left = c.make_summary.ensures in
-    λ i. record { answer = (c.as_judged.ensures ∙ ap (λ (o : MakeOutcome). as_judged o.answer) left) i; summary = (left i).summary-1 }
+    λ i. record { answer = (c.as_judged.ensures ∙ ap (λ (o : MakeOutcome). as_judged o.answer) left) i; summary = (left i).summary }

@@ -9,5 +9,5 @@ returns c =
     let left = c.read_record.ensures in
     λ i. record {
       answer = (c.as_header_read.ensures ∙ ap (λ (o : ReadOutcome). as_header_read o.answer) left) i;
-      samples = (left i).samples-1;
+      samples = (left i).samples;
     }

@@ -9,5 +9,5 @@ returns c =
     let left = c.read_stl.ensures in
     λ i. record {
       answer = (c.as_triangles_read.ensures ∙ ap (λ (o : ReadOutcome). as_triangles_read o.answer) left) i;
-      positions = (left i).positions-1;
+      positions = (left i).positions;
     }

@@ -9,7 +9,7 @@ returns c =
     let left = c.repair.ensures in
     λ i. record {
       answer = (c.as_mended.ensures ∙ ap (λ (o : RepairOutcome). as_mended o.answer) left) i;
-      centre = (left i).left.centre-1;
-      neighbours = (left i).left.neighbours-1;
-      changes = (left i).changes-1;
+      centre = (left i).left.centre;
+      neighbours = (left i).left.neighbours;
+      changes = (left i).changes;
     }

@@ -13,6 +13,6 @@ returns c =
     let left = rw (to_z-of_z {w = w32} fits.x, to_z-of_z {w = w32} fits.y, to_z-of_z {w = w32} fits.z) at c.set_sample.ensures in
     λ i. record {
       answer = (c.as_judged.ensures ∙ ap (λ (o : SetOutcome). as_judged o.answer) left) i;
-      samples = (left i).samples-1;
-      summary = (left i).summary-1;
+      samples = (left i).samples;
+      summary = (left i).summary;
     }

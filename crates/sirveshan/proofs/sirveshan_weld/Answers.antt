@@ -9,7 +9,7 @@ returns c =
     let left = c.weld.ensures in
     λ i. record {
       answer = (c.as_welded_counts.ensures ∙ ap (λ (o : Outcome). as_welded_counts o.answer) left) i;
-      vertices = (left i).vertices-1;
-      triangles = (left i).triangles-1;
-      edges = (left i).edges-1;
+      vertices = (left i).vertices;
+      triangles = (left i).triangles;
+      edges = (left i).edges;
     }

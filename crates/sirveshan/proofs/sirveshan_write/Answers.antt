@@ -9,5 +9,5 @@ returns c =
     let left = c.write_record.ensures in
     λ i. record {
       answer = (c.as_written.ensures ∙ ap (λ (o : WriteOutcome). as_written o.answer) left) i;
-      bytes = (left i).bytes-1;
+      bytes = (left i).bytes;
     }

@@ -9,5 +9,5 @@ returns c =
     let left = c.write_stl.ensures in
     λ i. record {
       answer = (c.as_stl_written.ensures ∙ ap (λ (o : WriteOutcome). as_stl_written o.answer) left) i;
-      bytes = (left i).bytes-1;
+      bytes = (left i).bytes;
     }

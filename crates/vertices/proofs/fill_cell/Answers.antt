@@ -25,19 +25,19 @@ few c = omega (arith, (inside c), c.requires.1.0)
 
 -- the room that its vertex wants is there
 ready : (c : In-loop-k) → Room 6 (c.loop-k.next + length (made_by (((let a = c.args in
-    cell_of (star a.header a.centre.now a.neighbours.now) a.at a.codes.now a.row.now false)).uses (c.loop-k.k)))) c.loop-k.vertices-1
+    cell_of (star a.header a.centre.now a.neighbours.now) a.at a.codes.now a.row.now false)).uses (c.loop-k.k)))) c.loop-k.vertices
 ready c =
     let a = c.args in
     fill_ready ((let a = c.args in
-    cell_of (star a.header a.centre.now a.neighbours.now) a.at a.codes.now a.row.now false)) a.base a.store-1.now (c.loop-k.k) (((let a = c.args in
-    cell_of (star a.header a.centre.now a.neighbours.now) a.at a.codes.now a.row.now false)).uses (c.loop-k.k)) refl a.vertices-1.now _ _ _ _ _ _ c.loop-k.invariant.1
+    cell_of (star a.header a.centre.now a.neighbours.now) a.at a.codes.now a.row.now false)) a.base a.store.now (c.loop-k.k) (((let a = c.args in
+    cell_of (star a.header a.centre.now a.neighbours.now) a.at a.codes.now a.row.now false)).uses (c.loop-k.k)) refl a.vertices.now _ _ _ _ _ _ c.loop-k.invariant.1
     (vertices_of a.row.now) (inside c) c.requires.1.1.1
 
 pub loop-k-init : goal.loop-k-init
 loop-k-init c = (
   search rules,
   fill_none ((let a = c.args in
-      cell_of (star a.header a.centre.now a.neighbours.now) a.at a.codes.now a.row.now false)) c.args.base c.args.store-1.now c.args.vertices-1.now,
+      cell_of (star a.header a.centre.now a.neighbours.now) a.at a.codes.now a.row.now false)) c.args.base c.args.store.now c.args.vertices.now,
 )
 
 pub offset_bounds-codes-k : goal.offset_bounds-codes-k
@@ -54,7 +54,7 @@ put_code-put-requires c =
         c.requires.1.0.1.1.usable l.k (inside (goal.at.put_code-put-requires c).In-loop-k),
         (
           ap length l.invariant.1.Store-is ∙ length_fill_store ((let a = c.args in
-              cell_of (star a.header a.centre.now a.neighbours.now) a.at a.codes.now a.row.now false)) c.args.base c.args.store-1.now l.k ∙ c.requires.1.1.0,
+              cell_of (star a.header a.centre.now a.neighbours.now) a.at a.codes.now a.row.now false)) c.args.base c.args.store.now l.k ∙ c.requires.1.1.0,
           ready (goal.at.put_code-put-requires c).In-loop-k,
         ),
       ),
@@ -82,8 +82,8 @@ loop-k-preserved c =
     let l = c.loop-k in (
       omega (arith, c.loop-k-test.true),
       fill_more ((let a = c.args in
-          cell_of (star a.header a.centre.now a.neighbours.now) a.at a.codes.now a.row.now false)) c.args.base c.args.store-1.now l.k (((let a = c.args in
-          cell_of (star a.header a.centre.now a.neighbours.now) a.at a.codes.now a.row.now false)).uses l.k) refl c.args.vertices-1.now _ _ _ _ _ _ l.invariant.1
+          cell_of (star a.header a.centre.now a.neighbours.now) a.at a.codes.now a.row.now false)) c.args.base c.args.store.now l.k (((let a = c.args in
+          cell_of (star a.header a.centre.now a.neighbours.now) a.at a.codes.now a.row.now false)).uses l.k) refl c.args.vertices.now _ _ _ _ _ _ l.invariant.1
           _ _ _ _ _ (few (goal.at.loop-k-preserved c).In-loop-k) c.put_code-put.ensures,
     )
 
@@ -91,7 +91,7 @@ pub shape_of-store : goal.shape_of-store
 shape_of-store c =
     let l = c.loop-k in
     ap length l.invariant.1.Store-is ∙ length_fill_store ((let a = c.args in
-    cell_of (star a.header a.centre.now a.neighbours.now) a.at a.codes.now a.row.now false)) c.args.base c.args.store-1.now l.k
+    cell_of (star a.header a.centre.now a.neighbours.now) a.at a.codes.now a.row.now false)) c.args.base c.args.store.now l.k
 
 pub shape_of-vertices : goal.shape_of-vertices
 shape_of-vertices c = ap length c.loop-k.invariant.1.vertices_are ∙ length_lay 6 vertex_floats _ _ _

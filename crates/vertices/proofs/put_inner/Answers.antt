@@ -51,7 +51,7 @@ returns-then-new_vertex c =
     let new = c.new_vertex.ensures in
     let taken = c.if-new_vertex.true in
     λ ns.
-    code_stored (star a.header a.centre.now ns) (Regular a.at) a.code a.next _ a.vertices-1.now a.store.now _
+    code_stored (star a.header a.centre.now ns) (Regular a.at) a.code a.next _ a.vertices.now a.store.now _
     (new ∙ inner_makes c.requires.1.0.0 a.code) c.reuse_index-r.ensures.0 _ _ _ (c.inner_vertex.ensures ns)
     c.put_vertex.ensures new taken _ c.regular_place-own.ensures.0 taken
 
@@ -76,6 +76,6 @@ returns c =
     let a = c.args in
     let back = c.regular_back-from in
     λ ns.
-    code_taken (star a.header a.centre.now ns) (Regular a.at) a.code a.next _ a.vertices-1.now a.store.now _
+    code_taken (star a.header a.centre.now ns) (Regular a.at) a.code a.next _ a.vertices.now a.store.now _
     (c.new_vertex.ensures ∙ inner_makes c.requires.1.0.0 a.code) c.reuse_index-r.ensures.0 _ (Regular back.result) (ap Regular back.ensures)
     c.regular_place-shared.ensures.0 c.if-new_vertex.false

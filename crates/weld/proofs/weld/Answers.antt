@@ -8,10 +8,10 @@ use Rattle.weld.proofs.weld.Goals as goal
 use Rattle.weld.proofs.weld.Goals.{In_default}
 
 -- all judges have passed
-lists : (c : In_default) → let a = c.args in Whole a.v a.t a.vertices-1.now a.triangles-1.now a.edges-1.now
+lists : (c : In_default) → let a = c.args in Whole a.v a.t a.vertices.now a.triangles.now a.edges.now
 lists c =
     let a = c.args in
-    whole a.v a.t a.vertices-1.now a.triangles-1.now a.edges-1.now (sym c.judge_weld-verdict.ensures ∙ c.in_default.is)
+    whole a.v a.t a.vertices.now a.triangles.now a.edges.now (sym c.judge_weld-verdict.ensures ∙ c.in_default.is)
 
 pub returns-in-Refused : goal.returns-in-Refused
 unfolding weld weld_answer
@@ -33,4 +33,4 @@ returns c =
     let a = c.args in
     let pass = c.pass-kept in
     let last = pass.last.1 in
-    all_passed a.v a.t a.vertices-1.now a.triangles-1.now a.edges-1.now (lists (goal.at.returns c).In_default) pass.result last.0 last.1.0 last.1.1.0 pass.ensures
+    all_passed a.v a.t a.vertices.now a.triangles.now a.edges.now (lists (goal.at.returns c).In_default) pass.result last.0 last.1.0 last.1.1.0 pass.ensures

@@ -13,33 +13,33 @@ use Rattle.writing.proofs.write_mesh.Goals.{After-write_regular_cells-regular, A
 
 same : (c : After-write_regular_cells-regular) → let a = c.args in let w = c.write_regular_cells-regular in
     let after = w.new.1.1.1.1.1 in
-    SameLengths a.vertices-1.now after.1.0 a.triangles-1.now after.1.1.0 a.store-1.now after.0 a.edges-1.now after.1.1.1.0
+    SameLengths a.vertices.now after.1.0 a.triangles.now after.1.1.0 a.store.now after.0 a.edges.now after.1.1.1.0
 same c =
     let kept = c.write_regular_cells-regular.auto.1.1.1.1.1 in
     record { vertices_same = kept.1.0; triangles_same = kept.1.1.0; store_same = kept.0 ∙ c.clear.auto.0; edges_same = kept.1.1.1.0 }
 
 same_at_after_write_transition_cells_all : (c : After-write_transition_cells-all) → let a = c.args in let w = c.write_regular_cells-regular in
     let after = w.new.1.1.1.1.1 in
-    SameLengths a.vertices-1.now after.1.0 a.triangles-1.now after.1.1.0 a.store-1.now after.0 a.edges-1.now after.1.1.1.0
+    SameLengths a.vertices.now after.1.0 a.triangles.now after.1.1.0 a.store.now after.0 a.edges.now after.1.1.1.0
 same_at_after_write_transition_cells_all c =
     let kept = c.write_regular_cells-regular.auto.1.1.1.1.1 in
     record { vertices_same = kept.1.0; triangles_same = kept.1.1.0; store_same = kept.0 ∙ c.clear.auto.0; edges_same = kept.1.1.1.0 }
 
 same-still : (t : After-write_transition_cells-all) → let a = t.args in let w = t.write_transition_cells-all in
     let after = w.new.1.1.1.1.1 in
-    SameLengths a.vertices-1.now after.1.0 a.triangles-1.now after.1.1.0 a.store-1.now after.0 a.edges-1.now after.1.1.1.0
+    SameLengths a.vertices.now after.1.0 a.triangles.now after.1.1.0 a.store.now after.0 a.edges.now after.1.1.1.0
 same-still t =
     let kept = t.write_transition_cells-all.auto.1.1.1.1.1 in
     same_then (same_at_after_write_transition_cells_all t) (record { vertices_same = kept.1.0; triangles_same = kept.1.1.0; store_same = kept.0; edges_same = kept.1.1.1.0 })
 
 pub write_regular_cells-regular-requires : goal.write_regular_cells-regular-requires
 write_regular_cells-regular-requires c =
-    let fits = c.requires.1.1.ranges in (
+    let fits = c.requires.1.1.fits in (
       (c.requires.0, c.fractions_of-fractions.ensures),
       (
         c.requires.1.0,
         (
-          fits_still {edges₀ = c.args.edges-1.now} {edges = c.args.edges-1.now} (record { vertices_same = refl; triangles_same = refl; store_same = c.clear.auto.0; edges_same = refl }) fits,
+          fits_still {edges₀ = c.args.edges.now} {edges = c.args.edges.now} (record { vertices_same = refl; triangles_same = refl; store_same = c.clear.auto.0; edges_same = refl }) fits,
           c.clear.ensures ∙ ap (λ (k : ℕ). replicate k 0) fits.store_fits,
         ),
       ),
@@ -47,12 +47,12 @@ write_regular_cells-regular-requires c =
 
 pub write_transition_cells-all-requires : goal.write_transition_cells-all-requires
 write_transition_cells-all-requires c =
-    ((c.requires.0, c.fractions_of-fractions.ensures), (fits_still (same (goal.at.write_transition_cells-all-requires c).After-write_regular_cells-regular) c.requires.1.1.ranges, (c.write_regular_cells-regular.ensures.0, c.write_regular_cells-regular.ensures.1.few)))
+    ((c.requires.0, c.fractions_of-fractions.ensures), (fits_still (same (goal.at.write_transition_cells-all-requires c).After-write_regular_cells-regular) c.requires.1.1.fits, (c.write_regular_cells-regular.ensures.0, c.write_regular_cells-regular.ensures.1.few)))
 
 pub overflow_add-result : goal.overflow_add-result
 overflow_add-result c =
     let w = c.write_transition_cells-all.ensures in
-    omega (arith, w.1.few, w.0.read_so_far, w.0.vertex_count, c.requires.1.1.ranges.vertices_fit.short)
+    omega (arith, w.1.few, w.0.read_so_far, w.0.vertex_count, c.requires.1.1.fits.vertices_fit.short)
 
 pub shape_of-store : goal.shape_of-store
 shape_of-store c = (same-still (goal.at.shape_of-store c).After-write_transition_cells-all).store_same

@@ -22,7 +22,7 @@ below : (c : In-loop-v) → c.loop-v.v < c.args.header.block.subdivisions
 below c = omega (arith, c.loop-v-test.true, c.requires.1.0.0.some)
 
 ready : (c : In-loop-v) → let l = c.loop-v in let s = (star c.args.header c.args.centre.now c.args.neighbours.now) in
-    Ready s (sheet_cell s c.args.sheet c.args.u l.v) (row_to (sheet_cell s c.args.sheet c.args.u) l.v (row_before s c.args.sheet c.args.u)) l.counts l.vertices-1 l.triangles-1 l.store-1 l.edges-1
+    Ready s (sheet_cell s c.args.sheet c.args.u l.v) (row_to (sheet_cell s c.args.sheet c.args.u) l.v (row_before s c.args.sheet c.args.u)) l.counts l.vertices l.triangles l.store l.edges
 ready c =
     let l = c.loop-v in
     ready_at ((star c.args.header c.args.centre.now c.args.neighbours.now)) c.args.sheet c.args.u c.requires.1.1.1.1.1.0 l.v (below c) c.requires.1.1.1.0
@@ -65,7 +65,7 @@ write_sheet_cell-counts-requires c =
         cell_ready ((star c.args.header c.args.centre.now c.args.neighbours.now)) c.args.fractions.now shaped.0 shaped.1 c.args.sheet c.requires.1.1.1.0 c.args.u v u_in v_in,
         (
           c.number_at.ensures ∙ c.requires.1.1.0.1.numbers.case_at c.args.u v u_in v_in,
-          (r.ranges.store_fits, (room_vertices r, (room_triangles r, r.holds.read_so_far))),
+          (r.fits.store_fits, (room_vertices r, (room_triangles r, r.holds.read_so_far))),
         ),
       ),
     )

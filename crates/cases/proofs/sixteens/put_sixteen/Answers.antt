@@ -13,7 +13,7 @@ loop-k-init c = (omega arith, (refl, none_put _ _ _))
 pub loop-k-preserved : goal.loop-k-preserved
 loop-k-preserved c =
     let l = c.loop-k in
-    (omega arith, (rw length-set l.invariant.1.0, one_more _ _ l.k _ _ l.places-1 l.invariant.1.1 (omega arith) refl))
+    (omega arith, (rw length-set l.invariant.1.0, one_more _ _ l.k _ _ l.places l.invariant.1.1 (omega arith) refl))
 
 pub shape_of-places : goal.shape_of-places
 shape_of-places c = omega arith

@@ -39,7 +39,7 @@ returns c =
     let put = c.put_triangles-made.ensures in
     let s = star a.header a.centre.now a.neighbours.now in
     let cell = cell_of s a.at a.codes.now a.row.now a.turned in (
-      cell_put cell a.counts.vertices-1 a.counts.triangles-1 a.vertices-1.now a.triangles-1.now a.store-1.now _ _ _ _ _ _ _ _ _ c.requires.1.1.1.1.1
+      cell_put cell a.counts.vertices a.counts.triangles a.vertices.now a.triangles.now a.store.now _ _ _ _ _ _ _ _ _ c.requires.1.1.1.1.1
           c.fill_cell-filled.ensures put.0 put.1,
-      c.put_edges.ensures s a.turned a.store-1.now refl,
+      c.put_edges.ensures s a.turned a.store.now refl,
     )

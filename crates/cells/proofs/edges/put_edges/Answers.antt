@@ -17,12 +17,12 @@ inside c =
 pub returns-then-edges-base : goal.returns-then-edges-base
 returns-then-edges-base c =
     let a = c.args in
-    λ s turned store e. sym (edges_out a.edges-1.now a.base _ (omega (arith, c.if-edges-base.true)))
+    λ s turned store e. sym (edges_out a.edges.now a.base _ (omega (arith, c.if-edges-base.true)))
 
 pub loop-k-init : goal.loop-k-init
 loop-k-init c =
     let a = c.args in
-    (omega arith, omega arith, refl, λ s turned store e. edges_none (cell_of s a.at a.codes.now a.row.now turned) a.base store a.edges-1.now)
+    (omega arith, omega arith, refl, λ s turned store e. edges_none (cell_of s a.at a.codes.now a.row.now turned) a.base store a.edges.now)
 
 pub offset_bounds-codes-k : goal.offset_bounds-codes-k
 offset_bounds-codes-k c = omega (arith, inside c)
@@ -48,7 +48,7 @@ loop-k-preserved c =
       omega (arith, c.loop-k-test.true),
       omega (arith, l.invariant.1, c.put_edge-next.ensures.0),
       omega (arith, c.put_edge-next.auto, l.invariant.2),
-      λ s turned store e. edges_more (cell_of s a.at a.codes.now a.row.now turned) a.base store a.edges-1.now l.k _ _ _ _ (l.invariant.3 s turned store e) (c.put_edge-next.ensures.1 s e),
+      λ s turned store e. edges_more (cell_of s a.at a.codes.now a.row.now turned) a.base store a.edges.now l.k _ _ _ _ (l.invariant.3 s turned store e) (c.put_edge-next.ensures.1 s e),
     )
 
 pub shape_of-edges : goal.shape_of-edges

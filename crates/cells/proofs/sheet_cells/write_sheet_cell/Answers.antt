@@ -50,8 +50,8 @@ write_cell-requires c =
         (
           c.requires.1.1.1.0,
           (
-            vertex_room (same (goal.at.write_cell-requires c).After-turned) a.counts.vertices-1 a.vertices-1.now a.store-1.now room.0,
-            (triangle_room (same (goal.at.write_cell-requires c).After-turned) a.counts.triangles-1 a.triangles-1.now room.1.0, room.1.1),
+            vertex_room (same (goal.at.write_cell-requires c).After-turned) a.counts.vertices a.vertices.now a.store.now room.0,
+            (triangle_room (same (goal.at.write_cell-requires c).After-turned) a.counts.triangles a.triangles.now room.1.0, room.1.1),
           ),
         ),
       ),
@@ -60,6 +60,6 @@ write_cell-requires c =
 pub returns : goal.returns
 returns c =
     let a = c.args in (
-      put_as (same (goal.at.returns c).After-turned) a.counts.vertices-1 a.counts.triangles-1 a.vertices-1.now a.triangles-1.now a.store-1.now _ _ _ _ _ _ c.write_cell.ensures.0,
-      edges_as (same (goal.at.returns c).After-turned) a.counts.vertices-1 a.edges-1.now a.store-1.now _ c.write_cell.ensures.1,
+      put_as (same (goal.at.returns c).After-turned) a.counts.vertices a.counts.triangles a.vertices.now a.triangles.now a.store.now _ _ _ _ _ _ c.write_cell.ensures.0,
+      edges_as (same (goal.at.returns c).After-turned) a.counts.vertices a.edges.now a.store.now _ c.write_cell.ensures.1,
     )

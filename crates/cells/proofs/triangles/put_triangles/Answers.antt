@@ -25,7 +25,7 @@ loop-t-preserved c =
     let l = c.loop-t in
     let a = c.args in (
       search rules,
-      triangles_more (row_triangle a.row.now a.turned a.index.now) a.base l.t _ a.triangles-1.now _ _
+      triangles_more (row_triangle a.row.now a.turned a.index.now) a.base l.t _ a.triangles.now _ _
           c.triangle.ensures l.invariant.1 c.put_triangle.ensures,
     )
 

@@ -4,4 +4,4 @@ use lib.Count.{ones-le}
 use Rattle.grid.proofs.transition_sides.count.Goals as goal
 
 pub overflow_cast-result : goal.overflow_cast-result
-overflow_cast-result c = omega (arith, ones-le 8 c.args.mask c.ranges.mask.ranges)
+overflow_cast-result c = omega (arith, ones-le 8 c.args.mask c.ranges.mask.fits)

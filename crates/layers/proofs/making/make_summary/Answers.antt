@@ -8,25 +8,25 @@ use Rattle.layers.specs.Passing.{Makeable, makeable}
 use Rattle.layers.proofs.making.make_summary.Goals as goal
 use Rattle.layers.proofs.making.make_summary.Goals.{In_default}
 
-passed : (c : In_default) → judge_making c.args.n (c.args.samples.now) (length (c.args.summary-1.now)) ≡ Passed
+passed : (c : In_default) → judge_making c.args.n (c.args.samples.now) (length (c.args.summary.now)) ≡ Passed
 passed c = sym c.judge_making-verdict.ensures ∙ c.in_default.is
 
-is-makeable : (c : In_default) → Makeable c.args.n (c.args.samples.now) (length (c.args.summary-1.now))
-is-makeable c = makeable c.args.n (c.args.samples.now) (length (c.args.summary-1.now)) (passed c)
+is-makeable : (c : In_default) → Makeable c.args.n (c.args.samples.now) (length (c.args.summary.now))
+is-makeable c = makeable c.args.n (c.args.samples.now) (length (c.args.summary.now)) (passed c)
 
 pub returns-in-Refused : goal.returns-in-Refused
 unfolding make_summary
 returns-in-Refused c =
     let a = c.args in
-    sym (ap (make_answer a.n a.samples.now a.summary-1.now) (sym c.judge_making-verdict.ensures ∙ c.in-Refused.is))
+    sym (ap (make_answer a.n a.samples.now a.summary.now) (sym c.judge_making-verdict.ensures ∙ c.in-Refused.is))
 
 pub put_layers-requires : goal.put_layers-requires
 put_layers-requires c =
     let m = is-makeable (goal.at.put_layers-requires c).In_default in
-    (m.own_is.held, (omega arith, (omega arith, m.ranges)))
+    (m.own_is.held, (omega arith, (omega arith, m.fits)))
 
 pub returns : goal.returns
 unfolding make_summary
 returns c =
     (λ i. record { answer = Passed; summary = c.put_layers.ensures i })
-    ∙ sym (ap (make_answer c.args.n (c.args.samples.now) (c.args.summary-1.now)) (passed (goal.at.returns c).In_default))
+    ∙ sym (ap (make_answer c.args.n (c.args.samples.now) (c.args.summary.now)) (passed (goal.at.returns c).In_default))

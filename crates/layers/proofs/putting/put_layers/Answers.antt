@@ -39,7 +39,7 @@ loop-x-preserved c =
     let a = c.args in
     let x = turn.x in
     let from = a.from in
-    let summary = a.summary-1.now in
+    let summary = a.summary.now in
     let f : ℕ → List Float = λ k. layer_floats a.n a.samples.now (from + k) in
     let place : 2 * x ≡ 2 * from + 2 * (x - from) = omega (arith, turn.invariant.0) in
     let layer : x ≡ from + (x - from) = omega (arith, turn.invariant.0) in
@@ -61,4 +61,4 @@ returns c =
     let a = c.args in
     let turn = c.loop-x in
     let end : turn.x ≡ a.to = omega arith in
-    turn.invariant.3 ∙ ap (λ (x : ℕ). madeFrom a.n a.samples.now a.from a.summary-1.now (x - a.from)) end
+    turn.invariant.3 ∙ ap (λ (x : ℕ). madeFrom a.n a.samples.now a.from a.summary.now (x - a.from)) end

@@ -22,7 +22,7 @@ pub returns-in-Face : goal.returns-in-Face
 returns-in-Face c =
     let a = c.args in
     sym
-    (ap (λ (k : PlaceKind). renewed k a.n a.samples.now (a.p.x - 1) a.summary-1.now)
+    (ap (λ (k : PlaceKind). renewed k a.n a.samples.now (a.p.x - 1) a.summary.now)
     (sym c.kind-stored.ensures ∙ c.in-Face.is))
 
 pub overflow_sub-x : goal.overflow_sub-x
@@ -45,5 +45,5 @@ pub returns : goal.returns
 returns c =
     let a = c.args in
     c.put_layers.ensures
-    ∙ ap₂ (λ (from to : ℕ). layers_made a.n a.samples.now from to a.summary-1.now) c.first_holding.ensures c.end_holding.ensures
-    ∙ sym (ap (λ (k : PlaceKind). renewed k a.n a.samples.now (a.p.x - 1) a.summary-1.now) (in_block (goal.at.returns c).In_default))
+    ∙ ap₂ (λ (from to : ℕ). layers_made a.n a.samples.now from to a.summary.now) c.first_holding.ensures c.end_holding.ensures
+    ∙ sym (ap (λ (k : PlaceKind). renewed k a.n a.samples.now (a.p.x - 1) a.summary.now) (in_block (goal.at.returns c).In_default))

@@ -4,4 +4,4 @@ use Rattle.record.specs.Patterns.{usable_bits}
 use Rattle.record.proofs.judging.is_usable.Goals as goal
 
 pub returns : goal.returns
-returns c = sym (usable_bits _ c.ranges.bits.ranges)
+returns c = sym (usable_bits _ c.ranges.bits.fits)

@@ -13,4 +13,4 @@ returns c =
     let bytes = c.args.bytes.now in
     let at = c.args.at in
     ap (λ (w : ℕ). leb 0x3A80_0000 w && leb w 0x4980_0000) c.word_at-size.ensures
-    ∙ sym (usable_size_bits (word_at bytes at) (word_lt bytes (λ k. (c.shared_slice_known-1.given k).ranges) at))
+    ∙ sym (usable_size_bits (word_at bytes at) (word_lt bytes (λ k. (c.shared_slice_known-1.given k).fits) at))

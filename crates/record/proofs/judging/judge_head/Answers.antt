@@ -10,7 +10,7 @@ use Rattle.record.proofs.judging.judge_head.Goals.{In_default, In_default-subdiv
 version-passed : (c : In_default) → judge_version (c.args.bytes.now) ≡ Passed
 version-passed c = sym c.unless-known.ensures ∙ c.in_default.is
 
-subdivisions-passed : (c : In_default-subdivisions) → judge_subdivisions (header_of (c.args.bytes.now)).block.subdivisions-1 ≡ Passed
+subdivisions-passed : (c : In_default-subdivisions) → judge_subdivisions (header_of (c.args.bytes.now)).block.subdivisions ≡ Passed
 subdivisions-passed c =
     sym (c.judge_subdivisions-subdivisions.ensures ∙ ap judge_subdivisions c.subdivisions_of.ensures)
     ∙ c.in_default-subdivisions.is
@@ -26,7 +26,7 @@ returns-in-Refused c =
 
 pub returns-in-Refused-subdivisions : goal.returns-in-Refused-subdivisions
 returns-in-Refused-subdivisions c =
-    let subdivisions : judge_subdivisions (header_of (c.args.bytes.now)).block.subdivisions-1 ≡ Refused c.in-Refused-subdivisions.r =
+    let subdivisions : judge_subdivisions (header_of (c.args.bytes.now)).block.subdivisions ≡ Refused c.in-Refused-subdivisions.r =
     sym (c.judge_subdivisions-subdivisions.ensures ∙ ap judge_subdivisions c.subdivisions_of.ensures)
     ∙ c.in-Refused-subdivisions.is in
     rw (version-passed (goal.at.returns-in-Refused-subdivisions c).In_default, subdivisions)

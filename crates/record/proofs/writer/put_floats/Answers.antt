@@ -37,11 +37,11 @@ loop-k-preserved c =
     let turn = c.loop-k in
     let floats = start.floats.now in
     let here : turn.k < length floats = omega arith in
-    let put : c.put_word.new.0 ≡ sets start.bytes-1.now start.at (each float_bytes (take (turn.k + 1) floats)) =
+    let put : c.put_word.new.0 ≡ sets start.bytes.now start.at (each float_bytes (take (turn.k + 1) floats)) =
     c.put_word.ensures
     ∙ ap (λ (l : List ℕ). sets l (start.at + 4 * turn.k) (float_bytes (get_or floats turn.k nan))) turn.invariant.1.1
-    ∙ put_more big start.bytes-1.now start.at floats turn.k here in
-    (omega arith, (ap length put ∙ length-sets start.bytes-1.now start.at (each float_bytes (take (turn.k + 1) floats)), put))
+    ∙ put_more big start.bytes.now start.at floats turn.k here in
+    (omega arith, (ap length put ∙ length-sets start.bytes.now start.at (each float_bytes (take (turn.k + 1) floats)), put))
 
 pub shape_of-bytes : goal.shape_of-bytes
 shape_of-bytes c = c.loop-k.invariant.1.0
@@ -52,4 +52,4 @@ returns c =
     let floats = start.floats.now in
     let all : c.loop-k.k ≡ length floats = omega arith in
     c.loop-k.invariant.1.1
-    ∙ ap (λ (l : List Float). sets start.bytes-1.now start.at (each float_bytes l)) (ap (λ (k : ℕ). take k floats) all ∙ take-length floats)
+    ∙ ap (λ (l : List Float). sets start.bytes.now start.at (each float_bytes l)) (ap (λ (k : ℕ). take k floats) all ∙ take-length floats)

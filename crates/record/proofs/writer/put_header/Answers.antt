@@ -17,4 +17,4 @@ returns c =
     let measures = each float_bytes (measures_of args.header) in
     c.put_floats.ensures
     ∙ ap (λ (l : List ℕ). sets l threshold_at measures) c.put_start.ensures
-    ∙ sets_append args.bytes-1.now 0 (start_of args.header args.count) measures
+    ∙ sets_append args.bytes.now 0 (start_of args.header args.count) measures

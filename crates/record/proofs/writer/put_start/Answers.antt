@@ -24,4 +24,4 @@ returns c =
     let h = args.header in
     let rest : List ℕ = 1 ∷ h.block.subdivisions ∷ h.mask ∷ [] in
     ap (λ (l : List ℕ). sets l version_at rest) c.put_word.ensures
-    ∙ sets_append args.bytes-1.now 0 (word_bytes (length_field args.count)) rest
+    ∙ sets_append args.bytes.now 0 (word_bytes (length_field args.count)) rest

@@ -3,7 +3,7 @@ use Prim.Native.Nat.{◌+◌, ◌*◌, ◌≤◌}
 use mathlib.Core.Path.{◌≡◌, sym, ap, ◌∙◌}
 use native.Mathlib.Omega.{arith}
 use Rattle.model.specs.declared.Xyz.{Xyz}
-use Rattle.model.specs.Samples.{inBlock}
+use Rattle.model.specs.Samples.{in_block}
 use Rattle.model.specs.Sides.{named_below, neighbour_length}
 use Rattle.grid.specs.Counts.{most_samples}
 use Rattle.grid.specs.Walks.{side_place}
@@ -30,9 +30,9 @@ unfolding side_place
 returns c = let a = c.args in
     let on = c.requires.on in
     let coarse =
-    c.in_block.ensures.0 ∙ ap (λ (p : Xyz). inBlock a.n p.x p.y p.z) c.side_point-p.ensures.0
+    c.in_block.ensures.0 ∙ ap (λ (p : Xyz). in_block a.n p.x p.y p.z) c.side_point-p.ensures.0
     ∙ sym (coarse_is a.n a.at.side a.at.u a.at.v on) in
     let fine =
-    c.in_block-2.ensures.0 ∙ ap (λ (p : Xyz). inBlock (2 * a.n) p.x p.y p.z) c.side_point-q.ensures.0
+    c.in_block-2.ensures.0 ∙ ap (λ (p : Xyz). in_block (2 * a.n) p.x p.y p.z) c.side_point-q.ensures.0
     ∙ sym (fine_is a.n a.at.side a.at.u a.at.v on) in
     λ i. record { coarse = coarse i; fine = part_is (goal.at.returns c).After-sample_length i + fine i }

@@ -26,4 +26,4 @@ shape_of-changes c = c.loop-place.invariant.1.0
 pub returns : goal.returns
 returns c = let a = c.args in
     let all : c.loop-place.place ≡ length a.bits.now = omega arith in
-    subst (λ (k : ℕ). Put a.changes-1.now a.from (gather ((filler_at c.args.list c.args.filler c.args.bits.now)) k) c.loop-place.at c.loop-place.changes-1) all c.loop-place.invariant.1.1
+    subst (λ (k : ℕ). Put a.changes.now a.from (gather ((filler_at c.args.list c.args.filler c.args.bits.now)) k) c.loop-place.at c.loop-place.changes) all c.loop-place.invariant.1.1

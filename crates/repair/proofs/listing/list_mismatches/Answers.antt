@@ -36,5 +36,5 @@ shape_of-changes c = c.loop-k.invariant.1.0
 pub returns : goal.returns
 returns c = let a = c.args in
     let all : c.loop-k.k ≡ spot_count a.header.block.subdivisions = omega (arith, c.spot_count-k-end.ensures) in
-    subst (λ (l : List Change). Put a.changes-1.now a.from l c.loop-k.at c.loop-k.changes-1)
+    subst (λ (l : List Change). Put a.changes.now a.from l c.loop-k.at c.loop-k.changes)
     (ap (gather ((mismatch_spot c.args.header ((filled_in c.args.filler (delivery c.args.centre.now c.args.neighbours.now)))))) all ∙ sym (in_one_row a.header ((filled_in c.args.filler (delivery c.args.centre.now c.args.neighbours.now))))) c.loop-k.invariant.1.1

@@ -12,8 +12,8 @@ put_change-requires c = omega (arith, c.requires, ap (λ (l : List Change). leng
 
 pub returns-in-At : goal.returns-in-At
 returns-in-At c = let change = c.in-At.change in
-    let found : found_of c.args.found-1 ≡ change ∷ [] = ap found_of c.in-At.is in
-    rw (found, c.put_change.ensures) (put_one c.args.changes-1.now c.args.at change)
+    let found : found_of c.args.found ≡ change ∷ [] = ap found_of c.in-At.is in
+    rw (found, c.put_change.ensures) (put_one c.args.changes.now c.args.at change)
 
 pub returns-in-Nothing : goal.returns-in-Nothing
-returns-in-Nothing c = rw c.in-Nothing.is (put_none c.args.changes-1.now c.args.at)
+returns-in-Nothing c = rw c.in-Nothing.is (put_none c.args.changes.now c.args.at)

@@ -64,7 +64,7 @@ is_at_after_move_down e =
 
 low-plane : (c : After-move_down) → Plane ((star_of c.args.src.now)) (c.loop-x.x) (c.move_down.new.1.1.0)
 low-plane c =
-    plane_same ((star_of c.args.src.now)) (c.loop-x.x) c.loop-x.high-1 (c.move_down.new.1.1.0) c.loop-x.invariant.plane
+    plane_same ((star_of c.args.src.now)) (c.loop-x.x) c.loop-x.high (c.move_down.new.1.1.0) c.loop-x.invariant.plane
     (λ k h. c.move_down.ensures k (rw (is_at_after_move_down c).subdivisions_are at h))
 
 high-long : (c : After-fill_plane-in-loop-x) → length (c.fill_plane-in-loop-x.new.1.1.1.0) ≡ plane_places
@@ -85,7 +85,7 @@ is_at_after_cases_between e =
 
 low-plane_at_after_cases_between : (c : After-cases_between) → Plane ((star_of c.args.src.now)) (c.loop-x.x) (c.move_down.new.1.1.0)
 low-plane_at_after_cases_between c =
-    plane_same ((star_of c.args.src.now)) (c.loop-x.x) c.loop-x.high-1 (c.move_down.new.1.1.0) c.loop-x.invariant.plane
+    plane_same ((star_of c.args.src.now)) (c.loop-x.x) c.loop-x.high (c.move_down.new.1.1.0) c.loop-x.invariant.plane
     (λ k h. c.move_down.ensures k (rw (is_at_after_cases_between c).subdivisions_are at h))
 
 held : (c : After-cases_between) → Held ((star_of c.args.src.now)) (Layer (c.loop-x.x)) (c.args.header.block.subdivisions) (c.cases_between.new.1.1.1.1.0) [] (c.cases_between.new.1.1.1.1.1.0)
@@ -106,7 +106,7 @@ is_at_after_count_sheet_counts e =
 
 low-plane_at_after_count_sheet_counts : (c : After-count_sheet-counts) → Plane ((star_of c.args.src.now)) (c.loop-x.x) (c.move_down.new.1.1.0)
 low-plane_at_after_count_sheet_counts c =
-    plane_same ((star_of c.args.src.now)) (c.loop-x.x) c.loop-x.high-1 (c.move_down.new.1.1.0) c.loop-x.invariant.plane
+    plane_same ((star_of c.args.src.now)) (c.loop-x.x) c.loop-x.high (c.move_down.new.1.1.0) c.loop-x.invariant.plane
     (λ k h. c.move_down.ensures k (rw (is_at_after_count_sheet_counts c).subdivisions_are at h))
 
 held_at_after_count_sheet_counts : (c : After-count_sheet-counts) → Held ((star_of c.args.src.now)) (Layer (c.loop-x.x)) (c.args.header.block.subdivisions) (c.cases_between.new.1.1.1.1.0) [] (c.cases_between.new.1.1.1.1.1.0)

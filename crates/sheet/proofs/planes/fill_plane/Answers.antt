@@ -5,7 +5,7 @@ use mathlib.Core.List.{List}
 use native.Mathlib.Omega.{arith}
 use lib.Ieee.{Float, nan}
 use lib.ListN.{get_or, length-set}
-use Rattle.model.specs.Samples.{inBlock}
+use Rattle.model.specs.Samples.{in_block}
 use Rattle.model.specs.Record.{count_of, samples_of}
 use Rattle.laws.specs.Filled.{none_filled, one_filled}
 use Rattle.cases.specs.RowPlaces.{layer_fits}
@@ -26,7 +26,7 @@ there c =
     let n_is = c.requires.0.1 in
     let in_plane = subst (λ (n : ℕ). (c.loop-k.k) < (n + 1) * (n + 1)) n_is c.loop-k-test.true in
     let placed = plane_in c.args.src.now c.args.x (omega arith) (c.loop-k.k) in_plane in
-    omega (arith, placed, c.in_block-first.ensures.0 ∙ ap (λ (n : ℕ). inBlock n c.args.x 0 0) n_is)
+    omega (arith, placed, c.in_block-first.ensures.0 ∙ ap (λ (n : ℕ). in_block n c.args.x 0 0) n_is)
 
 pub in_block-first-requires : goal.in_block-first-requires
 in_block-first-requires c = omega (arith, c.requires.0.0.few, c.requires.0.1)
@@ -70,7 +70,7 @@ pub returns : goal.returns
 returns c =
     let turn = c.loop-k in
     let n_is = c.requires.0.1 in
-    let first_is = c.in_block-first.ensures.0 ∙ ap (λ (n : ℕ). inBlock n c.args.x 0 0) n_is in
+    let first_is = c.in_block-first.ensures.0 ∙ ap (λ (n : ℕ). in_block n c.args.x 0 0) n_is in
     let end : turn.k ≡ (c.args.n + 1) * (c.args.n + 1) = omega (arith, c.loop-k-test.false) in
     plane_read c.args.src.now c.args.x (omega (arith, c.requires.1.0)) turn.plane
     (λ k h.

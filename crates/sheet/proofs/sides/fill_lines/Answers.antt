@@ -25,7 +25,7 @@ lined : (e : Start) → ThreeLined e.args.src.now e.args.header e.args.side e.ar
 lined e = three_lined e.args.src.now e.args.side e.args.u e.args.header e.requires.0.1.0 e.requires.0.1.1 e.requires.1.0
 
 -- its line ends among the three
-ends-in : (c : In-loop-i) → (2 * c.args.header.block.subdivisions + 1) * (c.loop-i.i) + (2 * c.args.header.block.subdivisions + 1) ≤ length c.args.samples-1.now
+ends-in : (c : In-loop-i) → (2 * c.args.header.block.subdivisions + 1) * (c.loop-i.i) + (2 * c.args.header.block.subdivisions + 1) ≤ length c.args.samples.now
 ends-in c =
     let most : (2 * c.args.header.block.subdivisions + 1) * (c.loop-i.i) ≤ (2 * c.args.header.block.subdivisions + 1) * 2 = mul-le-mul_left ((2 * c.args.header.block.subdivisions + 1)) (omega (arith, c.loop-i-test.true)) in
     omega (arith, most, c.requires.1.1, c.requires.0.1.1.few)
@@ -60,12 +60,12 @@ pub loop-i-preserved : goal.loop-i-preserved
 loop-i-preserved c =
     let turn = c.loop-i in
     let f = (line c.args.src.now c.args.header c.args.side c.args.u) in
-    let put : c.fill_line.new.1.1.0 ≡ sets c.args.samples-1.now 0 (gather f (turn.i + 1)) =
+    let put : c.fill_line.new.1.1.0 ≡ sets c.args.samples.now 0 (gather f (turn.i + 1)) =
     c.fill_line.ensures
     ∙ ap₂ (λ (l : List Float) (g : Line). sets l ((2 * c.args.header.block.subdivisions + 1) * turn.i) (line_samples c.args.src.now g)) turn.invariant.2 c.fine_line-line.ensures
-    ∙ ap (λ (at : ℕ). sets (sets c.args.samples-1.now 0 (gather f turn.i)) at (f turn.i)) (sym (zero-add ((2 * c.args.header.block.subdivisions + 1) * turn.i)))
-    ∙ sets_gather f ((2 * c.args.header.block.subdivisions + 1)) (λ k. length_listed _ _) c.args.samples-1.now 0 turn.i in
-    (omega (arith, c.loop-i-test.true), ap length put ∙ length-sets c.args.samples-1.now 0 (gather f (turn.i + 1)), put)
+    ∙ ap (λ (at : ℕ). sets (sets c.args.samples.now 0 (gather f turn.i)) at (f turn.i)) (sym (zero-add ((2 * c.args.header.block.subdivisions + 1) * turn.i)))
+    ∙ sets_gather f ((2 * c.args.header.block.subdivisions + 1)) (λ k. length_listed _ _) c.args.samples.now 0 turn.i in
+    (omega (arith, c.loop-i-test.true), ap length put ∙ length-sets c.args.samples.now 0 (gather f (turn.i + 1)), put)
 
 pub shape_of-samples : goal.shape_of-samples
 shape_of-samples c = c.loop-i.invariant.1
@@ -75,5 +75,5 @@ returns c =
     let turn = c.loop-i in
     let f = (line c.args.src.now c.args.header c.args.side c.args.u) in
     let all : turn.i ≡ 3 = omega (arith, c.loop-i-test.false) in
-    (lined (goal.at.returns c).Start).filled c.args.samples-1.now turn.samples-1 (omega (arith, c.requires.1.1, c.requires.0.1.1.few))
-    (turn.invariant.2 ∙ ap (λ (k : ℕ). sets c.args.samples-1.now 0 (gather f k)) all)
+    (lined (goal.at.returns c).Start).filled c.args.samples.now turn.samples (omega (arith, c.requires.1.1, c.requires.0.1.1.few))
+    (turn.invariant.2 ∙ ap (λ (k : ℕ). sets c.args.samples.now 0 (gather f k)) all)

@@ -48,12 +48,12 @@ loop-t-preserved c =
     let turn = c.loop-t in
     let start = c.args in
     let corners = corners_in start.bytes.now in
-    let put : c.fill_corners.new.1.1.0 ≡ sets start.positions-1.now 0 (gather corners (turn.t + 1)) =
+    let put : c.fill_corners.new.1.1.0 ≡ sets start.positions.now 0 (gather corners (turn.t + 1)) =
     c.fill_corners.ensures
     ∙ ap₂ (λ (l : List Float) (from : ℕ). sets l (float_count * turn.t) (listed (λ k. little_float_at start.bytes.now (from + normal_length + 4 * k)) float_count)) turn.invariant.2 c.file_length-from.ensures
-    ∙ ap (λ (i : ℕ). sets (sets start.positions-1.now 0 (gather corners turn.t)) i (corners turn.t)) (sym (zero-add (float_count * turn.t)))
-    ∙ sets_gather corners float_count (λ t. refl) start.positions-1.now 0 turn.t in
-    (omega arith, ap length put ∙ length-sets start.positions-1.now 0 (gather corners (turn.t + 1)), put)
+    ∙ ap (λ (i : ℕ). sets (sets start.positions.now 0 (gather corners turn.t)) i (corners turn.t)) (sym (zero-add (float_count * turn.t)))
+    ∙ sets_gather corners float_count (λ t. refl) start.positions.now 0 turn.t in
+    (omega arith, ap length put ∙ length-sets start.positions.now 0 (gather corners (turn.t + 1)), put)
 
 pub shape_of-positions : goal.shape_of-positions
 shape_of-positions c = c.loop-t.invariant.1
@@ -63,6 +63,6 @@ unfolding positions_in
 returns c =
     let start = c.args in
     let all : c.loop-t.t ≡ count_in start.bytes.now = omega (arith, c.requires.0) in
-    let room : length (positions_in start.bytes.now) ≤ length start.positions-1.now = rw (length_gather (corners_in start.bytes.now) float_count (λ t. refl)) (omega (arith, c.requires)) in
-    c.loop-t.invariant.2 ∙ ap (λ (t : ℕ). sets start.positions-1.now 0 (gather (corners_in start.bytes.now) t)) all
-    ∙ sets_first start.positions-1.now (positions_in start.bytes.now) room
+    let room : length (positions_in start.bytes.now) ≤ length start.positions.now = rw (length_gather (corners_in start.bytes.now) float_count (λ t. refl)) (omega (arith, c.requires)) in
+    c.loop-t.invariant.2 ∙ ap (λ (t : ℕ). sets start.positions.now 0 (gather (corners_in start.bytes.now) t)) all
+    ∙ sets_first start.positions.now (positions_in start.bytes.now) room

@@ -9,17 +9,17 @@ use Rattle.stl.specs.Passing.{Readable, readable}
 use Rattle.stl.proofs.reader.read_stl.Goals as goal
 use Rattle.stl.proofs.reader.read_stl.Goals.{In_default}
 
-passed : (c : In_default) → judge_reading (c.args.bytes.now) (length (c.args.positions-1.now)) ≡ Passed
+passed : (c : In_default) → judge_reading (c.args.bytes.now) (length (c.args.positions.now)) ≡ Passed
 passed c = sym c.judge_reading-verdict.ensures ∙ c.in_default.is
 
-is-readable : (c : In_default) → Readable (c.args.bytes.now) (length (c.args.positions-1.now))
-is-readable c = readable (c.args.bytes.now) (length (c.args.positions-1.now)) (passed c)
+is-readable : (c : In_default) → Readable (c.args.bytes.now) (length (c.args.positions.now))
+is-readable c = readable (c.args.bytes.now) (length (c.args.positions.now)) (passed c)
 
 pub returns-in-Refused : goal.returns-in-Refused
 unfolding read_stl
 returns-in-Refused c =
     let args = c.args in
-    sym (ap (read_answer args.bytes.now args.positions-1.now) (sym c.judge_reading-verdict.ensures ∙ c.in-Refused.is))
+    sym (ap (read_answer args.bytes.now args.positions.now) (sym c.judge_reading-verdict.ensures ∙ c.in-Refused.is))
 
 pub count_in-count-requires : goal.count_in-count-requires
 count_in-count-requires c = (is-readable c).file.long
@@ -28,10 +28,10 @@ pub fill_positions-requires : goal.fill_positions-requires
 fill_positions-requires c =
     let r = is-readable (goal.at.fill_positions-requires c).In_default in
     let count = c.count_in-count.ensures.0 in
-    (count, (r.file.counted ∙ ap file_length (sym count), omega (arith, r.ranges, count)))
+    (count, (r.file.counted ∙ ap file_length (sym count), omega (arith, r.fits, count)))
 
 pub returns : goal.returns
 unfolding read_stl
 returns c =
     (λ i. record { answer = StlRead.Triangles (c.count_in-count.ensures.0 i); positions = c.fill_positions.ensures i })
-    ∙ sym (ap (read_answer (c.args.bytes.now) (c.args.positions-1.now)) (passed (goal.at.returns c).In_default))
+    ∙ sym (ap (read_answer (c.args.bytes.now) (c.args.positions.now)) (passed (goal.at.returns c).In_default))

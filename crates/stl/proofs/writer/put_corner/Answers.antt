@@ -5,4 +5,4 @@ use Rattle.stl.proofs.writer.put_corner.Goals as goal
 pub returns : goal.returns
 returns c =
     let args = c.args in
-    rw (c.put_word-3.ensures, c.put_word-2.ensures, c.put_word.ensures) (corner_put args.bytes-1.now args.at args.corner)
+    rw (c.put_word-3.ensures, c.put_word-2.ensures, c.put_word.ensures) (corner_put args.bytes.now args.at args.corner)

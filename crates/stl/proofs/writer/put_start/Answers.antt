@@ -12,4 +12,4 @@ pub returns : goal.returns
 returns c =
     let args = c.args in
     c.put_word.ensures
-    ∙ ap (λ (l : List ℕ). sets l header_length (little_bytes args.count)) c.put_zeros.ensures ∙ start_put args.bytes-1.now args.count
+    ∙ ap (λ (l : List ℕ). sets l header_length (little_bytes args.count)) c.put_zeros.ensures ∙ start_put args.bytes.now args.count

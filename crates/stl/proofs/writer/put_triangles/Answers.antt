@@ -34,11 +34,11 @@ loop-t-preserved c =
     let turn = c.loop-t in
     let start = c.args in
     let facet = facet_of start.vertices.now start.triangles.now in
-    let put : c.put_triangle.new.0 ≡ sets start.bytes-1.now start_length (gather facet (turn.t + 1)) =
+    let put : c.put_triangle.new.0 ≡ sets start.bytes.now start_length (gather facet (turn.t + 1)) =
     c.put_triangle.ensures
     ∙ ap₂ (λ (l : List ℕ) (at : ℕ). sets l at (facet turn.t)) turn.invariant.2 c.file_length.ensures
-    ∙ sets_gather facet triangle_length (length_facet start.vertices.now start.triangles.now) start.bytes-1.now start_length turn.t in
-    (omega arith, ap length put ∙ length-sets start.bytes-1.now start_length (gather facet (turn.t + 1)), put)
+    ∙ sets_gather facet triangle_length (length_facet start.vertices.now start.triangles.now) start.bytes.now start_length turn.t in
+    (omega arith, ap length put ∙ length-sets start.bytes.now start_length (gather facet (turn.t + 1)), put)
 
 pub shape_of-bytes : goal.shape_of-bytes
 shape_of-bytes c = c.loop-t.invariant.1
@@ -47,4 +47,4 @@ pub returns : goal.returns
 returns c =
     let start = c.args in
     let all : c.loop-t.t ≡ triangle_count start.triangles.now = omega arith in
-    c.loop-t.invariant.2 ∙ ap (λ (t : ℕ). sets start.bytes-1.now start_length (gather (facet_of start.vertices.now start.triangles.now) t)) all
+    c.loop-t.invariant.2 ∙ ap (λ (t : ℕ). sets start.bytes.now start_length (gather (facet_of start.vertices.now start.triangles.now) t)) all

@@ -15,28 +15,28 @@ use Rattle.stl.specs.Passing.{Writable, writable}
 use Rattle.stl.proofs.writer.write_stl.Goals as goal
 use Rattle.stl.proofs.writer.write_stl.Goals.{In_default}
 
-passed : (c : In_default) → judge_writing (vertex_count (c.args.vertices.now)) (c.args.triangles.now) (length (c.args.bytes-1.now)) ≡ Passed
+passed : (c : In_default) → judge_writing (vertex_count (c.args.vertices.now)) (c.args.triangles.now) (length (c.args.bytes.now)) ≡ Passed
 passed c = sym c.judge_writing-verdict.ensures ∙ c.in_default.is
 
-is-writable : (c : In_default) → Writable (c.args.vertices.now) (c.args.triangles.now) (length (c.args.bytes-1.now))
-is-writable c = writable (c.args.vertices.now) (c.args.triangles.now) (length (c.args.bytes-1.now)) (passed c)
+is-writable : (c : In_default) → Writable (c.args.vertices.now) (c.args.triangles.now) (length (c.args.bytes.now))
+is-writable c = writable (c.args.vertices.now) (c.args.triangles.now) (length (c.args.bytes.now)) (passed c)
 
 pub returns-in-Refused : goal.returns-in-Refused
 unfolding write_stl
 returns-in-Refused c =
     let args = c.args in
     sym
-    (ap (write_answer args.vertices.now args.triangles.now args.bytes-1.now) (sym c.judge_writing-verdict.ensures ∙ c.in-Refused.is))
+    (ap (write_answer args.vertices.now args.triangles.now args.bytes.now) (sym c.judge_writing-verdict.ensures ∙ c.in-Refused.is))
 
 pub put_start-requires : goal.put_start-requires
 put_start-requires c =
     let w = is-writable (goal.at.put_start-requires c).In_default in
-    (omega (arith, w.ranges), w.few)
+    (omega (arith, w.fits), w.few)
 
 pub put_triangles-requires : goal.put_triangles-requires
 put_triangles-requires c =
     let w = is-writable (goal.at.put_triangles-requires c).In_default in
-    (omega (arith, w.ranges), w.named)
+    (omega (arith, w.fits), w.named)
 
 pub file_length-requires : goal.file_length-requires
 file_length-requires c =
@@ -49,6 +49,6 @@ returns c =
     let laid-down =
     c.put_triangles.ensures
     ∙ ap (λ (l : List ℕ). sets l start_length (gather (facet_of (c.args.vertices.now) (c.args.triangles.now)) count)) c.put_start.ensures
-    ∙ file_laid (c.args.vertices.now) (c.args.triangles.now) (c.args.bytes-1.now) (is-writable (goal.at.returns c).In_default).ranges in
+    ∙ file_laid (c.args.vertices.now) (c.args.triangles.now) (c.args.bytes.now) (is-writable (goal.at.returns c).In_default).ranges in
     (λ i. record { answer = StlWritten.Bytes (c.file_length.ensures i); bytes = laid-down i })
-    ∙ sym (ap (write_answer (c.args.vertices.now) (c.args.triangles.now) (c.args.bytes-1.now)) (passed (goal.at.returns c).In_default))
+    ∙ sym (ap (write_answer (c.args.vertices.now) (c.args.triangles.now) (c.args.bytes.now)) (passed (goal.at.returns c).In_default))

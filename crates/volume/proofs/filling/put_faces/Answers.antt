@@ -15,7 +15,7 @@ loop-side-init c =
     let args = c.args in (
       omega arith,
       refl,
-      no_faces args.n args.bytes.now args.xs.now args.across.now args.along.now args.square args.samples-1.now,
+      no_faces args.n args.bytes.now args.xs.now args.across.now args.along.now args.square args.samples.now,
     )
 
 pub overflow_add-fixed : goal.overflow_add-fixed
@@ -65,8 +65,8 @@ loop-side-preserved c =
     let args = c.args in (
       omega arith,
       c.put_line.auto.1.1.1.1.0 ∙ turn.invariant.1,
-      faces_more args.n args.bytes.now args.xs.now args.across.now args.along.now args.square args.samples-1.now turn.side
-          turn.samples-1 c.put_line.new.1.1.1.1.0 c.put_line.ensures turn.invariant.2,
+      faces_more args.n args.bytes.now args.xs.now args.across.now args.along.now args.square args.samples.now turn.side
+          turn.samples c.put_line.new.1.1.1.1.0 c.put_line.ensures turn.invariant.2,
     )
 
 pub shape_of-samples : goal.shape_of-samples

@@ -10,7 +10,7 @@ loop-j-init c =
     let args = c.args in (
       omega arith,
       refl,
-      no_line args.bytes.now args.xs.now args.fixed args.along.now args.at args.wide args.rows args.samples-1.now,
+      no_line args.bytes.now args.xs.now args.fixed args.along.now args.at args.wide args.rows args.samples.now,
     )
 
 pub offset_bounds-along-j : goal.offset_bounds-along-j
@@ -53,8 +53,8 @@ loop-j-preserved c =
     let after = c.put_column.new.1.1.1.0 in (
       omega arith,
       c.put_column.auto.1.1.1.0 ∙ turn.invariant.1,
-      line_more args.bytes.now args.xs.now args.fixed args.along.now args.at args.wide args.rows args.samples-1.now turn.j
-          turn.samples-1 after (omega (arith, c.requires.narrow)) c.put_column.ensures turn.invariant.2,
+      line_more args.bytes.now args.xs.now args.fixed args.along.now args.at args.wide args.rows args.samples.now turn.j
+          turn.samples after (omega (arith, c.requires.narrow)) c.put_column.ensures turn.invariant.2,
     )
 
 pub shape_of-samples : goal.shape_of-samples

@@ -12,7 +12,7 @@ overflow_add-m c = omega arith
 pub loop-y-init : goal.loop-y-init
 loop-y-init c =
     let args = c.args in
-    (omega arith, refl, no_squares args.n args.bytes.now args.xs.now args.ys.now args.zs.now args.samples-1.now)
+    (omega arith, refl, no_squares args.n args.bytes.now args.xs.now args.ys.now args.zs.now args.samples.now)
 
 pub offset_bounds-ys-y : goal.offset_bounds-ys-y
 offset_bounds-ys-y c = omega arith
@@ -56,7 +56,7 @@ loop-y-preserved c =
     let args = c.args in (
       omega arith,
       c.put_line.auto.1.1.1.1.0 ∙ turn.invariant.1,
-      squares_more args.n args.bytes.now args.xs.now args.ys.now args.zs.now args.samples-1.now turn.y turn.samples-1
+      squares_more args.n args.bytes.now args.xs.now args.ys.now args.zs.now args.samples.now turn.y turn.samples
           c.put_line.new.1.1.1.1.0 (omega arith) c.put_line.ensures turn.invariant.2,
     )
 

@@ -9,16 +9,16 @@ use Rattle.weld.specs.Closing.{window_none, window_more}
 use Rattle.weld.proofs.closing.close.Goals as goal
 use Rattle.weld.proofs.closing.close.Goals.{In-loop-i}
 
-in_edges : (c : In-loop-i) → c.loop-i.i < length c.loop-i.edges-1
+in_edges : (c : In-loop-i) → c.loop-i.i < length c.loop-i.edges
 in_edges c = omega (arith, c.loop-i-test.true, c.requires.0.0.in_edges, c.loop-i.invariant.1.0.edges_same)
 
-in_vertices : (c : In-loop-i) → 6 * (c.loop-i.i + 1) ≤ length c.loop-i.vertices-1
+in_vertices : (c : In-loop-i) → 6 * (c.loop-i.i + 1) ≤ length c.loop-i.vertices
 in_vertices c = omega (arith, c.loop-i-test.true, c.requires.0.0.in_vertices, c.loop-i.invariant.1.0.vertices_same)
 
 in_table : (c : In-loop-i) → c.loop-i.i - c.args.start < length c.loop-i.table
 in_table c = omega (arith, c.loop-i-test.true, c.requires.0.0.in_table, c.loop-i.invariant.1.0.table_same, c.loop-i.invariant.0.0)
 
-tables : (c : In-loop-i) → Tables c.loop-i.seen-1 c.loop-i.hints
+tables : (c : In-loop-i) → Tables c.loop-i.seen c.loop-i.hints
 tables c =
     record {
       words = omega (arith, c.requires.0.1.words, c.loop-i.invariant.1.0.seen_same);
@@ -31,7 +31,7 @@ loop-i-init c =
       (omega arith, c.requires.0.0.ordered),
       (
         record { vertices_same = refl; edges_same = refl; seen_same = refl; hints_same = refl; table_same = refl },
-        window_none a.start a.first a.vertices-1.now a.edges-1.now a.seen-1.now a.table.now c.requires.0.0.few c.requires.1,
+        window_none a.start a.first a.vertices.now a.edges.now a.seen.now a.table.now c.requires.0.0.few c.requires.1,
       ),
     )
 
@@ -95,7 +95,7 @@ loop-i-preserved c =
           hints_same = simp length-set as_long.hints_same;
           table_same = simp length-set as_long.table_same;
         },
-        window_more a.start l.i a.first l.k place.result a.vertices-1.now a.edges-1.now l.vertices l.edges l.seen l.table
+        window_more a.start l.i a.first l.k place.result a.vertices.now a.edges.now l.vertices l.edges l.seen l.table
             l.invariant.0.0 (in_edges (goal.at.loop-i-preserved c).In-loop-i) (in_vertices (goal.at.loop-i-preserved c).In-loop-i) as_long.edges_same as_long.vertices_same (in_table (goal.at.loop-i-preserved c).In-loop-i) l.invariant.1.1 place.ensures
             keep.result last.0 last.1.0 last.1.1.0 keep.ensures,
       ),

@@ -19,5 +19,5 @@ returns c =
       count_is = rw f;
       edges_are = rw f;
       vertices_are = rw f c.move_down.ensures;
-      c = noted_more a.seen-1.now note.new.0 a.edges.now a.k a.number (omega arith) note.ensures;
+      c = noted_more a.seen.now note.new.0 a.edges.now a.k a.number (omega arith) note.ensures;
     }

@@ -9,7 +9,7 @@ use Rattle.weld.specs.Corners.{welded_none, all_welded_more}
 use Rattle.weld.proofs.pass.windows.Goals as goal
 use Rattle.weld.proofs.pass.windows.Goals.{After-close-k, After-window_end-end, In-loop-start}
 
-tables : (c : In-loop-start) → let l = c.loop-start in Tables l.seen-1 l.hints-1
+tables : (c : In-loop-start) → let l = c.loop-start in Tables l.seen l.hints
 tables c =
     let given = c.requires.1.0 in
     let as_long = c.loop-start.invariant.as_long in
@@ -17,7 +17,7 @@ tables c =
 
 -- the window that begins here has room
 room : (c : After-window_end-end) → let l = c.loop-start in
-    Room l.start c.window_end-end.result l.k l.vertices-1 l.edges-1 l.table-1
+    Room l.start c.window_end-end.result l.k l.vertices l.edges l.table
 room c =
     let l = c.loop-start in
     let given = c.requires.0 in
@@ -34,7 +34,7 @@ room c =
 
 -- it is closed, and all five lists are as long as they were
 still-long : (c : After-close-k) → let l = c.loop-start in let last = c.close-k.new.1.1.1 in
-    AsLong l.vertices-1 last.0 l.edges-1 last.1.0 l.seen-1 last.1.1.0 l.hints-1 last.1.1.1.0 l.table-1 last.1.1.1.1.0
+    AsLong l.vertices last.0 l.edges last.1.0 l.seen last.1.1.0 l.hints last.1.1.1.0 l.table last.1.1.1.1.0
 still-long c =
     let kept = c.close-k.auto.1.1.1 in
     record { vertices_same = kept.0; edges_same = kept.1.0; seen_same = kept.1.1.0; hints_same = kept.1.1.1.0; table_same = kept.1.1.1.1.0 }
@@ -48,8 +48,8 @@ loop-start-init c =
       places_are = refl;
       triangles_same = refl;
       as_long = record { vertices_same = refl; edges_same = refl; seen_same = refl; hints_same = refl; table_same = refl };
-      noted = noted_none a.seen-1.now a.edges-1.now;
-      welded = welded_none a.vertices-1.now a.triangles-1.now a.edges-1.now;
+      noted = noted_none a.seen.now a.edges.now;
+      welded = welded_none a.vertices.now a.triangles.now a.edges.now;
     }
 
 pub window_end-end-requires : goal.window_end-end-requires
@@ -89,7 +89,7 @@ loop-start-preserved c =
         table_same = still.table_same ∙ as_long.table_same;
       };
       noted = close.ensures.noted;
-      welded = all_welded_more l.start end.result a.vertices-1.now a.triangles-1.now a.edges-1.now l.k l.vertices-1 l.triangles-1 l.edges-1
+      welded = all_welded_more l.start end.result a.vertices.now a.triangles.now a.edges.now l.k l.vertices l.triangles l.edges
           (room (goal.at.loop-start-preserved c).After-window_end-end).ordered as_long.edges_same as_long.vertices_same l.invariant.welded close.result _ _ _ _ _ close.ensures renumber.ensures;
     }
 

@@ -7,4 +7,4 @@ pub returns : goal.returns
 returns c =
     let start = c.args in
     c.turned_round.ensures ∙ ap turned c.word_at.ensures
-    ∙ little_turned start.bytes.now (λ k. (c.shared_slice_known-1.given k).ranges) start.at
+    ∙ little_turned start.bytes.now (λ k. (c.shared_slice_known-1.given k).fits) start.at
