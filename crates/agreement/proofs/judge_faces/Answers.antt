@@ -138,7 +138,7 @@ pub loop-v-preserved : goal.loop-v-preserved
 loop-v-preserved c =
     let turn = c.loop-v in
     let spot = (pair_spot (c.args.header.block.subdivisions) (c.args.header.threshold) (c.args.centre.now) (c.neighbour-fine.result.now) (c.search.side)) (c.loop-u.u) in
-    let agree = not-false c.samples_agree.result c.if-not-samples_agree.false in
+    let agree = c.if-not-samples_agree.false in
     let here : spot turn.v ≡ Passed = rw (← agree_is (goal.at.loop-v-preserved c).After-samples_agree, agree) in
     (omega arith, turn.invariant.1, not_yet spot turn.v turn.invariant.2 here)
 
@@ -175,7 +175,7 @@ pub returns-then-not-samples_agree : goal.returns-then-not-samples_agree
 returns-then-not-samples_agree c =
     let turn = c.search in
     let at-spot = FaceMismatch (record { side = c.search.side; u = c.loop-u.u; v = c.loop-v.v }) in
-    let differ = not-true c.samples_agree.result c.if-not-samples_agree.true in
+    let differ = c.if-not-samples_agree.true in
     let spot-hit : (pair_spot (c.args.header.block.subdivisions) (c.args.header.threshold) (c.args.centre.now) (c.neighbour-fine.result.now) (c.search.side)) (c.loop-u.u) (c.loop-v.v) ≡ Refused at-spot = rw (← agree_is (goal.at.returns-then-not-samples_agree c).After-samples_agree, differ) in
     let row-hit : (pair_row (c.args.header.block.subdivisions) (c.args.header.threshold) (c.args.centre.now) (c.neighbour-fine.result.now) (c.search.side)) (c.loop-u.u) (c.args.header.block.subdivisions + 1) ≡ Refused at-spot =
     hit ((pair_spot (c.args.header.block.subdivisions) (c.args.header.threshold) (c.args.centre.now) (c.neighbour-fine.result.now) (c.search.side)) (c.loop-u.u)) (c.loop-v.v) (c.args.header.block.subdivisions + 1) at-spot c.loop-v.invariant.2 spot-hit (omega arith) in

@@ -11,5 +11,5 @@ unfolding extract judge_extraction
 returns c =
     let a = c.args in
     let s = star a.header a.centre.now a.neighbours.now in
-    let left = c.extract_numbered.ensures.0 in
+    let left = c.extract_numbered.ensures.leaves in
     told (rw (spared_none s, none_told _ s (length a.store.now) (length a.vertices.now) (length a.triangles.now) 0) at left)

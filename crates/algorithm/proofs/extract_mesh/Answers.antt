@@ -47,7 +47,7 @@ long : (c : In_default-room) → cond c.args.numbered c.count_mesh-counts.result
 long c = numbers_there c.args.numbered _ _ (roomed_at_in_default_room c).listed
 
 store_long : (c : After-store_length-places) → c.store_length-places.result ≤ length c.args.store.now
-store_long c = omega (arith, c.store_length-places.ensures, c.requires.1.1)
+store_long c = omega (arith, c.store_length-places.ensures, c.requires.subdivisions_in_bounds)
 
 -- the parts that are lent are just enough
 exact :
@@ -55,7 +55,7 @@ exact :
     let counts = (counted told).count-mesh.result in
     Exact (lent (entry told)).s (take (6 * counts.vertices) a.vertices.now) (take (3 * counts.triangles) a.triangles.now) (take c.store_length.result a.store.now)
 exact =
-    parts (roomed (at_room told)) (passed told) c.store_length.result c.store_length.ensures (counted told).count-mesh.ensures.0 (entry told).pre.1.1
+    parts (roomed (at_room told)) (passed told) c.store_length.result c.store_length.ensures (counted told).count-mesh.ensures.0 (entry told).pre.subdivisions_in_bounds
 
 -- the further list is long enough
 listed_at_after_numbers_asked_numbers : (c : After-numbers_asked-numbers) → c.judge_numbers-listed.result ≡ Passed
@@ -117,7 +117,7 @@ slice_bounds-write_mesh-end-8 c = sym (length-take-le _ _ (numbers-long (goal.at
 pub write_mesh-reads-requires : goal.write_mesh-reads-requires
 write_mesh-reads-requires c =
     let pre = c.requires in
-    (pre.0, (pre.1.0, exact (goal.at.write_mesh-reads-requires c).After-store_length-places))
+    record { shaped = pre.shaped; trusted = pre.trusted; exact = exact (goal.at.write_mesh-reads-requires c).After-store_length-places }
 
 pub returns : goal.returns
 returns c =

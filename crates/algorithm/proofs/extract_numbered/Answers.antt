@@ -23,7 +23,7 @@ extract_mesh-requires c =
     lent_of a.numbered a.header a.centre.now a.neighbours.now a.summary.now a.store.now a.vertices.now a.triangles.now a.edges.now) in
     let held = length l.store in
     let e = judged-passed (goal.at.extract_mesh-requires c).In_default in
-    (shaped layered l.s l.summary held e, (trusted_there layered l.s l.summary held e, store_held layered l.s l.summary held e))
+    record { shaped = shaped layered l.s l.summary held e; trusted = trusted_there layered l.s l.summary held e; subdivisions_in_bounds = store_held layered l.s l.summary held e }
 
 pub returns : goal.returns
 returns c =

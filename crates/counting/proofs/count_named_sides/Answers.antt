@@ -29,7 +29,7 @@ still-long c =
 held : (c : After-face_cases) → (centre : List Float) → let a = c.args in
     let after = c.face_cases.new.1.1.1 in
     Held (star a.header centre a.neighbours.now) (Side c.loop-side.side) a.header.block.subdivisions [] after.0 after.1.0
-held c centre = record { numbers = c.face_cases.ensures.0 centre; marked = c.face_cases.ensures.1.0 centre }
+held c centre = record { numbers = c.face_cases.ensures.cases centre; marked = c.face_cases.ensures.marks centre }
 
 pub next_side-side-requires : goal.next_side-side-requires
 next_side-side-requires c = (c.requires.sides, omega arith)
@@ -56,24 +56,18 @@ slice_bounds-face_cases-end-in-loop-side c = sym c.loop-side.invariant.2.marks_l
 pub face_cases-requires : goal.face_cases-requires
 face_cases-requires c =
     let l = c.loop-side in
-    let there = c.requires in (
-      record { few = there.few; sides = there.sides; side_is = c.loop-side-test.true; is_named = l.invariant.1 c.loop-side-test.true; neighbours_are = there.neighbours_are },
-      (there.some, (l.invariant.2.cases_long, l.invariant.2.marks_long)),
-    )
+    let there = c.requires in record { neighbour_there = record { few = there.few; sides = there.sides; side_is = c.loop-side-test.true; is_named = l.invariant.1 c.loop-side-test.true; neighbours_are = there.neighbours_are }; le_subdivisions = (there.some, (l.invariant.2.cases_long, l.invariant.2.marks_long)) }
 
 pub slice_bounds-count_sheet-end-in-loop-side-5 : goal.slice_bounds-count_sheet-end-in-loop-side-5
 slice_bounds-count_sheet-end-in-loop-side-5 c = sym (still-long (goal.at.slice_bounds-count_sheet-end-in-loop-side-5 c).After-face_cases).0
 
 pub count_sheet-more-requires : goal.count_sheet-more-requires
 count_sheet-more-requires c =
-    let long = still-long (goal.at.count_sheet-more-requires c).After-face_cases in (
-      record { classes_are = c.transition_cell_class-classes.ensures; cells_are = c.transition_cell_data-cells.ensures; codes_are = c.transition_vertex_data-codes.ensures },
-      held_sheeted (star c.args.header [] c.args.neighbours.now) (Side c.loop-side.side) (held (goal.at.count_sheet-more-requires c).After-face_cases []) c.requires.few long.0 long.1,
-    )
+    let long = still-long (goal.at.count_sheet-more-requires c).After-face_cases in record { tables = record { classes_are = c.transition_cell_class-classes.ensures; cells_are = c.transition_cell_data-cells.ensures; codes_are = c.transition_vertex_data-codes.ensures }; sheeted = held_sheeted (star c.args.header [] c.args.neighbours.now) (Side c.loop-side.side) (held (goal.at.count_sheet-more-requires c).After-face_cases []) c.requires.few long.0 long.1 }
 
 pub plus-counts-requires : goal.plus-counts-requires
 plus-counts-requires c =
-    plus_fits c.loop-side.invariant.2.few c.count_sheet-more.ensures.0 (omega (arith, c.loop-side-test.true))
+    plus_fits c.loop-side.invariant.2.few c.count_sheet-more.ensures.few (omega (arith, c.loop-side-test.true))
 
 pub overflow_add-side : goal.overflow_add-side
 overflow_add-side c = omega (arith, c.loop-side-test.true)
@@ -106,4 +100,4 @@ pub returns : goal.returns
 returns c =
     let l = c.loop-side in
     let e : l.side ≡ side_count = omega arith in
-    (few_of _ (omega arith) l.invariant.2.few, λ centre. rw e at (l.invariant.2.grows centre))
+    record { few = few_of _ (omega arith) l.invariant.2.few; grows = λ centre. rw e at (l.invariant.2.grows centre) }

@@ -29,17 +29,17 @@ held : (c : After-layer_cases) → (ns : List Float) → let l = c.loop-x in
     let a = c.args in
     let after = c.layer_cases.new.1.1.1.1 in
     Held (star a.header a.centre.now ns) (Layer l.x) a.header.block.subdivisions after.0 [] after.1.0
-held c ns = record { numbers = c.layer_cases.ensures.1.0 ns; marked = c.layer_cases.ensures.1.1 ns }
+held c ns = record { numbers = c.layer_cases.ensures.cases ns; marked = c.layer_cases.ensures.marks ns }
 
 pub next_layer-x-requires : goal.next_layer-x-requires
-next_layer-x-requires c = (omega arith, c.requires.0.0)
+next_layer-x-requires c = (omega arith, c.requires.subdivisions_le_most_subdivisions.0)
 
 pub slice_bounds-pair_layer-end : goal.slice_bounds-pair_layer-end
 slice_bounds-pair_layer-end c = sym (length-replicate {A = ℕ} sheet_places 0)
 
 pub pair_layer-requires : goal.pair_layer-requires
 pair_layer-requires c =
-    (c.requires.0, (c.next_layer-x.ensures.within, length-replicate {A = ℕ} sheet_places 0))
+    record { subdivisions_le_most_subdivisions = c.requires.subdivisions_le_most_subdivisions; x_le_subdivisions = (c.next_layer-x.ensures.within, length-replicate {A = ℕ} sheet_places 0) }
 
 pub loop-x-init : goal.loop-x-init
 loop-x-init c =
@@ -48,12 +48,12 @@ loop-x-init c =
     let long = length-replicate {A = ℕ} sheet_places 0 in (
       next.within,
       layer.auto.1.1.1.0 ∙ long,
-      pairs_upper (layer.ensures (λ y z. 0) (no_pairs _ c.requires.0.0)) (λ y z. omega arith),
+      pairs_upper (layer.ensures (λ y z. 0) (no_pairs _ c.requires.subdivisions_le_most_subdivisions.0)) (λ y z. omega arith),
       record {
         cases_long = long;
         marks_long = long;
         few = few_of _ (omega arith) few_none;
-        grows = λ ns. grows_made (layers_skip (star c.args.header c.args.centre.now ns) c.args.summary.now c.requires.1 0 _ next) grows_none;
+        grows = λ ns. grows_made (layers_skip (star c.args.header c.args.centre.now ns) c.args.summary.now c.requires.trusted 0 _ next) grows_none;
       },
     )
 
@@ -63,7 +63,7 @@ slice_bounds-pair_at-end c = sym c.loop-x.invariant.1
 pub pair_at-requires : goal.pair_at-requires
 pair_at-requires c =
     let l = c.loop-x in
-    (c.requires.0, ((l.invariant.0, l.invariant.1), l.invariant.2))
+    record { subdivisions_le_most_subdivisions = c.requires.subdivisions_le_most_subdivisions; x_le_subdivisions = (l.invariant.0, l.invariant.1); upper = l.invariant.2 }
 
 pub slice_bounds-layer_cases-end : goal.slice_bounds-layer_cases-end
 slice_bounds-layer_cases-end c =
@@ -77,36 +77,27 @@ slice_bounds-layer_cases-end-in-loop-x-2 c = sym c.loop-x.invariant.3.marks_long
 
 pub layer_cases-requires : goal.layer_cases-requires
 layer_cases-requires c =
-    let inv = c.loop-x.invariant in (
-      c.requires.0,
-      (
-        (omega (arith, c.loop-x-test.true), (c.pair_at.auto.1.1.1.1.0 ∙ inv.1, (inv.3.cases_long, inv.3.marks_long))),
-        c.pair_at.ensures,
-      ),
-    )
+    let inv = c.loop-x.invariant in record { subdivisions_le_most_subdivisions = c.requires.subdivisions_le_most_subdivisions; x_lt_subdivisions = (omega (arith, c.loop-x-test.true), (c.pair_at.auto.1.1.1.1.0 ∙ inv.1, (inv.3.cases_long, inv.3.marks_long))); upper = c.pair_at.ensures }
 
 pub slice_bounds-count_sheet-end-in-loop-x-3 : goal.slice_bounds-count_sheet-end-in-loop-x-3
 slice_bounds-count_sheet-end-in-loop-x-3 c = sym (still-long (goal.at.slice_bounds-count_sheet-end-in-loop-x-3 c).After-layer_cases).1.0
 
 pub count_sheet-more-requires : goal.count_sheet-more-requires
 count_sheet-more-requires c =
-    let long = (still-long (goal.at.count_sheet-more-requires c).After-layer_cases).1 in (
-      record { classes_are = c.regular_cell_class-classes.ensures; cells_are = c.regular_cell_data-cells.ensures; codes_are = c.regular_vertex_data-codes.ensures },
-      held_sheeted (star c.args.header c.args.centre.now []) (Layer c.loop-x.x) (held (goal.at.count_sheet-more-requires c).After-layer_cases []) c.requires.0.0 long.0 long.1,
-    )
+    let long = (still-long (goal.at.count_sheet-more-requires c).After-layer_cases).1 in record { tables = record { classes_are = c.regular_cell_class-classes.ensures; cells_are = c.regular_cell_data-cells.ensures; codes_are = c.regular_vertex_data-codes.ensures }; sheeted = held_sheeted (star c.args.header c.args.centre.now []) (Layer c.loop-x.x) (held (goal.at.count_sheet-more-requires c).After-layer_cases []) c.requires.subdivisions_le_most_subdivisions.0 long.0 long.1 }
 
 pub plus-counts-requires : goal.plus-counts-requires
 plus-counts-requires c =
-    plus_fits c.loop-x.invariant.3.few c.count_sheet-more.ensures.0 (omega (arith, c.loop-x-test.true, c.requires.0.0))
+    plus_fits c.loop-x.invariant.3.few c.count_sheet-more.ensures.few (omega (arith, c.loop-x-test.true, c.requires.subdivisions_le_most_subdivisions.0))
 
 pub overflow_add-paired : goal.overflow_add-paired
-overflow_add-paired c = omega (arith, c.loop-x-test.true, c.requires.0.0)
+overflow_add-paired c = omega (arith, c.loop-x-test.true, c.requires.subdivisions_le_most_subdivisions.0)
 
 pub overflow_add-x : goal.overflow_add-x
-overflow_add-x c = omega (arith, c.loop-x-test.true, c.requires.0.0)
+overflow_add-x c = omega (arith, c.loop-x-test.true, c.requires.subdivisions_le_most_subdivisions.0)
 
 pub next_layer-x-requires-in-loop-x : goal.next_layer-x-requires-in-loop-x
-next_layer-x-requires-in-loop-x c = (omega (arith, c.loop-x-test.true), c.requires.0.0)
+next_layer-x-requires-in-loop-x c = (omega (arith, c.loop-x-test.true), c.requires.subdivisions_le_most_subdivisions.0)
 
 pub loop-x-smaller : goal.loop-x-smaller
 loop-x-smaller c = omega (arith, c.loop-x-test.true, c.next_layer-x-in-loop-x.ensures.ordered)
@@ -118,7 +109,7 @@ loop-x-preserved c =
     let more = c.count_sheet-more.ensures in (
       next.within,
       (still-long (goal.at.loop-x-preserved c).After-layer_cases).0,
-      c.layer_cases.ensures.0,
+      c.layer_cases.ensures.pairs,
       rw c.plus-counts.ensures
           (record {
             cases_long = (still-long (goal.at.loop-x-preserved c).After-layer_cases).1.0;
@@ -126,7 +117,7 @@ loop-x-preserved c =
             few = few_of _ (omega (arith, next.ordered)) (few_more l.invariant.3.few more.0);
             grows =
                 λ ns.
-                grows_made (layers_skip (star c.args.header c.args.centre.now ns) c.args.summary.now c.requires.1 (l.x + 1) _ next)
+                grows_made (layers_skip (star c.args.header c.args.centre.now ns) c.args.summary.now c.requires.trusted (l.x + 1) _ next)
                 (grows_more _ l.x (l.invariant.3.grows ns) (more.1 _ refl (omega (arith, c.loop-x-test.true)) (held (goal.at.loop-x-preserved c).After-layer_cases ns)));
           }),
     )
@@ -135,4 +126,4 @@ pub returns : goal.returns
 returns c =
     let l = c.loop-x in
     let e : l.x ≡ c.args.header.block.subdivisions = omega arith in
-    (few_of _ (omega (arith, c.requires.0.0)) l.invariant.3.few, λ ns. rw e at (l.invariant.3.grows ns))
+    record { few = few_of _ (omega (arith, c.requires.subdivisions_le_most_subdivisions.0)) l.invariant.3.few; grows = λ ns. rw e at (l.invariant.3.grows ns) }

@@ -10,7 +10,7 @@ use Rattle.counting.proofs.count_sheet.Goals.{At-loop-u}
 
 -- the cells of all rows, and of those so far
 all_rows : (c : At-loop-u) → let n = c.args.n in n * (n + 1) ≤ most_subdivisions * (most_subdivisions + 1)
-all_rows c = rows_fit c.args.n c.requires.1.few
+all_rows c = rows_fit c.args.n c.requires.sheeted.few
 
 so_far : (c : At-loop-u) → let n = c.args.n in n * c.loop-u.u ≤ n * n
 so_far c = mul-le-mul_left c.args.n c.loop-u.invariant.0
@@ -20,11 +20,11 @@ loop-u-init c = (omega arith, (few_of _ (omega arith) few_none, λ s held. grows
 
 pub count_row-more-requires : goal.count_row-more-requires
 count_row-more-requires c =
-    (c.requires.0, (omega (arith, c.loop-u-test.true), c.requires.1))
+    record { tables = c.requires.tables; u_lt_n = (omega (arith, c.loop-u-test.true), c.requires.sheeted) }
 
 pub plus-counts-requires : goal.plus-counts-requires
 plus-counts-requires c =
-    plus_fits c.loop-u.invariant.1.0 c.count_row-more.ensures.0 (omega (arith, all_rows (goal.at.plus-counts-requires c).At-loop-u, so_far (goal.at.plus-counts-requires c).At-loop-u))
+    plus_fits c.loop-u.invariant.1.0 c.count_row-more.ensures.few (omega (arith, all_rows (goal.at.plus-counts-requires c).At-loop-u, so_far (goal.at.plus-counts-requires c).At-loop-u))
 
 pub loop-u-preserved : goal.loop-u-preserved
 loop-u-preserved c =
@@ -38,7 +38,4 @@ loop-u-preserved c =
 pub returns : goal.returns
 returns c =
     let l = c.loop-u in
-    let a = c.args in (
-      few_of _ (omega (arith, all_rows (goal.at.returns c).At-loop-u, so_far (goal.at.returns c).At-loop-u)) l.invariant.1.0,
-      λ s e is held. sheet_grows s a.n l.u e (omega arith) a.sheet is (l.invariant.1.1 s held),
-    )
+    let a = c.args in record { few = few_of _ (omega (arith, all_rows (goal.at.returns c).At-loop-u, so_far (goal.at.returns c).At-loop-u)) l.invariant.1.0; grows = λ s e is held. sheet_grows s a.n l.u e (omega arith) a.sheet is (l.invariant.1.1 s held) }

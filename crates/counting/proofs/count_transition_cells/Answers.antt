@@ -8,4 +8,4 @@ use Rattle.counting.proofs.count_transition_cells.Goals as goal
 pub returns-then-header-eq0 : goal.returns-then-header-eq0
 returns-then-header-eq0 c =
     let a = c.args in
-    (few_of _ (omega arith) few_none, λ centre. grows_as (no_sides (star a.header centre a.neighbours.now) c.if-header-eq0.true) grows_none)
+    record { few = few_of _ (omega arith) few_none; grows = λ centre. grows_as (no_sides (star a.header centre a.neighbours.now) c.if-header-eq0.true) grows_none }

@@ -11,8 +11,8 @@ use Rattle.counting.proofs.pair_at.Goals as goal
 pub returns-then-paired-x : goal.returns-then-paired-x
 returns-then-paired-x c =
     let a = c.args in
-    subst (λ (x : ℕ). Upper a.header.block.subdivisions (point_bit (star a.header a.centre.now []) x) a.pairs.now) c.if-paired-x.true c.requires.1.1
+    subst (λ (x : ℕ). Upper a.header.block.subdivisions (point_bit (star a.header a.centre.now []) x) a.pairs.now) c.if-paired-x.true c.requires.upper
 
 pub returns : goal.returns
 returns c =
-    pairs_upper (c.pair_layer.ensures _ c.requires.1.1) (λ y z. bit_small _ _)
+    pairs_upper (c.pair_layer.ensures _ c.requires.upper) (λ y z. bit_small _ _)

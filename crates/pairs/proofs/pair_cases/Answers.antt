@@ -9,16 +9,16 @@ use Rattle.cases.specs.Rows.{none_put, first_more}
 use Rattle.pairs.proofs.pair_cases.Goals as goal
 
 pub overflow_mul-end : goal.overflow_mul-end
-overflow_mul-end c = omega (arith, rows_fit c.args.n c.requires.0.0)
+overflow_mul-end c = omega (arith, rows_fit c.args.n c.requires.n_le_most_subdivisions.0)
 
 pub loop-i-init : goal.loop-i-init
 loop-i-init c =
-    (((refl, refl), rows_fit c.args.n c.requires.0.0), (omega arith, (refl, none_put _ _ _)))
+    (((refl, refl), rows_fit c.args.n c.requires.n_le_most_subdivisions.0), (omega arith, (refl, none_put _ _ _)))
 
 pub of_pairs-requires : goal.of_pairs-requires
 of_pairs-requires c =
     let l = c.loop-i in
-    (omega arith, λ k h. c.requires.1 k (omega arith))
+    (omega arith, λ k h. c.requires.small k (omega arith))
 
 pub loop-i-preserved : goal.loop-i-preserved
 loop-i-preserved c =

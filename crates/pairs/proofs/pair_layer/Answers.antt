@@ -10,11 +10,11 @@ use Rattle.pairs.proofs.pair_layer.Goals as goal
 pub pair_with-requires : goal.pair_with-requires
 pair_with-requires c =
     let p = c.requires in
-    (omega (arith, c.plane-samples.ensures.0, layer_fits _ p.0.0, p.1.1), p.1.1)
+    record { samples_in_bounds = omega (arith, c.plane-samples.ensures.result_len, layer_fits _ p.subdivisions_le_most_subdivisions.0, p.x_le_subdivisions.1); pairs_len = p.x_le_subdivisions.1 }
 
 pub returns : goal.returns
 returns c =
     let a = c.args in
     let s = star a.header a.centre.now [] in
     λ low upper.
-    pairs_made s a.x _ (c.plane-samples.ensures.1 s refl refl) c.plane-samples.ensures.0 low _ _ upper c.pair_with.ensures
+    pairs_made s a.x _ (c.plane-samples.ensures.plane s refl refl) c.plane-samples.ensures.result_len low _ _ upper c.pair_with.ensures

@@ -6,4 +6,4 @@ use Rattle.regular.proofs.cases_between.Goals as goal
 pub returns : goal.returns
 returns c =
     let rows = c.rows-reads.ensures in
-    (rows.0, (λ s x is p q. marked_sheet all_regular _ _ _ _ _ (rows.0 s x is p q) c.mark_layer.ensures, rows.1))
+    record { cases = rows.0; marks = λ s x is p q. marked_sheet all_regular _ _ _ _ _ (rows.0 s x is p q) c.mark_layer.ensures; reads = rows.1 }

@@ -10,22 +10,19 @@ use Rattle.regular.proofs.layer_cases.Goals as goal
 use Rattle.regular.proofs.layer_cases.Goals.{After-plane-high}
 
 low : (c : After-plane-high) → Plane ((star c.args.header c.args.centre.now ns)) c.args.x c.plane-low.result.now
-low c = c.plane-low.ensures.1 ((star c.args.header c.args.centre.now ns)) refl refl
+low c = c.plane-low.ensures.plane ((star c.args.header c.args.centre.now ns)) refl refl
 
 high : (c : After-plane-high) → Plane ((star c.args.header c.args.centre.now ns)) (c.args.x + 1) c.plane-high.result.now
-high c = c.plane-high.ensures.1 ((star c.args.header c.args.centre.now ns)) refl refl
+high c = c.plane-high.ensures.plane ((star c.args.header c.args.centre.now ns)) refl refl
 
 pub cases_between-requires : goal.cases_between-requires
 cases_between-requires c =
     let p = c.requires in
-    ((p.0.0, p.1.1), (omega (arith, c.plane-low.ensures.0), omega (arith, c.plane-high.ensures.0)))
+    record { n_le_most_subdivisions = (p.subdivisions_le_most_subdivisions.0, p.x_lt_subdivisions.1); n_in_bounds = (omega (arith, c.plane-low.ensures.result_len), omega (arith, c.plane-high.ensures.result_len)) }
 
 pub returns : goal.returns
 returns c =
     let x = c.args.x in
     let numbers = c.cases_between.ensures in
     let same : (ns : List Float) → Measured ((star c.args.header c.args.centre.now ns) ns) c.args.header.block.subdivisions c.args.header.threshold =
-    λ ns. record { subdivisions_are = refl; threshold_is = refl } in (
-      λ ns. numbers.0 ((star c.args.header c.args.centre.now ns) ns) x (same ns) (low (goal.at.returns c).After-plane-high ns) (high (goal.at.returns c).After-plane-high ns),
-      (λ ns. numbers.1.0 ((star c.args.header c.args.centre.now ns) ns) x (same ns) (low (goal.at.returns c).After-plane-high ns) (high (goal.at.returns c).After-plane-high ns), numbers.1.1),
-    )
+    λ ns. record { subdivisions_are = refl; threshold_is = refl } in record { cases = λ ns. numbers.0 ((star c.args.header c.args.centre.now ns) ns) x (same ns) (low (goal.at.returns c).After-plane-high ns) (high (goal.at.returns c).After-plane-high ns); marks = λ ns. numbers.1.0 ((star c.args.header c.args.centre.now ns) ns) x (same ns) (low (goal.at.returns c).After-plane-high ns) (high (goal.at.returns c).After-plane-high ns); reads = numbers.1.1 }

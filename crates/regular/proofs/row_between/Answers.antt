@@ -30,4 +30,4 @@ returns c =
     let l = c.loop-z in
     let made = c.by_sixteens-z.ensures in
     let e : l.z ≡ c.args.n = omega arith in
-    (rw e at (l.invariant.1.1 _ made.1), omega arith)
+    record { row_put = rw e at (l.invariant.1.1 _ made.1); reads = omega arith }

@@ -30,4 +30,4 @@ pub returns : goal.returns
 returns c =
     let l = c.loop-y in
     let e : l.y ≡ c.args.n = omega arith in
-    (λ s x is p q. rw e at (l.invariant.2 s x is p q), (rw e at l.invariant.3, omega (arith, l.invariant.4)))
+    record { sheet = λ s x is p q. rw e at (l.invariant.2 s x is p q); reads = (rw e at l.invariant.3, omega (arith, l.invariant.4)) }

@@ -21,7 +21,7 @@ inside : (c : In-loop-k) → (c.loop-k.k) < vertices_of c.args.row.now
 inside c = omega (arith, c.vertex_count-count.ensures, c.loop-k-test.true)
 
 few : (c : In-loop-k) → (c.loop-k.k) < 12
-few c = omega (arith, (inside c), c.requires.1.0)
+few c = omega (arith, (inside c), c.requires.row_coded)
 
 -- the room that its vertex wants is there
 ready : (c : In-loop-k) → Room 6 (c.loop-k.next + length (made_by (((let a = c.args in
@@ -31,7 +31,7 @@ ready c =
     fill_ready ((let a = c.args in
     cell_of (star a.header a.centre.now a.neighbours.now) a.at a.codes.now a.row.now false)) a.base a.store.now (c.loop-k.k) (((let a = c.args in
     cell_of (star a.header a.centre.now a.neighbours.now) a.at a.codes.now a.row.now false)).uses (c.loop-k.k)) refl a.vertices.now _ _ _ _ _ _ c.loop-k.invariant.1
-    (vertices_of a.row.now) (inside c) c.requires.1.1.1
+    (vertices_of a.row.now) (inside c) c.requires.room
 
 pub loop-k-init : goal.loop-k-init
 loop-k-init c = (
@@ -41,24 +41,15 @@ loop-k-init c = (
 )
 
 pub offset_bounds-codes-k : goal.offset_bounds-codes-k
-offset_bounds-codes-k c = omega (arith, c.requires.1.0)
+offset_bounds-codes-k c = omega (arith, c.requires.row_coded)
 
 pub bounds-codes-k : goal.bounds-codes-k
-bounds-codes-k c = omega (arith, c.requires.1.0)
+bounds-codes-k c = omega (arith, c.requires.row_coded)
 
 pub put_code-put-requires : goal.put_code-put-requires
 put_code-put-requires c =
-    let l = c.loop-k in (
-      c.requires.0,
-      (
-        c.requires.1.0.1.1.usable l.k (inside (goal.at.put_code-put-requires c).In-loop-k),
-        (
-          ap length l.invariant.1.Store-is ∙ length_fill_store ((let a = c.args in
-              cell_of (star a.header a.centre.now a.neighbours.now) a.at a.codes.now a.row.now false)) c.args.base c.args.store.now l.k ∙ c.requires.1.1.0,
-          ready (goal.at.put_code-put-requires c).In-loop-k,
-        ),
-      ),
-    )
+    let l = c.loop-k in record { ready = c.requires.ready; usable = c.requires.row_coded.1.1.usable l.k (inside (goal.at.put_code-put-requires c).In-loop-k); store_len = ap length l.invariant.1.Store-is ∙ length_fill_store ((let a = c.args in
+              cell_of (star a.header a.centre.now a.neighbours.now) a.at a.codes.now a.row.now false)) c.args.base c.args.store.now l.k ∙ c.requires.store_len; room = ready (goal.at.put_code-put-requires c).In-loop-k }
 
 pub offset_bounds-cell-k : goal.offset_bounds-cell-k
 offset_bounds-cell-k c = omega (arith, few (goal.at.offset_bounds-cell-k c).In-loop-k)

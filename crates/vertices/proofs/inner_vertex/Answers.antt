@@ -6,8 +6,8 @@ use Rattle.vertices.proofs.inner_vertex.Goals as goal
 
 pub vertex_inside-requires : goal.vertex_inside-requires
 vertex_inside-requires c =
-    let inner = c.requires.1.0 in
-    (c.requires.0, (corner_inside_lem inner _ _ c.corner_point-a.ensures, corner_inside_lem inner _ _ c.corner_point-b.ensures))
+    let inner = c.requires.inner.0 in
+    (c.requires.centred, (corner_inside_lem inner _ _ c.corner_point-a.ensures, corner_inside_lem inner _ _ c.corner_point-b.ensures))
 
 pub returns : goal.returns
 returns c =

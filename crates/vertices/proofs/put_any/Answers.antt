@@ -12,29 +12,29 @@ use Rattle.vertices.proofs.put_any.Goals.{After-makes-made}
 -- the reuse index is one of the cell's
 within : (m : After-makes-made) → m.reuse_index-r.result < slots m.args.at
 within m =
-    index_within m.args.at m.args.code _ m.requires.1.0 m.reuse_index-r.ensures.0
+    index_within m.args.at m.args.code _ m.requires.usable m.reuse_index-r.ensures.0
 
 pub put_vertex-requires : goal.put_vertex-requires
 put_vertex-requires c =
     let a = c.args in
-    omega (arith, c.requires.1.1.1, one_made ((star c.args.header c.args.centre.now c.args.neighbours.now)) a.at a.code _ c.makes-made.ensures c.if-made.true)
+    omega (arith, c.requires.room, one_made ((star c.args.header c.args.centre.now c.args.neighbours.now)) a.at a.code _ c.makes-made.ensures c.if-made.true)
 
 pub overflow_cast-index : goal.overflow_cast-index
-overflow_cast-index c = omega (arith, c.requires.1.1.1)
+overflow_cast-index c = omega (arith, c.requires.room)
 
 pub overflow_add-after : goal.overflow_add-after
-overflow_add-after c = omega (arith, c.requires.1.1.1)
+overflow_add-after c = omega (arith, c.requires.room)
 
 pub place-own-requires : goal.place-own-requires
 place-own-requires c =
-    (c.requires.0.centred.parts.few, (c.requires.0.placed, within (goal.at.place-own-requires c).After-makes-made))
+    (c.requires.ready.centred.parts.few, (c.requires.ready.placed, within (goal.at.place-own-requires c).After-makes-made))
 
 pub offset_bounds-store-own : goal.offset_bounds-store-own
 offset_bounds-store-own c =
-    omega (arith, c.place-own.ensures.1, small_store c.args.header.block.subdivisions c.requires.0.centred.parts.few)
+    omega (arith, c.place-own.ensures.1, small_store c.args.header.block.subdivisions c.requires.ready.centred.parts.few)
 
 pub bounds-store-own : goal.bounds-store-own
-bounds-store-own c = omega (arith, c.place-own.ensures.1, c.requires.1.1.0)
+bounds-store-own c = omega (arith, c.place-own.ensures.1, c.requires.store_len)
 
 pub returns-then-new : goal.returns-then-new
 returns-then-new c =
@@ -56,9 +56,9 @@ back-requires c = sym c.makes-made.ensures ∙ c.if-made.false
 pub place-shared-requires : goal.place-shared-requires
 place-shared-requires c =
     let a = c.args in (
-      c.requires.0.centred.parts.few,
+      c.requires.ready.centred.parts.few,
       (
-        back_placed a.code a.header.block.subdivisions a.at _ c.back.ensures c.requires.0.placed,
+        back_placed a.code a.header.block.subdivisions a.at _ c.back.ensures c.requires.ready.placed,
         back_within a.code _ a.at _ c.back.ensures (within (goal.at.place-shared-requires c).After-makes-made),
       ),
     )

@@ -16,7 +16,7 @@ pub put_inner-requires : goal.put_inner-requires
 put_inner-requires c =
     let a = c.args in
     let made = inner_count (found (goal.at.put_inner-requires c).After-regular_at).1 (star a.header a.centre.now a.neighbours.now) a.at a.code (found (goal.at.put_inner-requires c).After-regular_at).0 in
-    (c.requires.0.centred, (((found (goal.at.put_inner-requires c).After-regular_at).1, regular_usable (found (goal.at.put_inner-requires c).After-regular_at).0 c.requires.1.0), (c.requires.1.1.0, rw made at c.requires.1.1.1)))
+    record { centred = c.requires.ready.centred; inner = ((found (goal.at.put_inner-requires c).After-regular_at).1, regular_usable (found (goal.at.put_inner-requires c).After-regular_at).0 c.requires.usable); store_len = c.requires.store_len; room = rw made at c.requires.room }
 
 pub returns-then-is_inner : goal.returns-then-is_inner
 returns-then-is_inner c =

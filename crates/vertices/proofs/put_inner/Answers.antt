@@ -15,19 +15,19 @@ use Rattle.vertices.proofs.put_inner.Goals.{After-new_vertex}
 -- the reuse index is one of the cell's
 within : (m : After-new_vertex) → m.reuse_index-r.result < slots (Regular m.args.at)
 within m =
-    index_within (Regular m.args.at) m.args.code _ m.requires.1.0.1 m.reuse_index-r.ensures.0
+    index_within (Regular m.args.at) m.args.code _ m.requires.inner.1 m.reuse_index-r.ensures.0
 
 pub put_vertex-requires : goal.put_vertex-requires
 put_vertex-requires c =
     let fresh = sym c.new_vertex.ensures ∙ c.if-new_vertex.true in
-    let room = rw fresh at c.requires.1.1.1.room in
+    let room = rw fresh at c.requires.room.room in
     omega (arith, room)
 
 pub regular_place-own-requires : goal.regular_place-own-requires
 regular_place-own-requires c =
-    let placed = inner_placed c.requires.1.0.0 in
+    let placed = inner_placed c.requires.inner.0 in
     record {
-      few = c.requires.0.parts.few;
+      few = c.requires.centred.parts.few;
       x_in = placed.x_in;
       y_in = placed.y_in;
       z_in = placed.z_in;
@@ -36,13 +36,13 @@ regular_place-own-requires c =
 
 pub offset_bounds-store-own : goal.offset_bounds-store-own
 offset_bounds-store-own c =
-    omega (arith, c.regular_place-own.ensures.1, small_store c.args.header.block.subdivisions c.requires.0.parts.few)
+    omega (arith, c.regular_place-own.ensures.1, small_store c.args.header.block.subdivisions c.requires.centred.parts.few)
 
 pub bounds-store-own : goal.bounds-store-own
-bounds-store-own c = omega (arith, c.regular_place-own.ensures.1, c.requires.1.1.0)
+bounds-store-own c = omega (arith, c.regular_place-own.ensures.1, c.requires.store_len)
 
 pub overflow_add-result : goal.overflow_add-result
-overflow_add-result c = omega (arith, c.requires.1.1.1.short)
+overflow_add-result c = omega (arith, c.requires.room.short)
 
 pub returns-then-new_vertex : goal.returns-then-new_vertex
 unfolding regular_use
@@ -52,19 +52,19 @@ returns-then-new_vertex c =
     let taken = c.if-new_vertex.true in
     λ ns.
     code_stored (star a.header a.centre.now ns) (Regular a.at) a.code a.next _ a.vertices.now a.store.now _
-    (new ∙ inner_makes c.requires.1.0.0 a.code) c.reuse_index-r.ensures.0 _ _ _ (c.inner_vertex.ensures ns)
+    (new ∙ inner_makes c.requires.inner.0 a.code) c.reuse_index-r.ensures.0 _ _ _ (c.inner_vertex.ensures ns)
     c.put_vertex.ensures new taken _ c.regular_place-own.ensures.0 taken
 
 pub regular_back-from-requires : goal.regular_back-from-requires
 regular_back-from-requires c =
-    inner_stays c.requires.1.0.0 c.args.code
+    inner_stays c.requires.inner.0 c.args.code
 
 pub regular_place-shared-requires : goal.regular_place-shared-requires
 regular_place-shared-requires c =
     let a = c.args in
-    let placed = back_placed a.code a.header.block.subdivisions (Regular a.at) (Regular c.regular_back-from.result) (ap Regular c.regular_back-from.ensures) (inner_placed c.requires.1.0.0) in
+    let placed = back_placed a.code a.header.block.subdivisions (Regular a.at) (Regular c.regular_back-from.result) (ap Regular c.regular_back-from.ensures) (inner_placed c.requires.inner.0) in
     record {
-      few = c.requires.0.parts.few;
+      few = c.requires.centred.parts.few;
       x_in = placed.x_in;
       y_in = placed.y_in;
       z_in = placed.z_in;
@@ -77,5 +77,5 @@ returns c =
     let back = c.regular_back-from in
     λ ns.
     code_taken (star a.header a.centre.now ns) (Regular a.at) a.code a.next _ a.vertices.now a.store.now _
-    (c.new_vertex.ensures ∙ inner_makes c.requires.1.0.0 a.code) c.reuse_index-r.ensures.0 _ (Regular back.result) (ap Regular back.ensures)
+    (c.new_vertex.ensures ∙ inner_makes c.requires.inner.0 a.code) c.reuse_index-r.ensures.0 _ (Regular back.result) (ap Regular back.ensures)
     c.regular_place-shared.ensures.0 c.if-new_vertex.false

@@ -7,7 +7,7 @@ pub regular_vertex_between-requires : goal.regular_vertex_between-requires
 regular_vertex_between-requires c =
     let a = c.args in
     let within = corner_within a.header.block.subdivisions a.at.x a.at.y a.at.z in
-    (c.requires.0, (within _ _ c.requires.1 c.corner_point-a.ensures, within _ _ c.requires.1 c.corner_point-b.ensures))
+    (c.requires.centred, (within _ _ c.requires.in_block c.corner_point-a.ensures, within _ _ c.requires.in_block c.corner_point-b.ensures))
 
 pub returns : goal.returns
 returns c =

@@ -8,18 +8,18 @@ use Rattle.vertices.proofs.transition_vertex.Goals.{After-neighbour-fine}
 -- the side's neighbour is wholly lent
 bordered : (c : After-neighbour-fine) → let a = c.args in Bordered a.header.block.subdivisions c.neighbour-fine.result.now a.at
 bordered c =
-    let h = c.requires.0 in
+    let h = c.requires.ready in
     record { side_is = h.placed.side_in; u_in = h.placed.u_in; v_in = h.placed.v_in; fine_is = c.neighbour-fine.ensures.1 }
 
 pub transition_point-requires : goal.transition_point-requires
 transition_point-requires c =
     let in_cell = point_in_cell c.voxel_a_index.result _ c.cell_point-a.ensures in
-    (c.requires.0.centred, (bordered (goal.at.transition_point-requires c).After-neighbour-fine, in_cell))
+    record { centred = c.requires.ready.centred; bordered = bordered (goal.at.transition_point-requires c).After-neighbour-fine; in_cell = in_cell }
 
 pub transition_point-requires-2 : goal.transition_point-requires-2
 transition_point-requires-2 c =
     let in_cell = point_in_cell c.voxel_b_index.result _ c.cell_point-b.ensures in
-    (c.requires.0.centred, (bordered (goal.at.transition_point-requires-2 c).After-neighbour-fine, in_cell))
+    record { centred = c.requires.ready.centred; bordered = bordered (goal.at.transition_point-requires-2 c).After-neighbour-fine; in_cell = in_cell }
 
 pub returns : goal.returns
 returns c =

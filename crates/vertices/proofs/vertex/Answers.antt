@@ -5,7 +5,7 @@ use Rattle.vertices.proofs.vertex.Goals as goal
 
 pub regular_vertex-requires : goal.regular_vertex-requires
 regular_vertex-requires c =
-    (c.requires.0.centred, regular_in c.in-Regular.is c.requires.0.placed)
+    record { centred = c.requires.ready.centred; in_block = regular_in c.in-Regular.is c.requires.ready.placed }
 
 pub transition_vertex-requires : goal.transition_vertex-requires
 transition_vertex-requires c =

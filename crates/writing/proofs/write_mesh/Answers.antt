@@ -34,25 +34,16 @@ same-still t =
 
 pub write_regular_cells-regular-requires : goal.write_regular_cells-regular-requires
 write_regular_cells-regular-requires c =
-    let fits = c.requires.1.1.fits in (
-      (c.requires.0, c.fractions_of-fractions.ensures),
-      (
-        c.requires.1.0,
-        (
-          fits_still {edges₀ = c.args.edges.now} {edges = c.args.edges.now} (record { vertices_same = refl; triangles_same = refl; store_same = c.clear.auto.0; edges_same = refl }) fits,
-          c.clear.ensures ∙ ap (λ (k : ℕ). replicate k 0) fits.store_fits,
-        ),
-      ),
-    )
+    let fits = c.requires.exact.fits in record { shaped = (c.requires.shaped, c.fractions_of-fractions.ensures); trusted = c.requires.trusted; fits = fits_still {edges₀ = c.args.edges.now} {edges = c.args.edges.now} (record { vertices_same = refl; triangles_same = refl; store_same = c.clear.auto.0; edges_same = refl }) fits; store_value = c.clear.ensures ∙ ap (λ (k : ℕ). replicate k 0) fits.store_fits }
 
 pub write_transition_cells-all-requires : goal.write_transition_cells-all-requires
 write_transition_cells-all-requires c =
-    ((c.requires.0, c.fractions_of-fractions.ensures), (fits_still (same (goal.at.write_transition_cells-all-requires c).After-write_regular_cells-regular) c.requires.1.1.fits, (c.write_regular_cells-regular.ensures.0, c.write_regular_cells-regular.ensures.1.few)))
+    record { shaped = (c.requires.shaped, c.fractions_of-fractions.ensures); fits = fits_still (same (goal.at.write_transition_cells-all-requires c).After-write_regular_cells-regular) c.requires.exact.fits; holds = c.write_regular_cells-regular.ensures.holds; reads_bound = c.write_regular_cells-regular.ensures.reads.few }
 
 pub overflow_add-result : goal.overflow_add-result
 overflow_add-result c =
     let w = c.write_transition_cells-all.ensures in
-    omega (arith, w.1.few, w.0.read_so_far, w.0.vertex_count, c.requires.1.1.fits.vertices_fit.short)
+    omega (arith, w.1.few, w.0.read_so_far, w.0.vertex_count, c.requires.exact.fits.vertices_fit.short)
 
 pub shape_of-store : goal.shape_of-store
 shape_of-store c = (same-still (goal.at.shape_of-store c).After-write_transition_cells-all).store_same
@@ -70,4 +61,4 @@ pub returns : goal.returns
 returns c =
     let w = c.write_transition_cells-all.ensures in
     let pre = c.requires in
-    (holds_all _ _ _ _ _ _ (exact_still (same-still (goal.at.returns c).After-write_transition_cells-all) pre.1.1) w.0, (read_all _ _ _ _ _ _ _ _ _ pre.1.0 c.write_regular_cells-regular.ensures.1 w.1 w.0, w.0.numbered))
+    record { written = holds_all _ _ _ _ _ _ (exact_still (same-still (goal.at.returns c).After-write_transition_cells-all) pre.exact) w.0; reads = read_all _ _ _ _ _ _ _ _ _ pre.trusted c.write_regular_cells-regular.ensures.reads w.1 w.0; edges = w.0.numbered }

@@ -35,11 +35,11 @@ held : (c : After-face_cases-reads) → let after = c.face_cases-reads.new.1.1.1
     Held ((star c.args.header c.args.centre.now c.args.neighbours.now)) (Side c.loop-side.side) c.args.header.block.subdivisions [] after.0 after.1.0
 held c =
     let centre = c.args.centre.now in
-    record { numbers = c.face_cases-reads.ensures.0 centre; marked = c.face_cases-reads.ensures.1.0 centre }
+    record { numbers = c.face_cases-reads.ensures.cases centre; marked = c.face_cases-reads.ensures.marks centre }
 
 pub next_side-side-requires : goal.next_side-side-requires
 next_side-side-requires c =
-    (c.requires.0.0.sides, omega arith)
+    (c.requires.shaped.0.sides, omega arith)
 
 pub loop-side-init : goal.loop-side-init
 loop-side-init c =
@@ -50,8 +50,8 @@ loop-side-init c =
         cases_long = length-replicate {A = ℕ} sheet_places 0;
         marks_long = length-replicate {A = ℕ} sheet_places 0;
         same = same_self;
-        holds = rw (← transition_skip ((star c.args.header c.args.centre.now c.args.neighbours.now)) 0 _ next, transition_start) c.requires.1.1.0;
-        read_to = read_first ((star c.args.header c.args.centre.now c.args.neighbours.now)) _ _ next c.requires.1.1.1;
+        holds = rw (← transition_skip ((star c.args.header c.args.centre.now c.args.neighbours.now)) 0 _ next, transition_start) c.requires.holds;
+        read_to = read_first ((star c.args.header c.args.centre.now c.args.neighbours.now)) _ _ next c.requires.reads_bound;
       },
     )
 
@@ -64,14 +64,11 @@ slice_bounds-face_cases-end-in-loop-side c = sym c.loop-side.invariant.2.marks_l
 pub face_cases-reads-requires : goal.face_cases-reads-requires
 face_cases-reads-requires c =
     let l = c.loop-side in
-    let shaped = c.requires.0.0 in (
-      record { few = shaped.few; sides = shaped.sides; side_is = below (goal.at.face_cases-reads-requires c).In-loop-side; is_named = l.invariant.1 (below (goal.at.face_cases-reads-requires c).In-loop-side); neighbours_are = shaped.neighbours_are },
-      (shaped.some, (l.invariant.2.cases_long, l.invariant.2.marks_long)),
-    )
+    let shaped = c.requires.shaped.0 in record { neighbour_there = record { few = shaped.few; sides = shaped.sides; side_is = below (goal.at.face_cases-reads-requires c).In-loop-side; is_named = l.invariant.1 (below (goal.at.face_cases-reads-requires c).In-loop-side); neighbours_are = shaped.neighbours_are }; le_subdivisions = (shaped.some, (l.invariant.2.cases_long, l.invariant.2.marks_long)) }
 
 pub overflow_add-reads : goal.overflow_add-reads
 overflow_add-reads c =
-    omega (arith, c.loop-side.invariant.2.read_to.few, c.face_cases-reads.ensures.1.1.1, c.loop-side-test.true)
+    omega (arith, c.loop-side.invariant.2.read_to.few, c.face_cases-reads.ensures.reads.1, c.loop-side-test.true)
 
 pub slice_bounds-write_sheet-end-in-loop-side-5 : goal.slice_bounds-write_sheet-end-in-loop-side-5
 slice_bounds-write_sheet-end-in-loop-side-5 c = sym (still-long (goal.at.slice_bounds-write_sheet-end-in-loop-side-5 c).After-face_cases-reads).0
@@ -79,23 +76,14 @@ slice_bounds-write_sheet-end-in-loop-side-5 c = sym (still-long (goal.at.slice_b
 pub write_sheet-counts-requires : goal.write_sheet-counts-requires
 write_sheet-counts-requires c =
     let long = still-long (goal.at.write_sheet-counts-requires c).After-face_cases-reads in
-    let l = c.loop-side in (
-      record { classes_are = c.transition_cell_class-classes.ensures; cells_are = c.transition_cell_data-cells.ensures; codes_are = c.transition_vertex_data-codes.ensures },
-      (
-        c.requires.0,
-        (
-          (held_sheeted ((star c.args.header c.args.centre.now c.args.neighbours.now)) (Side l.side) (held (goal.at.write_sheet-counts-requires c).After-face_cases-reads) c.requires.0.0.few long.0 long.1, held (goal.at.write_sheet-counts-requires c).After-face_cases-reads),
-          ((below (goal.at.write_sheet-counts-requires c).In-loop-side, l.invariant.1 (below (goal.at.write_sheet-counts-requires c).In-loop-side)), (fits_still l.invariant.2.same c.requires.1.0, l.invariant.2.holds)),
-        ),
-      ),
-    )
+    let l = c.loop-side in record { tables = record { classes_are = c.transition_cell_class-classes.ensures; cells_are = c.transition_cell_data-cells.ensures; codes_are = c.transition_vertex_data-codes.ensures }; shaped = c.requires.shaped; sheeted = (held_sheeted ((star c.args.header c.args.centre.now c.args.neighbours.now)) (Side l.side) (held (goal.at.write_sheet-counts-requires c).After-face_cases-reads) c.requires.shaped.0.few long.0 long.1, held (goal.at.write_sheet-counts-requires c).After-face_cases-reads); sheet_in = (below (goal.at.write_sheet-counts-requires c).In-loop-side, l.invariant.1 (below (goal.at.write_sheet-counts-requires c).In-loop-side)); fits = fits_still l.invariant.2.same c.requires.fits; holds = l.invariant.2.holds }
 
 pub overflow_add-side : goal.overflow_add-side
 overflow_add-side c = omega (arith, c.loop-side-test.true)
 
 pub next_side-side-requires-in-loop-side : goal.next_side-side-requires-in-loop-side
 next_side-side-requires-in-loop-side c =
-    (c.requires.0.0.sides, omega (arith, c.loop-side-test.true))
+    (c.requires.shaped.0.sides, omega (arith, c.loop-side-test.true))
 
 pub loop-side-smaller : goal.loop-side-smaller
 loop-side-smaller c = omega (arith, c.next_side-side-in-loop-side.ensures.from_le, c.loop-side-test.true)
@@ -104,7 +92,7 @@ pub loop-side-preserved : goal.loop-side-preserved
 loop-side-preserved c =
     let l = c.loop-side in
     let s = (star c.args.header c.args.centre.now c.args.neighbours.now) in
-    let told = c.face_cases-reads.ensures.1.1 in
+    let told = c.face_cases-reads.ensures.reads in
     let w = c.write_sheet-counts in
     let next = c.next_side-side-in-loop-side.ensures in (
       next.le_six,
@@ -136,4 +124,4 @@ pub returns : goal.returns
 returns c =
     let l = c.loop-side in
     let end : l.side ≡ side_count = omega arith in
-    (rw (← transition_end ((star c.args.header c.args.centre.now c.args.neighbours.now)) l.side end) l.invariant.2.holds, read_sides ((star c.args.header c.args.centre.now c.args.neighbours.now)) _ l.side l.reads end l.invariant.2.read_to)
+    record { holds_2 = rw (← transition_end ((star c.args.header c.args.centre.now c.args.neighbours.now)) l.side end) l.invariant.2.holds; reads = read_sides ((star c.args.header c.args.centre.now c.args.neighbours.now)) _ l.side l.reads end l.invariant.2.read_to }

@@ -30,10 +30,10 @@ held : (c : After-layer_cases-reads) → let after = c.layer_cases-reads.new.1.1
     Held ((star c.args.header c.args.centre.now c.args.neighbours.now)) (Layer c.loop-x.x) c.args.header.block.subdivisions after.0 [] after.1.0
 held c =
     let neighbours = c.args.neighbours.now in
-    record { numbers = c.layer_cases-reads.ensures.0 neighbours; marked = c.layer_cases-reads.ensures.1.0 neighbours }
+    record { numbers = c.layer_cases-reads.ensures.cases neighbours; marked = c.layer_cases-reads.ensures.marks neighbours }
 
 pub next_layer-x-requires : goal.next_layer-x-requires
-next_layer-x-requires c = (omega arith, c.requires.0.0.few)
+next_layer-x-requires c = (omega arith, c.requires.shaped.0.few)
 
 pub loop-x-init : goal.loop-x-init
 loop-x-init c =
@@ -45,7 +45,7 @@ loop-x-init c =
         cases_long = length-replicate {A = ℕ} sheet_places 0;
         marks_long = length-replicate {A = ℕ} sheet_places 0;
         same = same_self;
-        holds = holds_same (regular_skip ((star c.args.header c.args.centre.now c.args.neighbours.now)) summary c.requires.1.0 0 _ next) (holds_none ((star c.args.header c.args.centre.now c.args.neighbours.now)) c.requires.1.1.1);
+        holds = holds_same (regular_skip ((star c.args.header c.args.centre.now c.args.neighbours.now)) summary c.requires.trusted 0 _ next) (holds_none ((star c.args.header c.args.centre.now c.args.neighbours.now)) c.requires.store_value);
         read_to = read_none ((star c.args.header c.args.centre.now c.args.neighbours.now)) summary _ next;
       },
     )
@@ -58,13 +58,13 @@ slice_bounds-layer_cases-end-in-loop-x c = sym c.loop-x.invariant.2.marks_long
 
 pub layer_cases-reads-requires : goal.layer_cases-reads-requires
 layer_cases-reads-requires c =
-    let shaped = c.requires.0.0 in
+    let shaped = c.requires.shaped.0 in
     let come = c.loop-x.invariant.2 in
-    ((shaped.few, shaped.centre_is), (omega (arith, c.loop-x-test.true), (come.cases_long, come.marks_long)))
+    record { subdivisions_le_most_subdivisions = (shaped.few, shaped.centre_is); x_lt_subdivisions = (omega (arith, c.loop-x-test.true), (come.cases_long, come.marks_long)) }
 
 pub overflow_add-reads : goal.overflow_add-reads
 overflow_add-reads c =
-    omega (arith, c.loop-x.invariant.2.read_to.few, c.layer_cases-reads.ensures.1.1.1, c.loop-x-test.true, c.requires.0.0.few)
+    omega (arith, c.loop-x.invariant.2.read_to.few, c.layer_cases-reads.ensures.reads.1, c.loop-x-test.true, c.requires.shaped.0.few)
 
 pub slice_bounds-write_sheet-end-in-loop-x-3 : goal.slice_bounds-write_sheet-end-in-loop-x-3
 slice_bounds-write_sheet-end-in-loop-x-3 c = sym (still-long (goal.at.slice_bounds-write_sheet-end-in-loop-x-3 c).After-layer_cases-reads).0
@@ -72,24 +72,15 @@ slice_bounds-write_sheet-end-in-loop-x-3 c = sym (still-long (goal.at.slice_boun
 pub write_sheet-counts-requires : goal.write_sheet-counts-requires
 write_sheet-counts-requires c =
     let long = still-long (goal.at.write_sheet-counts-requires c).After-layer_cases-reads in
-    let l = c.loop-x in (
-      record { classes_are = c.regular_cell_class-classes.ensures; cells_are = c.regular_cell_data-cells.ensures; codes_are = c.regular_vertex_data-codes.ensures },
-      (
-        c.requires.0,
-        (
-          (held_sheeted ((star c.args.header c.args.centre.now c.args.neighbours.now)) (Layer l.x) (held (goal.at.write_sheet-counts-requires c).After-layer_cases-reads) c.requires.0.0.few long.0 long.1, held (goal.at.write_sheet-counts-requires c).After-layer_cases-reads),
-          (omega (arith, c.loop-x-test.true), (fits_still l.invariant.2.same c.requires.1.1.0, l.invariant.2.holds)),
-        ),
-      ),
-    )
+    let l = c.loop-x in record { tables = record { classes_are = c.regular_cell_class-classes.ensures; cells_are = c.regular_cell_data-cells.ensures; codes_are = c.regular_vertex_data-codes.ensures }; shaped = c.requires.shaped; sheeted = (held_sheeted ((star c.args.header c.args.centre.now c.args.neighbours.now)) (Layer l.x) (held (goal.at.write_sheet-counts-requires c).After-layer_cases-reads) c.requires.shaped.0.few long.0 long.1, held (goal.at.write_sheet-counts-requires c).After-layer_cases-reads); sheet_in = omega (arith, c.loop-x-test.true); fits = fits_still l.invariant.2.same c.requires.fits; holds = l.invariant.2.holds }
 
 pub overflow_add-x : goal.overflow_add-x
 overflow_add-x c =
-    omega (arith, c.loop-x-test.true, c.requires.0.0.few)
+    omega (arith, c.loop-x-test.true, c.requires.shaped.0.few)
 
 pub next_layer-x-requires-in-loop-x : goal.next_layer-x-requires-in-loop-x
 next_layer-x-requires-in-loop-x c =
-    (omega (arith, c.loop-x-test.true), c.requires.0.0.few)
+    (omega (arith, c.loop-x-test.true), c.requires.shaped.0.few)
 
 pub loop-x-smaller : goal.loop-x-smaller
 loop-x-smaller c =
@@ -100,7 +91,7 @@ loop-x-preserved c =
     let l = c.loop-x in
     let s = (star c.args.header c.args.centre.now c.args.neighbours.now) in
     let summary = c.args.summary.now in
-    let told = c.layer_cases-reads.ensures.1.1 in
+    let told = c.layer_cases-reads.ensures.reads in
     let w = c.write_sheet-counts in
     let next = c.next_layer-x-in-loop-x.ensures in (
       next.within,
@@ -111,7 +102,7 @@ loop-x-preserved c =
         same =
             same_then l.invariant.2.same
             record { vertices_same = omega (arith, w.auto); triangles_same = omega (arith, w.auto); store_same = omega (arith, w.auto); edges_same = omega (arith, w.auto) };
-        holds = holds_same (regular_skip s summary c.requires.1.0 (l.x + 1) _ next) w.ensures;
+        holds = holds_same (regular_skip s summary c.requires.trusted (l.x + 1) _ next) w.ensures;
         read_to = read_layer s summary l.x _ l.reads _ (l.invariant.1 (omega (arith, c.loop-x-test.true))) next told.0 told.1 l.invariant.2.read_to;
       },
     )
@@ -131,7 +122,4 @@ shape_of-edges c = c.loop-x.invariant.2.same.edges_same
 pub returns : goal.returns
 returns c =
     let l = c.loop-x in
-    let end : l.x ≡ c.args.header.block.subdivisions = omega (arith, l.invariant.0) in (
-      rw (← regular_end ((star c.args.header c.args.centre.now c.args.neighbours.now)) l.x end) l.invariant.2.holds,
-      read_layers ((star c.args.header c.args.centre.now c.args.neighbours.now)) c.args.summary.now l.x l.reads end (omega (arith, c.requires.0.0.few)) l.invariant.2.read_to,
-    )
+    let end : l.x ≡ c.args.header.block.subdivisions = omega (arith, l.invariant.0) in record { holds = rw (← regular_end ((star c.args.header c.args.centre.now c.args.neighbours.now)) l.x end) l.invariant.2.holds; reads = read_layers ((star c.args.header c.args.centre.now c.args.neighbours.now)) c.args.summary.now l.x l.reads end (omega (arith, c.requires.shaped.0.few)) l.invariant.2.read_to }

@@ -9,18 +9,18 @@ use Rattle.writing.proofs.Holding.{same_self}
 use Rattle.writing.proofs.write_sheet.Goals as goal
 
 pub loop-u-init : goal.loop-u-init
-loop-u-init c = (omega arith, (same_self, c.requires.1.1.1.1.1))
+loop-u-init c = (omega arith, (same_self, c.requires.holds))
 
 pub write_row-counts-requires : goal.write_row-counts-requires
 write_row-counts-requires c =
     let l = c.loop-u in
     let p = c.requires in
-    let room = p.1.1.1.1.0 in
-    (p.0, (p.1.0, (p.1.1.0, (p.1.1.1.0, (fits_still l.invariant.1.0 room, (omega (arith, c.loop-u-test.true, p.1.0.0.some), l.invariant.1.1))))))
+    let room = p.fits in
+    record { tables = p.tables; shaped = p.shaped; sheeted = p.sheeted; sheet_in = p.sheet_in; fits = fits_still l.invariant.1.0 room; u_lt_subdivisions = (omega (arith, c.loop-u-test.true, p.shaped.0.some), l.invariant.1.1) }
 
 pub overflow_add-u : goal.overflow_add-u
 overflow_add-u c =
-    omega (arith, c.loop-u-test.true, c.requires.1.0.0.few)
+    omega (arith, c.loop-u-test.true, c.requires.shaped.0.few)
 
 pub loop-u-smaller : goal.loop-u-smaller
 loop-u-smaller c = omega (arith, c.loop-u-test.true)
@@ -54,4 +54,4 @@ returns c =
     let l = c.loop-u in
     let end : l.u ≡ a.header.block.subdivisions = omega arith in
     let s = star a.header a.centre.now a.neighbours.now in
-    rw (end, sheet_after_lem s a.sheet c.requires.1.1.1.0) at l.invariant.1.1
+    rw (end, sheet_after_lem s a.sheet c.requires.sheet_in) at l.invariant.1.1

@@ -9,4 +9,4 @@ pub returns-then-header-eq0 : goal.returns-then-header-eq0
 unfolding mesh_of
 returns-then-header-eq0 c =
     let s = star c.args.header c.args.centre.now c.args.neighbours.now in
-    (rw (no_sides s c.if-header-eq0.true (regular_mesh s)) c.requires.1.1.0, read_unnamed s _ c.if-header-eq0.true c.requires.1.1.1)
+    record { holds_2 = rw (no_sides s c.if-header-eq0.true (regular_mesh s)) c.requires.holds; reads = read_unnamed s _ c.if-header-eq0.true c.requires.reads_bound }

@@ -20,7 +20,7 @@ s c centre = star c.args.header centre c.args.neighbours.now
 numbers : (c : After-face_walk-walk) → (centre : List Float) → let n = c.args.header.block.subdivisions in
     OnWalk (transition_case ((s c) centre) c.args.side) c.args.header.threshold c.neighbour-fine.result.now n c.face_walk-walk.result n 0
 numbers c centre =
-    let there = c.requires.0 in
+    let there = c.requires.neighbour_there in
     let n = c.args.header.block.subdivisions in
     let side = c.args.side in
     let fine = c.neighbour-fine in
@@ -33,18 +33,9 @@ face_walk-walk-requires c = (omega arith, omega arith)
 
 pub rows_on-requires : goal.rows_on-requires
 rows_on-requires c =
-    let there = c.requires.0 in (
-      (there.few, (omega arith, c.requires.1.1)),
-      rw c.face_walk-walk.ensures (face_walked (s (goal.at.rows_on-requires c).After-face_walk-walk []) c.args.side there.few there.side_is _ c.neighbour-fine.ensures.1),
-    )
+    let there = c.requires.neighbour_there in record { n_le_most_subdivisions = (there.few, (omega arith, c.requires.le_subdivisions.1)); walked = rw c.face_walk-walk.ensures (face_walked (s (goal.at.rows_on-requires c).After-face_walk-walk []) c.args.side there.few there.side_is _ c.neighbour-fine.ensures.1) }
 
 pub returns : goal.returns
 returns c =
     let all = zero-add c.args.header.block.subdivisions in
-    let rows = c.rows_on.ensures in (
-      λ centre. rw all at (rows.0 (transition_case (s (goal.at.returns c).After-face_walk-walk centre) c.args.side) (numbers (goal.at.returns c).After-face_walk-walk centre) (no_row _ _ _)),
-      (
-        λ centre. rw all at (rows.1.0 (transition_case (s (goal.at.returns c).After-face_walk-walk centre) c.args.side) (numbers (goal.at.returns c).After-face_walk-walk centre) (no_row _ _ _)),
-        rows.1.1,
-      ),
-    )
+    let rows = c.rows_on.ensures in record { cases = λ centre. rw all at (rows.0 (transition_case (s (goal.at.returns c).After-face_walk-walk centre) c.args.side) (numbers (goal.at.returns c).After-face_walk-walk centre) (no_row _ _ _)); marks = λ centre. rw all at (rows.1.0 (transition_case (s (goal.at.returns c).After-face_walk-walk centre) c.args.side) (numbers (goal.at.returns c).After-face_walk-walk centre) (no_row _ _ _)); reads = rows.1.1 }

@@ -14,7 +14,7 @@ pub nine-number-requires : goal.nine-number-requires
 nine-number-requires c =
     let p = c.requires in
     let v = c.loop-v.v in
-    (omega arith, (p.1 (2 * v) (omega arith), (p.1 (2 * v + 1) (omega arith), p.1 (2 * v + 2) (omega arith))))
+    (omega arith, (p.by_index (2 * v) (omega arith), (p.by_index (2 * v + 1) (omega arith), p.by_index (2 * v + 2) (omega arith))))
 
 pub loop-v-preserved : goal.loop-v-preserved
 loop-v-preserved c =
@@ -41,4 +41,4 @@ pub returns : goal.returns
 returns c =
     let l = c.loop-v in
     let e : l.v ≡ c.args.n = omega arith in
-    (rw e at l.invariant.2, (rw e at l.invariant.4, omega arith))
+    record { cases = rw e at l.invariant.2; marks = rw e at l.invariant.4; reads = omega arith }

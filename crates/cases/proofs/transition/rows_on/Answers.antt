@@ -31,10 +31,10 @@ record SoFar (n : ℕ) (threshold : Float) (fine : List Float) (walk : FaceWalk)
 
 -- the row is one of the sheet's
 row_is : (c : In-loop-u) → c.args.at + (c.loop-u.u) < c.args.n
-row_is c = omega (arith, c.loop-u-test.true, c.requires.0.1.0)
+row_is c = omega (arith, c.loop-u-test.true, c.requires.n_le_most_subdivisions.1.0)
 
 row_within : (c : In-loop-u) → row_start c.args.n (c.args.at + (c.loop-u.u)) + c.args.n ≤ sheet_places
-row_within c = omega (arith, row_fits _ _ c.requires.0.0 (row_is c))
+row_within c = omega (arith, row_fits _ _ c.requires.n_le_most_subdivisions.0 (row_is c))
 
 pub loop-u-init : goal.loop-u-init
 loop-u-init c =
@@ -50,12 +50,12 @@ loop-u-init c =
 
 pub lines_at-lines-requires : goal.lines_at-lines-requires
 lines_at-lines-requires c =
-    let leads = c.requires.1.leads in
+    let leads = c.requires.walked.leads in
     let taken = c.loop-u-test.true in
-    (omega (arith, row_is c, c.requires.0.0), (leads _ (omega (arith, taken)), (leads _ (omega (arith, taken)), leads _ (omega (arith, taken)))))
+    (omega (arith, row_is c, c.requires.n_le_most_subdivisions.0), (leads _ (omega (arith, taken)), (leads _ (omega (arith, taken)), leads _ (omega (arith, taken)))))
 
 pub overflow_add-start-in-loop-u : goal.overflow_add-start-in-loop-u
-overflow_add-start-in-loop-u c = omega (arith, row_is (goal.at.overflow_add-start-in-loop-u c).In-loop-u, c.requires.0.0)
+overflow_add-start-in-loop-u c = omega (arith, row_is (goal.at.overflow_add-start-in-loop-u c).In-loop-u, c.requires.n_le_most_subdivisions.0)
 
 pub overflow_mul-start : goal.overflow_mul-start
 overflow_mul-start c = omega (arith, row_within (goal.at.overflow_mul-start c).In-loop-u)
@@ -63,17 +63,14 @@ overflow_mul-start c = omega (arith, row_within (goal.at.overflow_mul-start c).I
 pub row_on-reads-requires : goal.row_on-reads-requires
 row_on-reads-requires c =
     let so_far = c.loop-u.invariant in
-    let within = row_within (goal.at.row_on-reads-requires c).In-loop-u in (
-      (c.requires.0.0, (omega (arith, within, so_far.cases_long), omega (arith, within, so_far.marks_long))),
-      λ v2 h. rw c.lines_at-lines.ensures (c.requires.1.lined (c.loop-u.u) v2 c.loop-u-test.true h),
-    )
+    let within = row_within (goal.at.row_on-reads-requires c).In-loop-u in record { n_le_most_subdivisions = (c.requires.n_le_most_subdivisions.0, (omega (arith, within, so_far.cases_long), omega (arith, within, so_far.marks_long))); by_index = λ v2 h. rw c.lines_at-lines.ensures (c.requires.walked.lined (c.loop-u.u) v2 c.loop-u-test.true h) }
 
 pub overflow_add-reads : goal.overflow_add-reads
 overflow_add-reads c =
-    omega (arith, c.loop-u.invariant.reads-few, c.row_on-reads.ensures.1.1, row_is (goal.at.overflow_add-reads c).In-loop-u, c.requires.0.0)
+    omega (arith, c.loop-u.invariant.reads-few, c.row_on-reads.ensures.reads, row_is (goal.at.overflow_add-reads c).In-loop-u, c.requires.n_le_most_subdivisions.0)
 
 pub overflow_add-u : goal.overflow_add-u
-overflow_add-u c = omega (arith, row_is (goal.at.overflow_add-u c).In-loop-u, c.requires.0.0)
+overflow_add-u c = omega (arith, row_is (goal.at.overflow_add-u c).In-loop-u, c.requires.n_le_most_subdivisions.0)
 
 pub loop-u-smaller : goal.loop-u-smaller
 loop-u-smaller c = omega (arith, c.loop-u-test.true)
@@ -98,7 +95,7 @@ loop-u-preserved c =
           rw next at
           (one_more_row _ _ (a.at + c.loop-u.u) _ _ (row_as (λ v h. ap (mark_of all_transition) (number case on v h)) row.ensures.1.0) (so_far.marked case on first));
       reads_are = omega (arith, row.ensures.1.1, so_far.reads_are);
-      reads-few = omega (arith, row.ensures.1.1, so_far.reads-few, c.requires.0.0);
+      reads-few = omega (arith, row.ensures.1.1, so_far.reads-few, c.requires.n_le_most_subdivisions.0);
     }
 
 pub shape_of-cases : goal.shape_of-cases
@@ -110,11 +107,5 @@ shape_of-marks c = omega arith
 pub returns : goal.returns
 returns c =
     let so_far = c.loop-u.invariant in
-    let p = c.requires.0 in
-    let end : c.loop-u.u ≡ c.args.rows = omega (arith, c.loop-u-test.false, so_far.within) in (
-      λ case on first. rw end at (so_far.numbers case on first),
-      (
-        λ case on first. rw end at (so_far.marked case on first),
-        (rw end at so_far.reads_are, omega (arith, so_far.reads-few, so_far.within, p.0, p.1.0)),
-      ),
-    )
+    let p = c.requires.n_le_most_subdivisions in
+    let end : c.loop-u.u ≡ c.args.rows = omega (arith, c.loop-u-test.false, so_far.within) in record { cases = λ case on first. rw end at (so_far.numbers case on first); marks = λ case on first. rw end at (so_far.marked case on first); reads = (rw end at so_far.reads_are, omega (arith, so_far.reads-few, so_far.within, p.0, p.1.0)) }

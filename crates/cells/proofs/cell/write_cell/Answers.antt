@@ -13,24 +13,24 @@ pub fill_cell-filled-requires : goal.fill_cell-filled-requires
 unfolding fill_to
 fill_cell-filled-requires c =
     let p = c.requires in
-    (p.0, ((omega (arith, p.1.0.1), (p.1.0.1.few_vertices, p.1.0.0)), (p.1.1.0, p.1.1.1.0)))
+    record { ready = p.ready; row_coded = (omega (arith, p.coded.1), (p.coded.1.few_vertices, p.coded.0)); store_len = p.store_len; room = p.room }
 
 pub put_edges-requires : goal.put_edges-requires
 put_edges-requires c =
     let p = c.requires in
-    ((p.0.centred.parts.few, (p.0.placed, omega (arith, p.1.1.1.0.short))), (omega (arith, p.1.0.1), (p.1.0.1.few_vertices, p.1.0.0)))
+    record { n_le_most_subdivisions = (p.ready.centred.parts.few, (p.ready.placed, omega (arith, p.room.short))); row_coded = (omega (arith, p.coded.1), (p.coded.1.few_vertices, p.coded.0)) }
 
 pub put_triangles-made-requires : goal.put_triangles-made-requires
 put_triangles-made-requires c =
     let p = c.requires in
-    (p.1.0.1, p.1.1.1.1.0)
+    record { followed = p.coded.1; room = p.room_2.0 }
 
 pub overflow_add-reads : goal.overflow_add-reads
 unfolding fill_to
 overflow_add-reads c =
     let p = c.requires.1.1.1 in
     let put = c.fill_cell-filled.ensures in
-    omega (arith, p.0.short, p.1.1, put.reads_are)
+    omega (arith, p.ready.short, p.1.1, put.reads_are)
 
 pub returns : goal.returns
 unfolding fill_to triangle_of row_triangle
@@ -38,8 +38,5 @@ returns c =
     let a = c.args in
     let put = c.put_triangles-made.ensures in
     let s = star a.header a.centre.now a.neighbours.now in
-    let cell = cell_of s a.at a.codes.now a.row.now a.turned in (
-      cell_put cell a.counts.vertices a.counts.triangles a.vertices.now a.triangles.now a.store.now _ _ _ _ _ _ _ _ _ c.requires.1.1.1.1.1
-          c.fill_cell-filled.ensures put.0 put.1,
-      c.put_edges.ensures s a.turned a.store.now refl,
-    )
+    let cell = cell_of s a.at a.codes.now a.row.now a.turned in record { cell_put = cell_put cell a.counts.vertices a.counts.triangles a.vertices.now a.triangles.now a.store.now _ _ _ _ _ _ _ _ _ c.requires.room_2.1
+          c.fill_cell-filled.ensures put.0 put.1; edges = c.put_edges.ensures s a.turned a.store.now refl }

@@ -14,7 +14,7 @@ use Rattle.cells.proofs.edges.put_edge.Goals as goal
 pub returns-then-not-makes : goal.returns-then-not-makes
 returns-then-not-makes c =
     let a = c.args in
-    (omega arith, λ s e. edge_none (use_at s a.at a.code) a.next a.edges.now (use_makes s a.at a.code ∙ sym c.makes.ensures ∙ not-true _ c.if-not-makes.true))
+    (omega arith, λ s e. edge_none (use_at s a.at a.code) a.next a.edges.now (use_makes s a.at a.code ∙ sym c.makes.ensures ∙ c.if-not-makes.true))
 
 pub shape_of-edges : goal.shape_of-edges
 shape_of-edges c = ⊎_elim (λ w. rw (w.2, length-set)) (λ w. rw w.1) c.if-next-edges.branch
@@ -22,7 +22,7 @@ shape_of-edges c = ⊎_elim (λ w. rw (w.2, length-set)) (λ w. rw w.1) c.if-nex
 pub returns : goal.returns
 returns c =
     let a = c.args in
-    let made : (s : Star) → (use_at s a.at a.code).makes ≡ true = λ s. use_makes s a.at a.code ∙ sym c.makes.ensures ∙ not-false _ c.if-not-makes.false in (
+    let made : (s : Star) → (use_at s a.at a.code).makes ≡ true = λ s. use_makes s a.at a.code ∙ sym c.makes.ensures ∙ c.if-not-makes.false in (
       omega arith,
       λ s e.
           ⊎_elim

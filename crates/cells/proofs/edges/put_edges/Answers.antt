@@ -12,7 +12,7 @@ use Rattle.cells.proofs.edges.put_edges.Goals.{In-loop-k}
 -- its code is one of the row's
 inside : (c : In-loop-k) → (c.loop-k.k + 1 ≤ vertices_of c.args.row.now) × (vertices_of c.args.row.now ≤ length c.args.codes.now)
 inside c =
-    (omega (arith, c.loop-k-test.true, c.vertex_count-count.ensures), c.requires.1.1.1.there)
+    (omega (arith, c.loop-k-test.true, c.vertex_count-count.ensures), c.requires.row_coded.1.1.there)
 
 pub returns-then-edges-base : goal.returns-then-edges-base
 returns-then-edges-base c =
@@ -32,11 +32,11 @@ bounds-codes-k c = omega (arith, inside (goal.at.bounds-codes-k c).In-loop-k)
 
 pub put_edge-next-requires : goal.put_edge-next-requires
 put_edge-next-requires c =
-    (c.requires.0.0, (c.requires.0.1.0, omega (arith, c.loop-k.invariant.1, inside (goal.at.put_edge-next-requires c).In-loop-k, c.requires.0.1.1, c.requires.1.1.0)))
+    (c.requires.n_le_most_subdivisions.0, (c.requires.n_le_most_subdivisions.1.0, omega (arith, c.loop-k.invariant.1, inside (goal.at.put_edge-next-requires c).In-loop-k, c.requires.n_le_most_subdivisions.1.1, c.requires.row_coded.1.0)))
 
 pub overflow_add-k : goal.overflow_add-k
 overflow_add-k c =
-    omega (arith, inside (goal.at.overflow_add-k c).In-loop-k, c.requires.1.1.0)
+    omega (arith, inside (goal.at.overflow_add-k c).In-loop-k, c.requires.row_coded.1.0)
 
 pub loop-k-smaller : goal.loop-k-smaller
 loop-k-smaller c = omega (arith, c.loop-k-test.true)

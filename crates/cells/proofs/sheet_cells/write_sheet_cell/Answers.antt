@@ -14,7 +14,7 @@ use Rattle.cells.proofs.sheet_cells.write_sheet_cell.Goals.{After-turned, Start}
 small : (b : Start) → b.args.case ≤ all_of b.args.sheet
 small b =
     let a = b.args in
-    omega (arith, b.requires.1.1.0, case_small ((star b.args.header b.args.centre.now b.args.neighbours.now)) a.sheet a.u a.v)
+    omega (arith, b.requires.case_value, case_small ((star b.args.header b.args.centre.now b.args.neighbours.now)) a.sheet a.u a.v)
 
 -- the rows that are lent describe the cell
 same : (r : After-turned) → let a = r.args in
@@ -22,20 +22,20 @@ same : (r : After-turned) → let a = r.args in
     ≡ sheet_cell ((star r.args.header r.args.centre.now r.args.neighbours.now)) a.sheet a.u a.v
 same r =
     let a = r.args in
-    sheet_is a.sheet a.case _ _ _ r.case_codes.ensures r.case_cell.ensures r.turned.ensures ((star r.args.header r.args.centre.now r.args.neighbours.now)) a.u a.v r.requires.1.1.0 _
+    sheet_is a.sheet a.case _ _ _ r.case_codes.ensures r.case_cell.ensures r.turned.ensures ((star r.args.header r.args.centre.now r.args.neighbours.now)) a.u a.v r.requires.case_value _
     r.cell_at.ensures
 
 pub case_codes-requires : goal.case_codes-requires
 case_codes-requires c =
-    (c.requires.0.codes_are, small (goal.at.case_codes-requires c).Start)
+    (c.requires.tables.codes_are, small (goal.at.case_codes-requires c).Start)
 
 pub case_cell-requires : goal.case_cell-requires
 case_cell-requires c =
-    (c.requires.0.classes_are, (c.requires.0.cells_are, small (goal.at.case_cell-requires c).Start))
+    (c.requires.tables.classes_are, (c.requires.tables.cells_are, small (goal.at.case_cell-requires c).Start))
 
 pub turned-requires : goal.turned-requires
 turned-requires c =
-    (c.requires.0.classes_are, small (goal.at.turned-requires c).Start)
+    (c.requires.tables.classes_are, small (goal.at.turned-requires c).Start)
 
 pub write_cell-requires : goal.write_cell-requires
 write_cell-requires c =
@@ -43,23 +43,8 @@ write_cell-requires c =
     let room = c.requires.1.1.1.1 in
     let cell = c.cell_at.ensures in
     let codes_are = c.case_codes.ensures in
-    let row_is = c.case_cell.ensures in (
-      rw cell c.requires.1.0,
-      (
-        (sheet_coded a.sheet a.case _ _ (small (goal.at.write_cell-requires c).Start) codes_are row_is a.u a.v _ cell, sheet_followed a.sheet a.case _ (small (goal.at.write_cell-requires c).Start) row_is),
-        (
-          c.requires.1.1.1.0,
-          (
-            vertex_room (same (goal.at.write_cell-requires c).After-turned) a.counts.vertices a.vertices.now a.store.now room.0,
-            (triangle_room (same (goal.at.write_cell-requires c).After-turned) a.counts.triangles a.triangles.now room.1.0, room.1.1),
-          ),
-        ),
-      ),
-    )
+    let row_is = c.case_cell.ensures in record { ready = rw cell c.requires.ready; coded = (sheet_coded a.sheet a.case _ _ (small (goal.at.write_cell-requires c).Start) codes_are row_is a.u a.v _ cell, sheet_followed a.sheet a.case _ (small (goal.at.write_cell-requires c).Start) row_is); store_len = c.requires.store_len; room = vertex_room (same (goal.at.write_cell-requires c).After-turned) a.counts.vertices a.vertices.now a.store.now room.0; room_2 = (triangle_room (same (goal.at.write_cell-requires c).After-turned) a.counts.triangles a.triangles.now room.1.0, room.1.1) }
 
 pub returns : goal.returns
 returns c =
-    let a = c.args in (
-      put_as (same (goal.at.returns c).After-turned) a.counts.vertices a.counts.triangles a.vertices.now a.triangles.now a.store.now _ _ _ _ _ _ c.write_cell.ensures.0,
-      edges_as (same (goal.at.returns c).After-turned) a.counts.vertices a.edges.now a.store.now _ c.write_cell.ensures.1,
-    )
+    let a = c.args in record { cell_put = put_as (same (goal.at.returns c).After-turned) a.counts.vertices a.counts.triangles a.vertices.now a.triangles.now a.store.now _ _ _ _ _ _ c.write_cell.ensures.cell_put; edges = edges_as (same (goal.at.returns c).After-turned) a.counts.vertices a.edges.now a.store.now _ c.write_cell.ensures.edges }

@@ -36,4 +36,4 @@ pub returns : goal.returns
 returns c =
     let a = c.args in
     let e : c.loop-t.t ≡ triangles_of a.row.now = omega arith in
-    (omega arith, rw e at c.loop-t.invariant.1)
+    record { value = omega arith; triangles_after = rw e at c.loop-t.invariant.1 }

@@ -15,7 +15,7 @@ pub returns-then-not-is_usable : goal.returns-then-not-is_usable
 returns-then-not-is_usable c =
     let turn = c.loop-place in
     let start = c.args in
-    let bad = not-true c.is_usable.result c.if-not-is_usable.true in
+    let bad = c.if-not-is_usable.true in
     let here :
     usable_from start.from start.samples.now turn.place ≡ Refused (BadSample (start.from + turn.place)) =
     rw (← c.is_usable.ensures, bad)
@@ -26,7 +26,7 @@ pub loop-place-preserved : goal.loop-place-preserved
 loop-place-preserved c =
     let turn = c.loop-place in
     let start = c.args in
-    let good = not-false c.is_usable.result c.if-not-is_usable.false in
+    let good = c.if-not-is_usable.false in
     let here : usable_from start.from start.samples.now turn.place ≡ Passed = rw (← c.is_usable.ensures, good) in
     (omega arith, not_yet (usable_from start.from start.samples.now) turn.place turn.invariant.1 here)
 

@@ -35,7 +35,7 @@ layer_stands-requires c =
 pub returns-then-not-layer_stands : goal.returns-then-not-layer_stands
 unfolding judge_layers
 returns-then-not-layer_stands c =
-    sym (hit ((spot_of c.args.n c.args.samples.now c.args.summary.now)) (c.loop-x.x) c.args.n _ (so_far (goal.at.returns-then-not-layer_stands c).After-layer_stands) (judged (goal.at.returns-then-not-layer_stands c).After-layer_stands false (not-true c.layer_stands.result c.if-not-layer_stands.true)) (omega arith))
+    sym (hit ((spot_of c.args.n c.args.samples.now c.args.summary.now)) (c.loop-x.x) c.args.n _ (so_far (goal.at.returns-then-not-layer_stands c).After-layer_stands) (judged (goal.at.returns-then-not-layer_stands c).After-layer_stands false (c.if-not-layer_stands.true)) (omega arith))
 
 pub overflow_step-x : goal.overflow_step-x
 overflow_step-x c = omega arith
@@ -45,7 +45,7 @@ loop-x-smaller c = omega arith
 
 pub loop-x-preserved : goal.loop-x-preserved
 loop-x-preserved c =
-    (omega arith, not_yet ((spot_of c.args.n c.args.samples.now c.args.summary.now)) (c.loop-x.x) (so_far (goal.at.loop-x-preserved c).After-layer_stands) (judged (goal.at.loop-x-preserved c).After-layer_stands true (not-false c.layer_stands.result c.if-not-layer_stands.false)))
+    (omega arith, not_yet ((spot_of c.args.n c.args.samples.now c.args.summary.now)) (c.loop-x.x) (so_far (goal.at.loop-x-preserved c).After-layer_stands) (judged (goal.at.loop-x-preserved c).After-layer_stands true (c.if-not-layer_stands.false)))
 
 pub returns : goal.returns
 unfolding judge_layers

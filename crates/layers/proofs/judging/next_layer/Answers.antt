@@ -28,7 +28,7 @@ returns-then-not-is_passed_over c =
       ordered = so_far.0;
       within = so_far.1.0;
       all_over = λ k l u. so_far.1.1 k u l;
-      not_over = λ h. sym c.is_passed_over.ensures ∙ not-true c.is_passed_over.result c.if-not-is_passed_over.true;
+      not_over = λ h. sym c.is_passed_over.ensures ∙ c.if-not-is_passed_over.true;
     }
 
 pub overflow_step-x : goal.overflow_step-x
@@ -41,7 +41,7 @@ pub loop-x-preserved : goal.loop-x-preserved
 loop-x-preserved c =
     let turn = c.loop-x in
     let a = c.args in
-    let over = sym c.is_passed_over.ensures ∙ not-false c.is_passed_over.result c.if-not-is_passed_over.false in
+    let over = sym c.is_passed_over.ensures ∙ c.if-not-is_passed_over.false in
     (omega arith, (omega arith, below_more (Over a.threshold a.summary.now a.from) turn.x turn.invariant.1.1 (λ l. over)))
 
 pub returns : goal.returns

@@ -7,22 +7,22 @@ use Rattle.points.proofs.grid_point.gradient.Goals as goal
 
 pub difference-requires : goal.difference-requires
 difference-requires c =
-    rw c.in_block-at.ensures.0 (c.requires.0.1, reach_x c.args.n c.args.p c.requires.1 c.requires.0.0)
+    rw c.in_block-at.ensures.0 (c.requires.n_le_most_fine.1, reach_x c.args.n c.args.p c.requires.within c.requires.n_le_most_fine.0)
 
 pub difference-requires-2 : goal.difference-requires-2
 difference-requires-2 c =
-    rw c.in_block-at.ensures.0 (c.requires.0.1, reach_y c.args.n c.args.p c.requires.1 c.requires.0.0)
+    rw c.in_block-at.ensures.0 (c.requires.n_le_most_fine.1, reach_y c.args.n c.args.p c.requires.within c.requires.n_le_most_fine.0)
 
 pub difference-requires-3 : goal.difference-requires-3
 difference-requires-3 c =
-    rw c.in_block-at.ensures.0 (c.requires.0.1, reach_z c.args.n c.args.p c.requires.1 c.requires.0.0)
+    rw c.in_block-at.ensures.0 (c.requires.n_le_most_fine.1, reach_z c.args.n c.args.p c.requires.within c.requires.n_le_most_fine.0)
 
 pub returns : goal.returns
 unfolding gradient_at value_at
 returns c =
     let n = c.args.n in
     let p = c.args.p in
-    let h = c.requires.1 in
+    let h = c.requires.within in
     let samples = c.args.samples.now in
     rw (
       c.difference.ensures,

@@ -11,28 +11,28 @@ use Rattle.points.proofs.grid_point.gradient_inside.Goals as goal
 
 pub difference_inside-requires : goal.difference_inside-requires
 difference_inside-requires c =
-    let h = c.requires.1 in
-    let reach = reach_x c.args.n c.args.p (inside_within h) c.requires.0.0 in
-    rw c.in_block-at.ensures.0 (omega (arith, reach.up_in h.x_high, c.requires.0.1), reach.enough h.x_low)
+    let h = c.requires.inside in
+    let reach = reach_x c.args.n c.args.p (inside_within h) c.requires.n_le_most_fine.0 in
+    rw c.in_block-at.ensures.0 (omega (arith, reach.up_in h.x_high, c.requires.n_le_most_fine.1), reach.enough h.x_low)
 
 pub difference_inside-requires-2 : goal.difference_inside-requires-2
 difference_inside-requires-2 c =
-    let h = c.requires.1 in
-    let reach = reach_y c.args.n c.args.p (inside_within h) c.requires.0.0 in
-    rw c.in_block-at.ensures.0 (omega (arith, reach.up_in h.y_high, c.requires.0.1), reach.enough h.y_low)
+    let h = c.requires.inside in
+    let reach = reach_y c.args.n c.args.p (inside_within h) c.requires.n_le_most_fine.0 in
+    rw c.in_block-at.ensures.0 (omega (arith, reach.up_in h.y_high, c.requires.n_le_most_fine.1), reach.enough h.y_low)
 
 pub difference_inside-requires-3 : goal.difference_inside-requires-3
 difference_inside-requires-3 c =
-    let h = c.requires.1 in
-    let reach = reach_z c.args.n c.args.p (inside_within h) c.requires.0.0 in
-    rw c.in_block-at.ensures.0 (omega (arith, reach.up_in h.z_high, c.requires.0.1), reach.enough h.z_low)
+    let h = c.requires.inside in
+    let reach = reach_z c.args.n c.args.p (inside_within h) c.requires.n_le_most_fine.0 in
+    rw c.in_block-at.ensures.0 (omega (arith, reach.up_in h.z_high, c.requires.n_le_most_fine.1), reach.enough h.z_low)
 
 pub returns : goal.returns
 unfolding gradient_at value_at
 returns c =
     let n = c.args.n in
     let p = c.args.p in
-    let inside = c.requires.1 in
+    let inside = c.requires.inside in
     let h = inside_within inside in
     let samples = c.args.samples.now in
     rw (

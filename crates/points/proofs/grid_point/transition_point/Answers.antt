@@ -5,36 +5,36 @@ use Rattle.tables.specs.declared.aux_tables.CellPoint.TheVariants.{Fine, Coarse}
 use Rattle.model.specs.Points.{transition_point}
 use Rattle.points.specs.CellPoints.{InCell}
 use Rattle.points.proofs.grid_point.transition_point.Goals as goal
-use Rattle.points.proofs.grid_point.transition_point.Goals.{In-Coarse-2, In-Fine-2}
+use Rattle.points.proofs.grid_point.transition_point.Goals.{In-Coarse, In-Fine}
 
-offset-in : (c : In-Fine-2) → InCell (Fine c.in-Fine.offset)
-offset-in c = subst InCell c.in-Fine.is c.requires.1.1
+offset-in : (c : In-Fine) → InCell (Fine c.in-Fine.offset)
+offset-in c = subst InCell c.in-Fine.is c.requires.in_cell
 
-corner_in_lem : (c : In-Coarse-2) → InCell (Coarse c.in-Coarse.corner)
-corner_in_lem c = subst InCell c.in-Coarse.is c.requires.1.1
+corner_in_lem : (c : In-Coarse) → InCell (Coarse c.in-Coarse.corner)
+corner_in_lem c = subst InCell c.in-Coarse.is c.requires.in_cell
 
 pub overflow_add-u : goal.overflow_add-u
-overflow_add-u c = let h = offset-in (goal.at.overflow_add-u c).In-Fine-2 in omega arith
+overflow_add-u c = let h = offset-in (goal.at.overflow_add-u c).In-Fine in omega arith
 
 pub overflow_add-v : goal.overflow_add-v
-overflow_add-v c = let h = offset-in (goal.at.overflow_add-v c).In-Fine-2 in omega arith
+overflow_add-v c = let h = offset-in (goal.at.overflow_add-v c).In-Fine in omega arith
 
 pub fine_grid_point-requires : goal.fine_grid_point-requires
 fine_grid_point-requires c =
-    let h = offset-in (goal.at.fine_grid_point-requires c).In-Fine-2 in
-    let few = c.requires.0.parts.few in
-    (c.requires.0, (c.requires.1.0.fine_is, record { few = few; side_is = c.requires.1.0.side_is; u_in = omega arith; v_in = omega arith }))
+    let h = offset-in (goal.at.fine_grid_point-requires c).In-Fine in
+    let few = c.requires.centred.parts.few in
+    record { centred = c.requires.centred; fine_len = c.requires.bordered.fine_is; on_fine_face = record { few = few; side_is = c.requires.bordered.side_is; u_in = omega arith; v_in = omega arith } }
 
 pub overflow_add-cell : goal.overflow_add-cell
-overflow_add-cell c = let h = corner_in_lem (goal.at.overflow_add-cell c).In-Coarse-2 in omega arith
+overflow_add-cell c = let h = corner_in_lem (goal.at.overflow_add-cell c).In-Coarse in omega arith
 
 pub overflow_add-cell-in-Coarse : goal.overflow_add-cell-in-Coarse
-overflow_add-cell-in-Coarse c = let h = corner_in_lem (goal.at.overflow_add-cell-in-Coarse c).In-Coarse-2 in omega arith
+overflow_add-cell-in-Coarse c = let h = corner_in_lem (goal.at.overflow_add-cell-in-Coarse c).In-Coarse in omega arith
 
 pub face_point-at-requires : goal.face_point-at-requires
 face_point-at-requires c =
-    let h = corner_in_lem (goal.at.face_point-at-requires c).In-Coarse-2 in
-    record { few = c.requires.0.parts.few; side_is = c.requires.1.0.side_is; u_in = omega arith; v_in = omega arith }
+    let h = corner_in_lem (goal.at.face_point-at-requires c).In-Coarse in
+    record { few = c.requires.centred.parts.few; side_is = c.requires.bordered.side_is; u_in = omega arith; v_in = omega arith }
 
 pub returns-in-Fine : goal.returns-in-Fine
 unfolding transition_point

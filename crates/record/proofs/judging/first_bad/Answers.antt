@@ -21,7 +21,7 @@ returns-then-not-is_usable_at c =
     let turn = c.loop-k in
     let args = c.args in
     let here : sample_usable_at args.bytes.now turn.k ≡ Refused (BadSample turn.k) =
-    rw (← c.sample_from.ensures, ← judged.ensures, not-true judged.result c.if-not-is_usable_at.true) in
+    rw (← c.sample_from.ensures, ← judged.ensures, c.if-not-is_usable_at.true) in
     sym (hit (sample_usable_at args.bytes.now) turn.k args.count (BadSample turn.k) turn.invariant.1 here (omega arith))
 
 pub loop-k-smaller : goal.loop-k-smaller
@@ -33,7 +33,7 @@ loop-k-preserved c =
     let turn = c.loop-k in
     let args = c.args in
     let here : sample_usable_at args.bytes.now turn.k ≡ Passed =
-    rw (← c.sample_from.ensures, ← judged.ensures, not-false judged.result c.if-not-is_usable_at.false) in
+    rw (← c.sample_from.ensures, ← judged.ensures, c.if-not-is_usable_at.false) in
     (omega arith, not_yet (sample_usable_at args.bytes.now) turn.k turn.invariant.1 here)
 
 pub returns : goal.returns

@@ -21,7 +21,7 @@ unfolding judge_measures
 returns-then-not-is_measure_usable c =
     let bytes = c.args.bytes.now in
     let which = c.loop-which.which in
-    let bad = not-true c.is_measure_usable.result c.if-not-is_measure_usable.true in
+    let bad = c.if-not-is_measure_usable.true in
     let here : judged bytes which ≡ Refused (Measure which) = rw (← c.is_measure_usable.ensures, bad) in
     sym (hit (judged bytes) which 5 (Measure which) c.loop-which.invariant.1 here (omega arith))
 
@@ -32,7 +32,7 @@ pub loop-which-preserved : goal.loop-which-preserved
 loop-which-preserved c =
     let bytes = c.args.bytes.now in
     let which = c.loop-which.which in
-    let good = not-false c.is_measure_usable.result c.if-not-is_measure_usable.false in
+    let good = c.if-not-is_measure_usable.false in
     let here : judged bytes which ≡ Passed = rw (← c.is_measure_usable.ensures, good) in
     (omega arith, not_yet (judged bytes) which c.loop-which.invariant.1 here)
 

@@ -21,7 +21,7 @@ spot-here c =
     on_spot a.header a.filler ((delivery c.args.centre.now c.args.neighbours.now)) c.requires.0 a.k c.requires.1 c.spot_of-at.ensures
 
 side_named : (c : Else-not-is_named) → named c.args.header.mask c.spot_of-at.result.side ≡ true
-side_named c = sym c.is_named.ensures ∙ not-false c.is_named.result c.if-not-is_named.false
+side_named c = sym c.is_named.ensures ∙ c.if-not-is_named.false
 
 spot-here_at_else_not_is_named : (c : Else-not-is_named) → let at = c.spot_of-at.result in OnFace c.args.header.block.subdivisions at.side at.u at.v
 spot-here_at_else_not_is_named c =
@@ -37,7 +37,7 @@ spot-here_at_after_places_of_places c =
     on_spot a.header a.filler ((delivery c.args.centre.now c.args.neighbours.now)) c.requires.0 a.k c.requires.1 c.spot_of-at.ensures
 
 side_named_at_after_places_of_places : (c : After-places_of-places) → named c.args.header.mask c.spot_of-at.result.side ≡ true
-side_named_at_after_places_of_places c = sym c.is_named.ensures ∙ not-false c.is_named.result c.if-not-is_named.false
+side_named_at_after_places_of_places c = sym c.is_named.ensures ∙ c.if-not-is_named.false
 
 coarse-in : (c : After-places_of-places) → c.places_of-places.result.coarse < length c.args.centre.now
 coarse-in c =
@@ -58,7 +58,7 @@ both-few c =
     (places_small c.args.header.block.subdivisions c.args.header.mask (c.spot_of-at.result) (is_spot_at_after_places_of_places c))
 
 side_named_at_after_agree : (c : After-agree) → named c.args.header.mask c.spot_of-at.result.side ≡ true
-side_named_at_after_agree c = sym c.is_named.ensures ∙ not-false c.is_named.result c.if-not-is_named.false
+side_named_at_after_agree c = sym c.is_named.ensures ∙ c.if-not-is_named.false
 
 -- the change by what was found
 judged : (c : After-agree) → let a = c.args in
@@ -74,7 +74,7 @@ is_named-requires c = (spot-here c).side_is
 
 pub returns-then-not-is_named : goal.returns-then-not-is_named
 returns-then-not-is_named c = let a = c.args in
-    let none = sym c.is_named.ensures ∙ not-true c.is_named.result c.if-not-is_named.true in
+    let none = sym c.is_named.ensures ∙ c.if-not-is_named.true in
     nothing_at a.header a.filler ((delivery c.args.centre.now c.args.neighbours.now)) c.requires.0 a.k c.requires.1 c.spot_of-at.ensures none
 
 pub places_of-places-requires : goal.places_of-places-requires

@@ -16,12 +16,12 @@ pub loop-k-init : goal.loop-k-init
 loop-k-init c = (omega arith, (refl, put_none _ _))
 
 pub mismatch_at-requires : goal.mismatch_at-requires
-mismatch_at-requires c = (c.requires.0, omega (arith, c.spot_count-k-end.ensures))
+mismatch_at-requires c = (c.requires.shaped, omega (arith, c.spot_count-k-end.ensures))
 
 pub put_found-at-requires : goal.put_found-at-requires
 put_found-at-requires c = let a = c.args in
     room_for ((mismatch_spot c.args.header ((filled_in c.args.filler (delivery c.args.centre.now c.args.neighbours.now))))) a.from (spot_count a.header.block.subdivisions) c.loop-k.k _ (omega (arith, c.spot_count-k-end.ensures))
-    c.loop-k.invariant.1.1.next_is c.mismatch_at.ensures (omega (arith, c.requires.1, ap (λ (l : List Change). length l) (in_one_row a.header ((filled_in c.args.filler (delivery c.args.centre.now c.args.neighbours.now))))))
+    c.loop-k.invariant.1.1.next_is c.mismatch_at.ensures (omega (arith, c.requires.neighbours_in_bounds, ap (λ (l : List Change). length l) (in_one_row a.header ((filled_in c.args.filler (delivery c.args.centre.now c.args.neighbours.now))))))
 
 pub loop-k-smaller : goal.loop-k-smaller
 loop-k-smaller c = omega (arith, c.spot_count-k-end.ensures)

@@ -35,24 +35,21 @@ pub loop-v-init : goal.loop-v-init
 loop-v-init c = (omega arith, refl)
 
 pub spot_agrees-requires : goal.spot_agrees-requires
-spot_agrees-requires c = (
-  (c.requires.0, omega (arith, on_row c, c.requires.1.1.0.few)),
-  (
+spot_agrees-requires c = record { accepted = (c.requires.0, omega (arith, on_row c, c.requires.1.1.0.few)); on_line = (
     rw c.coarse_line-coarse.ensures ((lined (goal.at.spot_agrees-requires c).Start).coarse (c.loop-v.v) (on_row c)),
     rw c.fine_line-fine.ensures ((lined (goal.at.spot_agrees-requires c).Start).fine (c.loop-v.v) (on_row c)),
-  ),
-)
+  ) }
 
 pub returns-then-not-spot_agrees : goal.returns-then-not-spot_agrees
 returns-then-not-spot_agrees c =
     let at-spot = FaceMismatch (record { side = c.args.side; u = c.args.u; v = c.loop-v.v }) in
-    let found : (face_spot (star_of c.args.src.now) c.args.side c.args.u) (c.loop-v.v) ≡ Refused at-spot = rw (← told (goal.at.returns-then-not-spot_agrees c).After-spot_agrees, not-true c.spot_agrees.result c.if-not-spot_agrees.true) in
+    let found : (face_spot (star_of c.args.src.now) c.args.side c.args.u) (c.loop-v.v) ≡ Refused at-spot = rw (← told (goal.at.returns-then-not-spot_agrees c).After-spot_agrees, c.if-not-spot_agrees.true) in
     sym (hit ((face_spot (star_of c.args.src.now) c.args.side c.args.u)) (c.loop-v.v) (c.args.header.block.subdivisions + 1) at-spot c.loop-v.invariant.1 found c.loop-v-test.true)
 
 pub loop-v-preserved : goal.loop-v-preserved
 loop-v-preserved c =
     let turn = c.loop-v in
-    let passed : (face_spot (star_of c.args.src.now) c.args.side c.args.u) turn.v ≡ Passed = rw (← told (goal.at.loop-v-preserved c).After-spot_agrees, not-false c.spot_agrees.result c.if-not-spot_agrees.false) in
+    let passed : (face_spot (star_of c.args.src.now) c.args.side c.args.u) turn.v ≡ Passed = rw (← told (goal.at.loop-v-preserved c).After-spot_agrees, c.if-not-spot_agrees.false) in
     (omega (arith, c.loop-v-test.true), not_yet ((face_spot (star_of c.args.src.now) c.args.side c.args.u)) turn.v turn.invariant.1 passed)
 
 pub returns : goal.returns

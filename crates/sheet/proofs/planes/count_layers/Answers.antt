@@ -121,7 +121,7 @@ held_at_after_count_sheet_counts c =
 counts : (c : After-count_sheet-counts) → LayerCounts ((star_of c.args.src.now)) (c.loop-x.x) c.count_sheet-counts.result
 counts c =
     layer_counts ((star_of c.args.src.now)) (c.loop-x.x) c.count_sheet-counts.result
-    (c.count_sheet-counts.ensures.1 ((star_of c.args.src.now)) (is_at_after_count_sheet_counts c).subdivisions_are
+    (c.count_sheet-counts.ensures.grows ((star_of c.args.src.now)) (is_at_after_count_sheet_counts c).subdivisions_are
     (omega (arith, c.loop-x-test.true, (is_at_after_count_sheet_counts c).subdivisions_are))
     (held_at_after_count_sheet_counts c))
 
@@ -139,7 +139,7 @@ slice_bounds-fill_plane-end c = sym zeros
 
 pub fill_plane-requires : goal.fill_plane-requires
 fill_plane-requires c =
-    ((c.requires.0, sym (is (goal.at.fill_plane-requires c).Start).subdivisions_are), (omega arith, zeros))
+    record { accepted = (c.requires.0, sym (is (goal.at.fill_plane-requires c).Start).subdivisions_are); x_le_n = (omega arith, zeros) }
 
 pub slice_bounds-plane_figures-end : goal.slice_bounds-plane_figures-end
 slice_bounds-plane_figures-end c = sym (first-long (goal.at.slice_bounds-plane_figures-end c).After-fill_plane)
@@ -181,7 +181,7 @@ slice_bounds-fill_plane-end-in-loop-x c = sym c.loop-x.invariant.high-long
 
 pub fill_plane-requires-in-loop-x : goal.fill_plane-requires-in-loop-x
 fill_plane-requires-in-loop-x c =
-    ((c.requires.0, sym (is (goal.at.fill_plane-requires-in-loop-x c).Start).subdivisions_are), (omega (arith, c.loop-x-test.true), c.loop-x.invariant.high-long))
+    record { accepted = (c.requires.0, sym (is (goal.at.fill_plane-requires-in-loop-x c).Start).subdivisions_are); x_le_n = (omega (arith, c.loop-x-test.true), c.loop-x.invariant.high-long) }
 
 pub slice_bounds-cases_between-end : goal.slice_bounds-cases_between-end
 slice_bounds-cases_between-end c = sym (low-long (goal.at.slice_bounds-cases_between-end c).After-move_down)
@@ -199,7 +199,7 @@ pub cases_between-requires : goal.cases_between-requires
 cases_between-requires c =
     let so_far = c.loop-x.invariant in
     let room = few (goal.at.cases_between-requires c).Start in
-    ((n-few (goal.at.cases_between-requires c).Start, (so_far.cases_long, so_far.marks_long)), (omega (arith, room, low-long (goal.at.cases_between-requires c).After-move_down), omega (arith, room, high-long (goal.at.cases_between-requires c).After-fill_plane-in-loop-x)))
+    record { n_le_most_subdivisions = (n-few (goal.at.cases_between-requires c).Start, (so_far.cases_long, so_far.marks_long)); n_in_bounds = (omega (arith, room, low-long (goal.at.cases_between-requires c).After-move_down), omega (arith, room, high-long (goal.at.cases_between-requires c).After-fill_plane-in-loop-x)) }
 
 pub slice_bounds-count_sheet-end : goal.slice_bounds-count_sheet-end
 slice_bounds-count_sheet-end c = search (rules, c.regular_cell_class-classes.ok)
@@ -214,10 +214,7 @@ pub slice_bounds-count_sheet-end-in-loop-x-3 : goal.slice_bounds-count_sheet-end
 slice_bounds-count_sheet-end-in-loop-x-3 c = sym (cases_long (goal.at.slice_bounds-count_sheet-end-in-loop-x-3 c).After-cases_between)
 
 pub count_sheet-counts-requires : goal.count_sheet-counts-requires
-count_sheet-counts-requires c = (
-  record { classes_are = c.regular_cell_class-classes.ensures; cells_are = c.regular_cell_data-cells.ensures; codes_are = c.regular_vertex_data-codes.ensures },
-  held_sheeted ((star_of c.args.src.now)) (Layer (c.loop-x.x)) (held (goal.at.count_sheet-counts-requires c).After-cases_between) (n-few (goal.at.count_sheet-counts-requires c).Start) (cases_long (goal.at.count_sheet-counts-requires c).After-cases_between) (marks_long (goal.at.count_sheet-counts-requires c).After-cases_between),
-)
+count_sheet-counts-requires c = record { tables = record { classes_are = c.regular_cell_class-classes.ensures; cells_are = c.regular_cell_data-cells.ensures; codes_are = c.regular_vertex_data-codes.ensures }; sheeted = held_sheeted ((star_of c.args.src.now)) (Layer (c.loop-x.x)) (held (goal.at.count_sheet-counts-requires c).After-cases_between) (n-few (goal.at.count_sheet-counts-requires c).Start) (cases_long (goal.at.count_sheet-counts-requires c).After-cases_between) (marks_long (goal.at.count_sheet-counts-requires c).After-cases_between) }
 
 pub slice_bounds-step_figures-end : goal.slice_bounds-step_figures-end
 slice_bounds-step_figures-end c = sym (low-long (goal.at.slice_bounds-step_figures-end c).After-move_down)
@@ -227,7 +224,7 @@ slice_bounds-step_figures-end-in-loop-x c = sym (high-long (goal.at.slice_bounds
 
 pub step_figures-more-requires : goal.step_figures-more-requires
 step_figures-more-requires c =
-    (n-few (goal.at.step_figures-more-requires c).Start, ((low-long (goal.at.step_figures-more-requires c).After-move_down, high-long (goal.at.step_figures-more-requires c).After-fill_plane-in-loop-x), c.count_sheet-counts.ensures.0))
+    record { n_le_most_subdivisions = n-few (goal.at.step_figures-more-requires c).Start; low_len = (low-long (goal.at.step_figures-more-requires c).After-move_down, high-long (goal.at.step_figures-more-requires c).After-fill_plane-in-loop-x); few = c.count_sheet-counts.ensures.few }
 
 pub plus-figures-requires : goal.plus-figures-requires
 plus-figures-requires c =

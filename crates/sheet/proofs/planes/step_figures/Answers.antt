@@ -11,14 +11,14 @@ use Rattle.sheet.proofs.planes.step_figures.Goals as goal
 use Rattle.sheet.proofs.planes.step_figures.Goals.{Start}
 
 few : (e : Start) → (e.args.n + 1) * (e.args.n + 1) ≤ plane_places
-few e = layer_fits e.args.n e.requires.0
+few e = layer_fits e.args.n e.requires.n_le_most_subdivisions
 
 pub overflow_mul-n : goal.overflow_mul-n
 overflow_mul-n c = omega (arith, few (goal.at.overflow_mul-n c).Start)
 
 pub crossings-x-requires : goal.crossings-x-requires
 crossings-x-requires c =
-    (omega (arith, few (goal.at.crossings-x-requires c).Start, c.requires.1.0.0), (omega (arith, few (goal.at.crossings-x-requires c).Start, c.requires.1.0.1), omega (arith, few (goal.at.crossings-x-requires c).Start)))
+    (omega (arith, few (goal.at.crossings-x-requires c).Start, c.requires.low_len.0), (omega (arith, few (goal.at.crossings-x-requires c).Start, c.requires.low_len.1), omega (arith, few (goal.at.crossings-x-requires c).Start)))
 
 pub returns : goal.returns
 returns c =
@@ -30,8 +30,8 @@ returns c =
         x = omega (arith, across.1, few (goal.at.returns c).Start);
         y = plane.0.y;
         z = plane.0.z;
-        vertices = omega (arith, c.requires.1.1.vertices);
-        triangles = omega (arith, c.requires.1.1.triangles);
+        vertices = omega (arith, c.requires.few.vertices);
+        triangles = omega (arith, c.requires.few.triangles);
       },
       λ s x is p q counted.
           let above = plane.1 s (x + 1) is q in

@@ -64,23 +64,20 @@ face_cases-requires c =
       side_is = c.loop-side-test.true;
       is_named = l.invariant.0.1 c.loop-side-test.true;
     } in
-    ((c.requires.0, (c.requires.1, is)), l.invariant.1.0)
+    record { accepted = (c.requires.0, (c.requires.1, is)); cases_len = l.invariant.1.0 }
 
 pub slice_bounds-count_sheet-end-in-loop-side-5 : goal.slice_bounds-count_sheet-end-in-loop-side-5
 slice_bounds-count_sheet-end-in-loop-side-5 c = sym (still-long (goal.at.slice_bounds-count_sheet-end-in-loop-side-5 c).After-face_cases).0
 
 pub count_sheet-more-requires : goal.count_sheet-more-requires
 count_sheet-more-requires c =
-    let long = still-long (goal.at.count_sheet-more-requires c).After-face_cases in (
-      record { classes_are = c.transition_cell_class-classes.ensures; cells_are = c.transition_cell_data-cells.ensures; codes_are = c.transition_vertex_data-codes.ensures },
-      held_sheeted ((star_of c.args.src.now)) (Side (c.loop-side.side)) c.face_cases.ensures (n-few (goal.at.count_sheet-more-requires c).Start) long.0 long.1,
-    )
+    let long = still-long (goal.at.count_sheet-more-requires c).After-face_cases in record { tables = record { classes_are = c.transition_cell_class-classes.ensures; cells_are = c.transition_cell_data-cells.ensures; codes_are = c.transition_vertex_data-codes.ensures }; sheeted = held_sheeted ((star_of c.args.src.now)) (Side (c.loop-side.side)) c.face_cases.ensures (n-few (goal.at.count_sheet-more-requires c).Start) long.0 long.1 }
 
 pub plus-counts-requires : goal.plus-counts-requires
 plus-counts-requires c =
     let l = c.loop-side in
     let so_far = l.invariant.1.1.0 in
-    let more = c.count_sheet-more.ensures.0 in
+    let more = c.count_sheet-more.ensures.few in
     (omega (arith, l.invariant.0.0, so_far.vertices, more.vertices), omega (arith, l.invariant.0.0, so_far.triangles, more.triangles))
 
 pub overflow_add-side : goal.overflow_add-side

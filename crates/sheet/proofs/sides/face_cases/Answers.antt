@@ -42,7 +42,7 @@ slice_bounds-fill_lines-end c = sym c.loop-u.invariant.samples-long
 
 pub fill_lines-requires : goal.fill_lines-requires
 fill_lines-requires c =
-    (c.requires.0, (c.loop-u-test.true, c.loop-u.invariant.samples-long))
+    record { accepted = c.requires.accepted; u_lt_subdivisions = (c.loop-u-test.true, c.loop-u.invariant.samples-long) }
 
 pub slice_bounds-rows_on-end : goal.slice_bounds-rows_on-end
 slice_bounds-rows_on-end c = sym (still-long (goal.at.slice_bounds-rows_on-end c).After-fill_lines)
@@ -50,17 +50,14 @@ slice_bounds-rows_on-end c = sym (still-long (goal.at.slice_bounds-rows_on-end c
 pub rows_on-requires : goal.rows_on-requires
 rows_on-requires c =
     let so_far = c.loop-u.invariant in
-    let few = c.requires.0.1.1.few in (
-      (few, (omega (arith, c.loop-u-test.true), (so_far.cases_long, so_far.marks_long))),
-      rw (still-long (goal.at.rows_on-requires c).After-fill_lines) (lines_walked c.args.header.block.subdivisions few),
-    )
+    let few = c.requires.accepted.1.1.few in record { n_le_most_subdivisions = (few, (omega (arith, c.loop-u-test.true), (so_far.cases_long, so_far.marks_long))); walked = rw (still-long (goal.at.rows_on-requires c).After-fill_lines) (lines_walked c.args.header.block.subdivisions few) }
 
 pub loop-u-preserved : goal.loop-u-preserved
 loop-u-preserved c =
     let turn = c.loop-u in
     let put = c.rows_on in
     let side = transition_case (star_of c.args.src.now) c.args.side in
-    let on = face_cases c.args.src.now c.args.header c.args.side turn.u c.requires.0.1.0 _ c.fill_lines.ensures in
+    let on = face_cases c.args.src.now c.args.header c.args.side turn.u c.requires.accepted.1.0 _ c.fill_lines.ensures in
     record {
       within = omega (arith, c.loop-u-test.true);
       cases_long = put.auto.1.1.1.1.1.0 ∙ turn.invariant.cases_long;

@@ -20,10 +20,10 @@ pub loop-k-init : goal.loop-k-init
 loop-k-init c = (omega arith, refl, refl)
 
 pub sample_on-requires : goal.sample_on-requires
-sample_on-requires c = (c.requires.0.0, c.requires.0.1 c.loop-k.k c.loop-k-test.true)
+sample_on-requires c = (c.requires.accepted.0, c.requires.accepted.1 c.loop-k.k c.loop-k-test.true)
 
 pub bounds-samples-at : goal.bounds-samples-at
-bounds-samples-at c = omega (arith, c.loop-k-test.true, c.requires.1, c.loop-k.invariant.1)
+bounds-samples-at c = omega (arith, c.loop-k-test.true, c.requires.points_in_bounds, c.loop-k.invariant.1)
 
 pub loop-k-preserved : goal.loop-k-preserved
 loop-k-preserved c =

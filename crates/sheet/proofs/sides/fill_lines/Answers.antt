@@ -22,39 +22,36 @@ abbrev line : List ℕ → Header → ℕ → ℕ → ℕ → List Float
 line src header side u i = line_samples src (fine_line header side (2 * u + i))
 
 lined : (e : Start) → ThreeLined e.args.src.now e.args.header e.args.side e.args.u
-lined e = three_lined e.args.src.now e.args.side e.args.u e.args.header e.requires.0.1.0 e.requires.0.1.1 e.requires.1.0
+lined e = three_lined e.args.src.now e.args.side e.args.u e.args.header e.requires.accepted.1.0 e.requires.accepted.1.1 e.requires.u_lt_subdivisions.0
 
 -- its line ends among the three
 ends-in : (c : In-loop-i) → (2 * c.args.header.block.subdivisions + 1) * (c.loop-i.i) + (2 * c.args.header.block.subdivisions + 1) ≤ length c.args.samples.now
 ends-in c =
     let most : (2 * c.args.header.block.subdivisions + 1) * (c.loop-i.i) ≤ (2 * c.args.header.block.subdivisions + 1) * 2 = mul-le-mul_left ((2 * c.args.header.block.subdivisions + 1)) (omega (arith, c.loop-i-test.true)) in
-    omega (arith, most, c.requires.1.1, c.requires.0.1.1.few)
+    omega (arith, most, c.requires.u_lt_subdivisions.1, c.requires.accepted.1.1.few)
 
 pub loop-i-init : goal.loop-i-init
 loop-i-init c = (omega arith, refl, refl)
 
 pub overflow_mul-u : goal.overflow_mul-u
-overflow_mul-u c = omega (arith, c.requires.1.0, c.requires.0.1.1.few)
+overflow_mul-u c = omega (arith, c.requires.u_lt_subdivisions.0, c.requires.accepted.1.1.few)
 
 pub overflow_add-u : goal.overflow_add-u
-overflow_add-u c = omega (arith, c.requires.1.0, c.requires.0.1.1.few, c.loop-i-test.true)
+overflow_add-u c = omega (arith, c.requires.u_lt_subdivisions.0, c.requires.accepted.1.1.few, c.loop-i-test.true)
 
 pub fine_line-line-requires : goal.fine_line-line-requires
-fine_line-line-requires c = (c.requires.0.1.1, omega (arith, c.requires.1.0, c.loop-i-test.true))
+fine_line-line-requires c = (c.requires.accepted.1.1, omega (arith, c.requires.u_lt_subdivisions.0, c.loop-i-test.true))
 
 pub overflow_mul-width-in-loop-i : goal.overflow_mul-width-in-loop-i
 overflow_mul-width-in-loop-i c =
-    omega (arith, ends-in (goal.at.overflow_mul-width-in-loop-i c).In-loop-i, c.requires.1.1)
+    omega (arith, ends-in (goal.at.overflow_mul-width-in-loop-i c).In-loop-i, c.requires.u_lt_subdivisions.1)
 
 pub fill_line-requires : goal.fill_line-requires
-fill_line-requires c = (
-  (
-    c.requires.0.0,
+fill_line-requires c = record { accepted = (
+    c.requires.accepted.0,
     subst (λ (l : Line). (k : ℕ) → k < l.points → OnLine (count_of c.args.src.now) l k) (sym c.fine_line-line.ensures)
         ((lined (goal.at.fill_line-requires c).Start).on_line (c.loop-i.i) c.loop-i-test.true),
-  ),
-  rw c.fine_line-line.ensures (omega (arith, ends-in (goal.at.fill_line-requires c).In-loop-i, c.loop-i.invariant.1)),
-)
+  ); points_in_bounds = rw c.fine_line-line.ensures (omega (arith, ends-in (goal.at.fill_line-requires c).In-loop-i, c.loop-i.invariant.1)) }
 
 pub loop-i-preserved : goal.loop-i-preserved
 loop-i-preserved c =
@@ -75,5 +72,5 @@ returns c =
     let turn = c.loop-i in
     let f = (line c.args.src.now c.args.header c.args.side c.args.u) in
     let all : turn.i ≡ 3 = omega (arith, c.loop-i-test.false) in
-    (lined (goal.at.returns c).Start).filled c.args.samples.now turn.samples (omega (arith, c.requires.1.1, c.requires.0.1.1.few))
+    (lined (goal.at.returns c).Start).filled c.args.samples.now turn.samples (omega (arith, c.requires.u_lt_subdivisions.1, c.requires.accepted.1.1.few))
     (turn.invariant.2 ∙ ap (λ (k : ℕ). sets c.args.samples.now 0 (gather f k)) all)

@@ -40,7 +40,7 @@ line_lies-requires c =
     (c.requires, (lined (goal.at.line_lies-requires c).After-header_of-header).on_line)
 
 pub returns-then-not-line_lies : goal.returns-then-not-line_lies
-returns-then-not-line_lies c = sym (in_parts (goal.at.returns-then-not-line_lies c).After-line_lies (not-true _ c.if-not-line_lies.true))
+returns-then-not-line_lies c = sym (in_parts (goal.at.returns-then-not-line_lies c).After-line_lies (c.if-not-line_lies.true))
 
 pub returns : goal.returns
-returns c = c.sides_lie.ensures ∙ sym (in_parts (goal.at.returns c).After-line_lies (not-false _ c.if-not-line_lies.false))
+returns c = c.sides_lie.ensures ∙ sym (in_parts (goal.at.returns c).After-line_lies (c.if-not-line_lies.false))

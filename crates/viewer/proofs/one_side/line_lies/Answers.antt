@@ -28,7 +28,7 @@ pub returns-then-not-lies_as : goal.returns-then-not-lies_as
 returns-then-not-lies_as c =
     sym
     (fail_all ((test c.args.src.now c.args.threshold c.args.wanted c.args.line)) c.args.line.points (c.loop-k.k) c.loop-k-test.true
-    (sym c.lies_as.ensures ∙ not-true _ c.if-not-lies_as.true))
+    (sym c.lies_as.ensures ∙ c.if-not-lies_as.true))
 
 pub overflow_step-k : goal.overflow_step-k
 overflow_step-k c = omega arith
@@ -39,7 +39,7 @@ loop-k-smaller c = omega arith
 pub loop-k-preserved : goal.loop-k-preserved
 loop-k-preserved c =
     let turn = c.loop-k in
-    (omega arith, hold_more ((test c.args.src.now c.args.threshold c.args.wanted c.args.line)) turn.k turn.invariant.1 (sym c.lies_as.ensures ∙ not-false _ c.if-not-lies_as.false))
+    (omega arith, hold_more ((test c.args.src.now c.args.threshold c.args.wanted c.args.line)) turn.k turn.invariant.1 (sym c.lies_as.ensures ∙ c.if-not-lies_as.false))
 
 pub returns : goal.returns
 returns c =

@@ -19,7 +19,7 @@ abbrev test : List ℕ → Header → Bool → ℕ → ℕ → Bool
 test src header wanted side u2 = line_as wanted header.threshold (samples_of src) (fine_line header side u2)
 
 lined : (e : Start) → SideLined e.args.header e.args.side e.args.src.now
-lined e = side_lined _ e.requires.0.0 _ e.requires.0.1 _ e.requires.1.0 e.requires.1.1
+lined e = side_lined _ e.requires.accepted.0 _ e.requires.accepted.1 _ e.requires.side_lt_side_count.0 e.requires.side_lt_side_count.1
 
 in_face : (c : In-loop-u2) → (c.loop-u2.u2) ≤ 2 * c.args.header.block.subdivisions
 in_face c = omega (arith, c.loop-u2-test.true)
@@ -44,7 +44,7 @@ fine_line-line-requires c = ((lined (goal.at.fine_line-line-requires c).Start).i
 
 pub line_lies-requires : goal.line_lies-requires
 line_lies-requires c = (
-  c.requires.0.0,
+  c.requires.accepted.0,
   subst (λ (l : Line). (k : ℕ) → k < l.points → OnLine (count_of c.args.src.now) l k) (sym c.fine_line-line.ensures)
       ((lined (goal.at.line_lies-requires c).Start).on_line (c.loop-u2.u2) (in_face (goal.at.line_lies-requires c).In-loop-u2)),
 )
@@ -53,7 +53,7 @@ pub returns-then-not-line_lies : goal.returns-then-not-line_lies
 returns-then-not-line_lies c =
     sym
     ((lined (goal.at.returns-then-not-line_lies c).Start).side_is c.args.wanted
-    ∙ fail_all ((test c.args.src.now c.args.header c.args.wanted c.args.side)) (2 * c.args.header.block.subdivisions + 1) (c.loop-u2.u2) c.loop-u2-test.true (sym (told (goal.at.returns-then-not-line_lies c).After-line_lies) ∙ not-true _ c.if-not-line_lies.true))
+    ∙ fail_all ((test c.args.src.now c.args.header c.args.wanted c.args.side)) (2 * c.args.header.block.subdivisions + 1) (c.loop-u2.u2) c.loop-u2-test.true (sym (told (goal.at.returns-then-not-line_lies c).After-line_lies) ∙ c.if-not-line_lies.true))
 
 pub overflow_step-u2 : goal.overflow_step-u2
 overflow_step-u2 c =
@@ -65,7 +65,7 @@ loop-u2-smaller c = omega arith
 pub loop-u2-preserved : goal.loop-u2-preserved
 loop-u2-preserved c =
     let turn = c.loop-u2 in
-    (omega arith, hold_more ((test c.args.src.now c.args.header c.args.wanted c.args.side)) turn.u2 turn.invariant.1 (sym (told (goal.at.loop-u2-preserved c).After-line_lies) ∙ not-false _ c.if-not-line_lies.false))
+    (omega arith, hold_more ((test c.args.src.now c.args.header c.args.wanted c.args.side)) turn.u2 turn.invariant.1 (sym (told (goal.at.loop-u2-preserved c).After-line_lies) ∙ c.if-not-line_lies.false))
 
 pub returns : goal.returns
 returns c =

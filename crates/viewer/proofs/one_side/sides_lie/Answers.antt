@@ -25,12 +25,12 @@ loop-side-init c = start_at _ _ c.next_side-side.ensures
 pub side_lies-requires : goal.side_lies-requires
 side_lies-requires c =
     let inside = in-six c in
-    (c.requires, (inside, c.loop-side.invariant.is_named inside))
+    record { accepted = c.requires; side_lt_side_count = (inside, c.loop-side.invariant.is_named inside) }
 
 pub returns-then-not-side_lies : goal.returns-then-not-side_lies
 returns-then-not-side_lies c =
     let inv = c.loop-side.invariant in
-    let fails = sym c.side_lies.ensures ∙ not-true _ c.if-not-side_lies.true in
+    let fails = sym c.side_lies.ensures ∙ c.if-not-side_lies.true in
     sym (sym (sides_are _ _ _ c.requires.1) ∙ fails_at c.args.header.mask ((side_as c.args.wanted (star_of c.args.src.now))) inv (in-six (goal.at.returns-then-not-side_lies c).In-loop-side) fails)
 
 pub next_side-side-requires-in-loop-side : goal.next_side-side-requires-in-loop-side
@@ -39,7 +39,7 @@ next_side-side-requires-in-loop-side c =
 
 pub loop-side-preserved : goal.loop-side-preserved
 loop-side-preserved c =
-    let holds = sym c.side_lies.ensures ∙ not-false _ c.if-not-side_lies.false in
+    let holds = sym c.side_lies.ensures ∙ c.if-not-side_lies.false in
     go_on c.args.header.mask ((side_as c.args.wanted (star_of c.args.src.now))) c.loop-side.invariant (in-six (goal.at.loop-side-preserved c).In-loop-side) holds c.next_side-side-in-loop-side.ensures
 
 pub returns : goal.returns

@@ -29,7 +29,7 @@ returns-then-not-is_usable_at c =
     let taken = c.taken_place-taken in
     let turn = c.loop-place in
     let here : (let args = c.args in taken_usable args.bytes.now args.sizes args.n args.first) turn.place ≡ Refused (BadSample taken.result) =
-    rw (← taken.ensures.0, ← judged.ensures, not-true judged.result c.if-not-is_usable_at.true) in
+    rw (← taken.ensures.0, ← judged.ensures, c.if-not-is_usable_at.true) in
     sym (hit ((let args = c.args in taken_usable args.bytes.now args.sizes args.n args.first)) turn.place (sample_length c.args.n) (BadSample taken.result) turn.invariant.2 here (omega (arith, turn.invariant)))
 
 pub overflow_step-place : goal.overflow_step-place
@@ -43,7 +43,7 @@ loop-place-preserved c =
     let judged = c.is_usable_at in
     let taken = c.taken_place-taken in
     let turn = c.loop-place in
-    let here : (let args = c.args in taken_usable args.bytes.now args.sizes args.n args.first) turn.place ≡ Passed = rw (← taken.ensures.0, ← judged.ensures, not-false judged.result c.if-not-is_usable_at.false) in
+    let here : (let args = c.args in taken_usable args.bytes.now args.sizes args.n args.first) turn.place ≡ Passed = rw (← taken.ensures.0, ← judged.ensures, c.if-not-is_usable_at.false) in
     (omega arith, turn.invariant.1, not_yet ((let args = c.args in taken_usable args.bytes.now args.sizes args.n args.first)) turn.place turn.invariant.2 here)
 
 pub returns : goal.returns

@@ -10,28 +10,28 @@ use Rattle.weld.proofs.closing.close.Goals as goal
 use Rattle.weld.proofs.closing.close.Goals.{In-loop-i}
 
 in_edges : (c : In-loop-i) → c.loop-i.i < length c.loop-i.edges
-in_edges c = omega (arith, c.loop-i-test.true, c.requires.0.0.in_edges, c.loop-i.invariant.1.0.edges_same)
+in_edges c = omega (arith, c.loop-i-test.true, c.requires.room.0.in_edges, c.loop-i.invariant.1.0.edges_same)
 
 in_vertices : (c : In-loop-i) → 6 * (c.loop-i.i + 1) ≤ length c.loop-i.vertices
-in_vertices c = omega (arith, c.loop-i-test.true, c.requires.0.0.in_vertices, c.loop-i.invariant.1.0.vertices_same)
+in_vertices c = omega (arith, c.loop-i-test.true, c.requires.room.0.in_vertices, c.loop-i.invariant.1.0.vertices_same)
 
 in_table : (c : In-loop-i) → c.loop-i.i - c.args.start < length c.loop-i.table
-in_table c = omega (arith, c.loop-i-test.true, c.requires.0.0.in_table, c.loop-i.invariant.1.0.table_same, c.loop-i.invariant.0.0)
+in_table c = omega (arith, c.loop-i-test.true, c.requires.room.0.in_table, c.loop-i.invariant.1.0.table_same, c.loop-i.invariant.0.0)
 
 tables : (c : In-loop-i) → Tables c.loop-i.seen c.loop-i.hints
 tables c =
     record {
-      words = omega (arith, c.requires.0.1.words, c.loop-i.invariant.1.0.seen_same);
-      slots = omega (arith, c.requires.0.1.slots, c.loop-i.invariant.1.0.hints_same);
+      words = omega (arith, c.requires.room.1.words, c.loop-i.invariant.1.0.seen_same);
+      slots = omega (arith, c.requires.room.1.slots, c.loop-i.invariant.1.0.hints_same);
     }
 
 pub loop-i-init : goal.loop-i-init
 loop-i-init c =
     let a = c.args in (
-      (omega arith, c.requires.0.0.ordered),
+      (omega arith, c.requires.room.0.ordered),
       (
         record { vertices_same = refl; edges_same = refl; seen_same = refl; hints_same = refl; table_same = refl },
-        window_none a.start a.first a.vertices.now a.edges.now a.seen.now a.table.now c.requires.0.0.few c.requires.1,
+        window_none a.start a.first a.vertices.now a.edges.now a.seen.now a.table.now c.requires.room.0.few c.requires.noted,
       ),
     )
 
@@ -41,11 +41,11 @@ bounds-edges-i c = in_edges (goal.at.bounds-edges-i c).In-loop-i
 pub place_of-at-requires : goal.place_of-at-requires
 place_of-at-requires c =
     let l = c.loop-i in
-    ((omega (arith, in_edges (goal.at.place_of-at-requires c).In-loop-i, l.invariant.1.1.within), tables (goal.at.place_of-at-requires c).In-loop-i), l.invariant.1.1.noted)
+    record { k_in_bounds = (omega (arith, in_edges (goal.at.place_of-at-requires c).In-loop-i, l.invariant.1.1.within), tables (goal.at.place_of-at-requires c).In-loop-i); noted = l.invariant.1.1.noted }
 
 pub overflow_cast-table : goal.overflow_cast-table
 overflow_cast-table c =
-    omega (arith, c.place_of-at.ensures.within, c.loop-i.invariant.1.1.within, c.loop-i-test.true, c.requires.0.0.short)
+    omega (arith, c.place_of-at.ensures.within, c.loop-i.invariant.1.1.within, c.loop-i-test.true, c.requires.room.0.short)
 
 pub offset_bounds-table-i : goal.offset_bounds-table-i
 offset_bounds-table-i c = omega (arith, in_table (goal.at.offset_bounds-table-i c).In-loop-i)
@@ -62,7 +62,7 @@ slot-hint-requires c = (tables (goal.at.slot-hint-requires c).In-loop-i).slots
 
 pub overflow_cast-hints : goal.overflow_cast-hints
 overflow_cast-hints c =
-    omega (arith, c.place_of-at.ensures.within, c.loop-i.invariant.1.1.within, c.loop-i-test.true, c.requires.0.0.short)
+    omega (arith, c.place_of-at.ensures.within, c.loop-i.invariant.1.1.within, c.loop-i-test.true, c.requires.room.0.short)
 
 pub bounds-hints-hint : goal.bounds-hints-hint
 bounds-hints-hint c = c.slot-hint.ensures.1

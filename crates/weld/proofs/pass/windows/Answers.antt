@@ -11,7 +11,7 @@ use Rattle.weld.proofs.pass.windows.Goals.{After-close-k, After-window_end-end, 
 
 tables : (c : In-loop-start) → let l = c.loop-start in Tables l.seen l.hints
 tables c =
-    let given = c.requires.1.0 in
+    let given = c.requires.tables.0 in
     let as_long = c.loop-start.invariant.as_long in
     record { words = omega (arith, given.words, as_long.seen_same); slots = omega (arith, given.slots, as_long.hints_same) }
 
@@ -20,7 +20,7 @@ room : (c : After-window_end-end) → let l = c.loop-start in
     Room l.start c.window_end-end.result l.k l.vertices l.edges l.table
 room c =
     let l = c.loop-start in
-    let given = c.requires.0 in
+    let given = c.requires.fits in
     let end = c.window_end-end.ensures in
     let as_long = l.invariant.as_long in
     record {
@@ -53,11 +53,11 @@ loop-start-init c =
     }
 
 pub window_end-end-requires : goal.window_end-end-requires
-window_end-end-requires c = (c.loop-start-test.true, omega (arith, c.requires.1.1, c.loop-start.invariant.places_are))
+window_end-end-requires c = (c.loop-start-test.true, omega (arith, c.requires.tables.1, c.loop-start.invariant.places_are))
 
 pub close-k-requires : goal.close-k-requires
 close-k-requires c =
-    ((room (goal.at.close-k-requires c).After-window_end-end, tables (goal.at.close-k-requires c).In-loop-start), c.loop-start.invariant.noted)
+    record { room = (room (goal.at.close-k-requires c).After-window_end-end, tables (goal.at.close-k-requires c).In-loop-start); noted = c.loop-start.invariant.noted }
 
 pub renumber-requires : goal.renumber-requires
 renumber-requires c =

@@ -10,7 +10,7 @@ returns-then-is_new c =
       within = omega arith;
       has = λ l. absurd (omega arith);
       regular = λ l. absurd (omega arith);
-      new = λ _ _. not_noted a.seen.now a.edges.now a.k a.number c.requires.1 (c.is_new.ensures c.if-is_new.true);
+      new = λ _ _. not_noted a.seen.now a.edges.now a.k a.number c.requires.noted (c.is_new.ensures c.if-is_new.true);
     }
 
 pub overflow_cast-hint : goal.overflow_cast-hint
