@@ -7,5 +7,4 @@ pub returns : goal.returns
 returns c =
     let a = c.args in
     let s = star a.header a.centre.now a.neighbours.now in
-    let left = c.extract_numbered.ensures in
-    told_layered s a.summary.now a.store.now a.vertices.now a.triangles.now a.edges.now _ _ _ _ _ left.0 left.1
+    told_layered s a.summary.now a.store.now a.vertices.now a.triangles.now a.edges.now _ _ _ _ _ c.extract_numbered.ensures.leaves c.extract_numbered.ensures.edges

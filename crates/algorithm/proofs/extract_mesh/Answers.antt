@@ -121,13 +121,12 @@ write_mesh-reads-requires c =
 
 pub returns : goal.returns
 returns c =
-    let w = c.write_mesh-reads in
     let count_is = c.numbers_asked-numbers.ensures in
     rw count_is
     (done (roomed (goal.at.returns c).After-judge_room-room) (passed (goal.at.returns c).In_default-room) c.store_length-places.result c.store_length-places.ensures _ _ _ _ _
     (exact_still {edges₀ = c.args.edges.now} {edges = c.args.edges.now}
-    (record { vertices_same = w.auto.1.1.1.1.1.0; triangles_same = w.auto.1.1.1.1.1.1.0; store_same = w.auto.1.1.1.1.0; edges_same = refl })
+    (record { vertices_same = c.write_mesh-reads.auto.vertices; triangles_same = c.write_mesh-reads.auto.triangles; store_same = c.write_mesh-reads.auto.store; edges_same = refl })
     (exact (goal.at.returns c).After-store_length-places))
-    w.ensures.0 w.ensures.1.0
-    (w.auto.1.1.1.1.1.1.1.0 ∙ length-take-le _ _ (numbers-long (goal.at.returns c).After-numbers_asked-numbers) ∙ count_is)
-    w.ensures.1.1)
+    c.write_mesh-reads.ensures.written c.write_mesh-reads.ensures.reads
+    (c.write_mesh-reads.auto.edges ∙ length-take-le _ _ (numbers-long (goal.at.returns c).After-numbers_asked-numbers) ∙ count_is)
+    c.write_mesh-reads.ensures.edges)

@@ -6,7 +6,5 @@ use Rattle.counting.proofs.count_mesh.Goals as goal
 pub returns : goal.returns
 returns c =
     let a = c.args in
-    let regular = c.count_regular_cells-regular.ensures in
-    let transition = c.count_transition_cells-transition.ensures in
     rw c.plus.ensures
-    (few_more regular.0 transition.0, counted_mesh (star a.header a.centre.now a.neighbours.now) _ _ (regular.1 a.neighbours.now) (transition.1 a.centre.now))
+    (few_more c.count_regular_cells-regular.ensures.few c.count_transition_cells-transition.ensures.few, counted_mesh (star a.header a.centre.now a.neighbours.now) _ _ (c.count_regular_cells-regular.ensures.grows a.neighbours.now) (c.count_transition_cells-transition.ensures.grows a.centre.now))

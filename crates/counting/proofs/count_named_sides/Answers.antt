@@ -18,8 +18,7 @@ use Rattle.counting.proofs.count_named_sides.Goals as goal
 use Rattle.counting.proofs.count_named_sides.Goals.{After-face_cases}
 
 -- the sheet and its marks are as long as they were
-still-long : (c : After-face_cases) → let after = c.face_cases.new.1.1.1 in
-    (length after.0 ≡ sheet_places) × (length after.1.0 ≡ sheet_places)
+still-long : (c : After-face_cases) → (length c.face_cases.new.cases ≡ sheet_places) × (length c.face_cases.new.marks ≡ sheet_places)
 still-long c =
     let kept = c.face_cases.auto.1.1.1 in
     let before = c.loop-side.invariant.2 in
@@ -27,8 +26,7 @@ still-long c =
 
 -- they hold the side, whatever the block's own samples are
 held : (c : After-face_cases) → (centre : List Float) → let a = c.args in
-    let after = c.face_cases.new.1.1.1 in
-    Held (star a.header centre a.neighbours.now) (Side c.loop-side.side) a.header.block.subdivisions [] after.0 after.1.0
+    Held (star a.header centre a.neighbours.now) (Side c.loop-side.side) a.header.block.subdivisions [] c.face_cases.new.cases c.face_cases.new.marks
 held c centre = record { numbers = c.face_cases.ensures.cases centre; marked = c.face_cases.ensures.marks centre }
 
 pub next_side-side-requires : goal.next_side-side-requires
@@ -82,7 +80,6 @@ loop-side-smaller c = omega (arith, c.next_side-side-in-loop-side.ensures.from_l
 pub loop-side-preserved : goal.loop-side-preserved
 loop-side-preserved c =
     let l = c.loop-side in
-    let more = c.count_sheet-more.ensures in
     let next = c.next_side-side-in-loop-side.ensures in
     let named_here = l.invariant.1 c.loop-side-test.true in (
       next.le_six,
@@ -91,8 +88,8 @@ loop-side-preserved c =
           (record {
             cases_long = (still-long (goal.at.loop-side-preserved c).After-face_cases).0;
             marks_long = (still-long (goal.at.loop-side-preserved c).After-face_cases).1;
-            few = few_of _ (omega (arith, next.from_le)) (few_more l.invariant.2.few more.0);
-            grows = λ centre. grows_as (λ m. sym (sides_skip _ m _ _ next)) (grows_more _ l.side (l.invariant.2.grows centre) (more.1 _ refl (omega (arith, c.loop-side-test.true), named_here) (held (goal.at.loop-side-preserved c).After-face_cases centre)));
+            few = few_of _ (omega (arith, next.from_le)) (few_more l.invariant.2.few c.count_sheet-more.ensures.few);
+            grows = λ centre. grows_as (λ m. sym (sides_skip _ m _ _ next)) (grows_more _ l.side (l.invariant.2.grows centre) (c.count_sheet-more.ensures.grows _ refl (omega (arith, c.loop-side-test.true), named_here) (held (goal.at.loop-side-preserved c).After-face_cases centre)));
           }),
     )
 

@@ -17,18 +17,16 @@ use Rattle.counting.proofs.count_regular_cells.Goals as goal
 use Rattle.counting.proofs.count_regular_cells.Goals.{After-layer_cases}
 
 -- the pairs, the sheet and its marks are as long as they were
-still-long : (c : After-layer_cases) → let after = c.layer_cases.new.1.1.1 in
-    (length after.0 ≡ sheet_places) × ((length after.1.0 ≡ sheet_places) × (length after.1.1.0 ≡ sheet_places))
+still-long : (c : After-layer_cases) → (length c.layer_cases.new.pairs ≡ sheet_places) × ((length c.layer_cases.new.cases ≡ sheet_places) × (length c.layer_cases.new.marks ≡ sheet_places))
 still-long c =
     let kept = c.layer_cases.auto.1.1.1 in
     let before = c.loop-x.invariant in
-    (kept.0 ∙ c.pair_at.auto.1.1.1.1.0 ∙ before.1, (kept.1.0 ∙ before.3.cases_long, kept.1.1.0 ∙ before.3.marks_long))
+    (kept.0 ∙ c.pair_at.auto.pairs ∙ before.1, (kept.1.0 ∙ before.3.cases_long, kept.1.1.0 ∙ before.3.marks_long))
 
 -- the sheet and its marks hold the layer, whatever the neighbours are
 held : (c : After-layer_cases) → (ns : List Float) → let l = c.loop-x in
     let a = c.args in
-    let after = c.layer_cases.new.1.1.1.1 in
-    Held (star a.header a.centre.now ns) (Layer l.x) a.header.block.subdivisions after.0 [] after.1.0
+    Held (star a.header a.centre.now ns) (Layer l.x) a.header.block.subdivisions c.layer_cases.new.pairs [] c.layer_cases.new.cases
 held c ns = record { numbers = c.layer_cases.ensures.cases ns; marked = c.layer_cases.ensures.marks ns }
 
 pub next_layer-x-requires : goal.next_layer-x-requires
@@ -43,12 +41,11 @@ pair_layer-requires c =
 
 pub loop-x-init : goal.loop-x-init
 loop-x-init c =
-    let layer = c.pair_layer in
     let next = c.next_layer-x.ensures in
     let long = length-replicate {A = ℕ} sheet_places 0 in (
       next.within,
-      layer.auto.1.1.1.0 ∙ long,
-      pairs_upper (layer.ensures (λ y z. 0) (no_pairs _ c.requires.subdivisions_le_most_subdivisions.0)) (λ y z. omega arith),
+      c.pair_layer.auto.pairs ∙ long,
+      pairs_upper (c.pair_layer.ensures (λ y z. 0) (no_pairs _ c.requires.subdivisions_le_most_subdivisions.0)) (λ y z. omega arith),
       record {
         cases_long = long;
         marks_long = long;
@@ -67,7 +64,7 @@ pair_at-requires c =
 
 pub slice_bounds-layer_cases-end : goal.slice_bounds-layer_cases-end
 slice_bounds-layer_cases-end c =
-    sym (c.pair_at.auto.1.1.1.1.0 ∙ c.loop-x.invariant.1)
+    sym (c.pair_at.auto.pairs ∙ c.loop-x.invariant.1)
 
 pub slice_bounds-layer_cases-end-in-loop-x : goal.slice_bounds-layer_cases-end-in-loop-x
 slice_bounds-layer_cases-end-in-loop-x c = sym c.loop-x.invariant.3.cases_long
@@ -77,7 +74,7 @@ slice_bounds-layer_cases-end-in-loop-x-2 c = sym c.loop-x.invariant.3.marks_long
 
 pub layer_cases-requires : goal.layer_cases-requires
 layer_cases-requires c =
-    let inv = c.loop-x.invariant in record { subdivisions_le_most_subdivisions = c.requires.subdivisions_le_most_subdivisions; x_lt_subdivisions = (omega (arith, c.loop-x-test.true), (c.pair_at.auto.1.1.1.1.0 ∙ inv.1, (inv.3.cases_long, inv.3.marks_long))); upper = c.pair_at.ensures }
+    let inv = c.loop-x.invariant in record { subdivisions_le_most_subdivisions = c.requires.subdivisions_le_most_subdivisions; x_lt_subdivisions = (omega (arith, c.loop-x-test.true), (c.pair_at.auto.pairs ∙ inv.1, (inv.3.cases_long, inv.3.marks_long))); upper = c.pair_at.ensures }
 
 pub slice_bounds-count_sheet-end-in-loop-x-3 : goal.slice_bounds-count_sheet-end-in-loop-x-3
 slice_bounds-count_sheet-end-in-loop-x-3 c = sym (still-long (goal.at.slice_bounds-count_sheet-end-in-loop-x-3 c).After-layer_cases).1.0
@@ -106,7 +103,7 @@ pub loop-x-preserved : goal.loop-x-preserved
 loop-x-preserved c =
     let l = c.loop-x in
     let next = c.next_layer-x-in-loop-x.ensures in
-    let more = c.count_sheet-more.ensures in (
+    (
       next.within,
       (still-long (goal.at.loop-x-preserved c).After-layer_cases).0,
       c.layer_cases.ensures.pairs,
@@ -114,11 +111,11 @@ loop-x-preserved c =
           (record {
             cases_long = (still-long (goal.at.loop-x-preserved c).After-layer_cases).1.0;
             marks_long = (still-long (goal.at.loop-x-preserved c).After-layer_cases).1.1;
-            few = few_of _ (omega (arith, next.ordered)) (few_more l.invariant.3.few more.0);
+            few = few_of _ (omega (arith, next.ordered)) (few_more l.invariant.3.few c.count_sheet-more.ensures.few);
             grows =
                 λ ns.
                 grows_made (layers_skip (star c.args.header c.args.centre.now ns) c.args.summary.now c.requires.trusted (l.x + 1) _ next)
-                (grows_more _ l.x (l.invariant.3.grows ns) (more.1 _ refl (omega (arith, c.loop-x-test.true)) (held (goal.at.loop-x-preserved c).After-layer_cases ns)));
+                (grows_more _ l.x (l.invariant.3.grows ns) (c.count_sheet-more.ensures.grows _ refl (omega (arith, c.loop-x-test.true)) (held (goal.at.loop-x-preserved c).After-layer_cases ns)));
           }),
     )
 

@@ -52,13 +52,13 @@ pub loop-v-preserved : goal.loop-v-preserved
 loop-v-preserved c =
     let l = c.loop-v in
     let next = c.next_marked-v-in-loop-v.ensures in
-    let more = c.count_sheet_cell-more.ensures in (
+    (
       next.within,
       rw c.plus-counts.ensures (
-        few_of _ (omega (arith, next.ordered)) (few_more l.invariant.1.0 more.0),
+        few_of _ (omega (arith, next.ordered)) (few_more l.invariant.1.0 c.count_sheet_cell-more.ensures.few),
         λ s held.
             let number = c.number_at-case.ensures ∙ held.numbers.case_at c.args.u l.v c.requires.u_lt_n.0 c.loop-v-test.true in
-            grows_on s c.args.sheet held c.args.u c.requires.u_lt_n.0 l.v _ _ _ next (l.invariant.1.1 s held) (more.1 s number),
+            grows_on s c.args.sheet held c.args.u c.requires.u_lt_n.0 l.v _ _ _ next (l.invariant.1.1 s held) (c.count_sheet_cell-more.ensures.adds s number),
       ),
     )
 

@@ -29,10 +29,10 @@ plus-counts-requires c =
 pub loop-u-preserved : goal.loop-u-preserved
 loop-u-preserved c =
     let l = c.loop-u in
-    let more = c.count_row-more.ensures in (
+    (
       omega (arith, c.loop-u-test.true),
       rw c.plus-counts.ensures
-          (few_of _ (omega arith) (few_more l.invariant.1.0 more.0), λ s held. grows_more _ l.u (l.invariant.1.1 s held) (more.1 s held)),
+          (few_of _ (omega arith) (few_more l.invariant.1.0 c.count_row-more.ensures.few), λ s held. grows_more _ l.u (l.invariant.1.1 s held) (c.count_row-more.ensures.grows s held)),
     )
 
 pub returns : goal.returns

@@ -12,14 +12,13 @@ loop-i-init c = (omega arith, (refl, none_put _ _ _))
 
 pub loop-i-preserved : goal.loop-i-preserved
 loop-i-preserved c =
-    let put = c.put_sixteen in
     let l = c.loop-i in
     let a = c.args in
     let part : ℕ → ℕ = λ k. paired_with a.threshold a.samples.now l.pairs (l.i + k) in (
       omega arith,
       (
         omega arith,
-        sixteen_more _ _ l.i _ part _ _ _ _ l.invariant.1.1 (omega arith) c.sixteen-numbers.ensures put.ensures
+        sixteen_more _ _ l.i _ part _ _ _ _ l.invariant.1.1 (omega arith) c.sixteen-numbers.ensures c.put_sixteen.ensures
             (λ k h. paired_still a.threshold a.samples.now _ l.pairs l.i (l.i + k) l.invariant.1.1 (omega arith)),
       ),
     )

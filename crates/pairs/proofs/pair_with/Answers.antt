@@ -31,7 +31,6 @@ shape_of-pairs c = omega arith
 pub returns : goal.returns
 returns c =
     let l = c.loop-i in
-    let made = c.by_sixteens-i.ensures in
     let samples = c.args.samples.now in
     let e : l.i ≡ length samples = omega arith in
-    rw e at (l.invariant.1.1 _ made.1)
+    rw e at (l.invariant.1.1 _ c.by_sixteens-i.ensures.1)

@@ -10,9 +10,8 @@ loop-z-init c = (omega arith, (refl, none_put _ _ _))
 
 pub loop-z-preserved : goal.loop-z-preserved
 loop-z-preserved c =
-    let put = c.put_sixteen in
     let l = c.loop-z in
-    (omega arith, (omega arith, sixteen_more _ _ l.z _ _ _ _ _ _ l.invariant.1.1 refl c.sixteen-numbers.ensures put.ensures (λ k h. refl)))
+    (omega arith, (omega arith, sixteen_more _ _ l.z _ _ _ _ _ _ l.invariant.1.1 refl c.sixteen-numbers.ensures c.put_sixteen.ensures (λ k h. refl)))
 
 pub shape_of-cases : goal.shape_of-cases
 shape_of-cases c = omega arith

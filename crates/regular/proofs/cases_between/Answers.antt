@@ -5,5 +5,4 @@ use Rattle.regular.proofs.cases_between.Goals as goal
 
 pub returns : goal.returns
 returns c =
-    let rows = c.rows-reads.ensures in
-    record { cases = rows.0; marks = λ s x is p q. marked_sheet all_regular _ _ _ _ _ (rows.0 s x is p q) c.mark_layer.ensures; reads = rows.1 }
+    record { cases = c.rows-reads.ensures.sheet; marks = λ s x is p q. marked_sheet all_regular _ _ _ _ _ (c.rows-reads.ensures.sheet s x is p q) c.mark_layer.ensures; reads = c.rows-reads.ensures.reads }

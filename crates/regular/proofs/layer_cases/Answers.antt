@@ -23,6 +23,5 @@ cases_between-requires c =
 pub returns : goal.returns
 returns c =
     let x = c.args.x in
-    let numbers = c.cases_between.ensures in
     let same : (ns : List Float) → Measured ((star c.args.header c.args.centre.now ns) ns) c.args.header.block.subdivisions c.args.header.threshold =
-    λ ns. record { subdivisions_are = refl; threshold_is = refl } in record { cases = λ ns. numbers.0 ((star c.args.header c.args.centre.now ns) ns) x (same ns) (low (goal.at.returns c).After-plane-high ns) (high (goal.at.returns c).After-plane-high ns); marks = λ ns. numbers.1.0 ((star c.args.header c.args.centre.now ns) ns) x (same ns) (low (goal.at.returns c).After-plane-high ns) (high (goal.at.returns c).After-plane-high ns); reads = numbers.1.1 }
+    λ ns. record { subdivisions_are = refl; threshold_is = refl } in record { cases = λ ns. c.cases_between.ensures.cases ((star c.args.header c.args.centre.now ns) ns) x (same ns) (low (goal.at.returns c).After-plane-high ns) (high (goal.at.returns c).After-plane-high ns); marks = λ ns. c.cases_between.ensures.marks ((star c.args.header c.args.centre.now ns) ns) x (same ns) (low (goal.at.returns c).After-plane-high ns) (high (goal.at.returns c).After-plane-high ns); reads = c.cases_between.ensures.reads }

@@ -12,18 +12,15 @@ overflow_mul-n c = let p = c.requires in omega (arith, row_fits _ _ p.n_le_most_
 pub row_between-requires : goal.row_between-requires
 row_between-requires c =
     let p = c.requires in
-    let a = c.line-a.ensures in
-    let b = c.line-b.ensures in
-    let d = c.line-c.ensures in
-    record { n_le_most_subdivisions = (p.n_le_most_subdivisions.0, omega (arith, row_fits _ _ p.n_le_most_subdivisions.0 p.n_le_most_subdivisions.1.0, p.n_le_most_subdivisions.1.1)); a_len = (a.0, (b.0, (d.0, c.line-d.ensures.result_len))); cases_len = p.n_le_most_subdivisions.1.1 }
+    record { n_le_most_subdivisions = (p.n_le_most_subdivisions.0, omega (arith, row_fits _ _ p.n_le_most_subdivisions.0 p.n_le_most_subdivisions.1.0, p.n_le_most_subdivisions.1.1)); a_len = (c.line-a.ensures.result_len, (c.line-b.ensures.result_len, (c.line-c.ensures.result_len, c.line-d.ensures.result_len))); cases_len = p.n_le_most_subdivisions.1.1 }
 
 pub returns : goal.returns
 returns c =
     let a = c.args in
-    let put = c.row_between.ensures in record { row_put = λ s x is low high.
+    record { row_put = λ s x is low high.
           let n_is = is.subdivisions_are in
           row_as
           (case_measured s a.n a.threshold x a.y _ _ _ _ is (c.line-a.ensures.line s x n_is low)
           (c.line-b.ensures.line s (x + 1) n_is high) (c.line-c.ensures.line s x n_is low)
           (c.line-d.ensures.line s (x + 1) n_is high))
-          put.0; reads = put.1 }
+          c.row_between.ensures.row_put; reads = c.row_between.ensures.reads }

@@ -28,6 +28,5 @@ shape_of-cases c = omega arith
 pub returns : goal.returns
 returns c =
     let l = c.loop-z in
-    let made = c.by_sixteens-z.ensures in
     let e : l.z ≡ c.args.n = omega arith in
-    record { row_put = rw e at (l.invariant.1.1 _ made.1); reads = omega arith }
+    record { row_put = rw e at (l.invariant.1.1 _ c.by_sixteens-z.ensures.1); reads = omega arith }

@@ -15,12 +15,12 @@ overflow_add-reads c = omega arith
 pub loop-y-preserved : goal.loop-y-preserved
 loop-y-preserved c =
     let l = c.loop-y in
-    let written = c.row-reads in (
+    (
       omega arith,
-      written.auto.1.1.1.1.1.0 ∙ l.invariant.1,
-      λ s x is p q. one_more_row _ _ l.y l.cases _ (written.ensures.0 s x is p q) (l.invariant.2 s x is p q),
-      omega (arith, written.ensures.1, l.invariant.3),
-      omega (arith, written.ensures.1, l.invariant.4),
+      c.row-reads.auto.cases ∙ l.invariant.1,
+      λ s x is p q. one_more_row _ _ l.y l.cases _ (c.row-reads.ensures.row_put s x is p q) (l.invariant.2 s x is p q),
+      omega (arith, c.row-reads.ensures.reads, l.invariant.3),
+      omega (arith, c.row-reads.ensures.reads, l.invariant.4),
     )
 
 pub shape_of-cases : goal.shape_of-cases

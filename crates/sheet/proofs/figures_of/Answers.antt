@@ -12,22 +12,20 @@ pub returns : goal.returns
 unfolding figures_of vertex_figure triangle_figure
 returns c =
     let s = star_of c.args.src.now in
-    let layers = c.count_layers-regular.ensures in
-    let sides = c.count_sides-transition.ensures in
-    let all = layers.1 ∙ ap (λ (h : Header). planes_to s h.block.subdivisions) c.requires.1 ∙ all_planes s in (
+    let all = c.count_layers-regular.ensures.1 ∙ ap (λ (h : Header). planes_to s h.block.subdivisions) c.requires.1 ∙ all_planes s in (
       record {
-        inside = omega (arith, layers.0.inside);
-        x = omega (arith, layers.0.x);
-        y = omega (arith, layers.0.y);
-        z = omega (arith, layers.0.z);
-        vertices = omega (arith, layers.0.vertices, sides.0.vertices);
-        triangles = omega (arith, layers.0.triangles, sides.0.triangles);
+        inside = omega (arith, c.count_layers-regular.ensures.0.inside);
+        x = omega (arith, c.count_layers-regular.ensures.0.x);
+        y = omega (arith, c.count_layers-regular.ensures.0.y);
+        z = omega (arith, c.count_layers-regular.ensures.0.z);
+        vertices = omega (arith, c.count_layers-regular.ensures.0.vertices, c.count_sides-transition.ensures.0.vertices);
+        triangles = omega (arith, c.count_layers-regular.ensures.0.triangles, c.count_sides-transition.ensures.0.triangles);
       },
       λ i.
           record {
             inside = (all i).inside;
             edges = record { x = (all i).edges.x; y = (all i).edges.y; z = (all i).edges.z };
-            vertices = (all i).vertices + sides.1.vertices_are i;
-            triangles = (all i).triangles + sides.1.triangles_are i;
+            vertices = (all i).vertices + c.count_sides-transition.ensures.1.vertices_are i;
+            triangles = (all i).triangles + c.count_sides-transition.ensures.1.triangles_are i;
           },
     )

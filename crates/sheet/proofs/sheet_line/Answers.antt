@@ -21,6 +21,5 @@ pub returns : goal.returns
 unfolding sheet_line
 returns c =
     let run = c.args.run.now in
-    let found = c.line_at.ensures in
     rw (le-leb (length run) most_run c.if-run-gt-MOST_RUN.false, lt-ltb c.args.at (length run) c.if-at-run.false)
-    (λ i. SheetLine.Line (record { line = found.1.0 i; next = found.1.1 i }))
+    (λ i. SheetLine.Line (record { line = c.line_at.ensures.1.0 i; next = c.line_at.ensures.1.1 i }))

@@ -46,11 +46,11 @@ loop-at-smaller c =
 pub loop-at-preserved : goal.loop-at-preserved
 loop-at-preserved c =
     let so_far = c.loop-at.invariant.1 in
-    let found = c.line_at-found.ensures in (
-      omega (arith, found.1.1, ends-in (goal.at.loop-at-preserved c).In-loop-at),
+    (
+      omega (arith, c.line_at-found.ensures.1.1, ends-in (goal.at.loop-at-preserved c).In-loop-at),
       (
-        rw (c.with_line-sum.ensures, found.1.1) (small_more (c.loop-at.at) ((length (row_of (drop (c.loop-at.at) (c.args.run.now))).bytes)) c.line_at-found.result.line (some (goal.at.loop-at-preserved c).In-loop-at) so_far.0 found.0),
-        rw (c.with_line-sum.ensures, found.1.1, found.1.0) (total_more (c.args.run.now) (c.loop-at.at) c.loop-at.sum (left (goal.at.loop-at-preserved c).In-loop-at) so_far.1),
+        rw (c.with_line-sum.ensures, c.line_at-found.ensures.1.1) (small_more (c.loop-at.at) ((length (row_of (drop (c.loop-at.at) (c.args.run.now))).bytes)) c.line_at-found.result.line (some (goal.at.loop-at-preserved c).In-loop-at) so_far.0 c.line_at-found.ensures.0),
+        rw (c.with_line-sum.ensures, c.line_at-found.ensures.1.1, c.line_at-found.ensures.1.0) (total_more (c.args.run.now) (c.loop-at.at) c.loop-at.sum (left (goal.at.loop-at-preserved c).In-loop-at) so_far.1),
       ),
     )
 

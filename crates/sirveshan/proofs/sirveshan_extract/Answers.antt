@@ -6,10 +6,9 @@ use Rattle.sirveshan.proofs.sirveshan_extract.Goals as goal
 -- from the end back to the call, past the places where its lists are given back
 pub returns : goal.returns
 returns c =
-    let made = c.extract.ensures in
     λ i. record {
-      answer = (c.as_extracted.ensures ∙ ap₂ as_extracted made.0 made.1.1.1.1) i;
-      store = made.1.0 i;
-      vertices = made.1.1.0 i;
-      triangles = made.1.1.1.0 i;
+      answer = (c.as_extracted.ensures ∙ ap₂ as_extracted c.extract.ensures.answer c.extract.ensures.reads) i;
+      store = c.extract.ensures.store i;
+      vertices = c.extract.ensures.vertices i;
+      triangles = c.extract.ensures.triangles i;
     }

@@ -6,11 +6,10 @@ use Rattle.sirveshan.proofs.sirveshan_extract_layered.Goals as goal
 -- from the end back to the call, past the places where its lists are given back
 pub returns : goal.returns
 returns c =
-    let made = c.extract_layered.ensures in
     λ i. record {
-      answer = (c.as_extracted.ensures ∙ ap₂ as_extracted made.0 made.1.1.1.1.0) i;
-      store = made.1.0 i;
-      vertices = made.1.1.0 i;
-      triangles = made.1.1.1.0 i;
-      edges = made.1.1.1.1.1 i;
+      answer = (c.as_extracted.ensures ∙ ap₂ as_extracted c.extract_layered.ensures.answer c.extract_layered.ensures.reads) i;
+      store = c.extract_layered.ensures.store i;
+      vertices = c.extract_layered.ensures.vertices i;
+      triangles = c.extract_layered.ensures.triangles i;
+      edges = c.extract_layered.ensures.edges i;
     }

@@ -5,11 +5,10 @@ use Rattle.sirveshan.proofs.sirveshan_extract_whole.Goals as goal
 
 pub returns : goal.returns
 returns c =
-    let made = c.extract_whole.ensures in
     λ i. record {
-      answer = (c.as_extracted.ensures ∙ ap₂ as_extracted made.0 made.1.1.1.1.0) i;
-      store = made.1.0 i;
-      vertices = made.1.1.0 i;
-      triangles = made.1.1.1.0 i;
-      edges = made.1.1.1.1.1 i;
+      answer = (c.as_extracted.ensures ∙ ap₂ as_extracted c.extract_whole.ensures.answer c.extract_whole.ensures.reads) i;
+      store = c.extract_whole.ensures.store i;
+      vertices = c.extract_whole.ensures.vertices i;
+      triangles = c.extract_whole.ensures.triangles i;
+      edges = c.extract_whole.ensures.edges i;
     }

@@ -74,8 +74,7 @@ regular_place-shared-requires c =
 pub returns : goal.returns
 returns c =
     let a = c.args in
-    let back = c.regular_back-from in
     λ ns.
     code_taken (star a.header a.centre.now ns) (Regular a.at) a.code a.next _ a.vertices.now a.store.now _
-    (c.new_vertex.ensures ∙ inner_makes c.requires.inner.0 a.code) c.reuse_index-r.ensures.0 _ (Regular back.result) (ap Regular back.ensures)
+    (c.new_vertex.ensures ∙ inner_makes c.requires.inner.0 a.code) c.reuse_index-r.ensures.0 _ (Regular c.regular_back-from.result) (ap Regular c.regular_back-from.ensures)
     c.regular_place-shared.ensures.0 c.if-new_vertex.false

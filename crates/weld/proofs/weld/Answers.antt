@@ -31,6 +31,5 @@ pass-kept-requires c =
 pub returns : goal.returns
 returns c =
     let a = c.args in
-    let pass = c.pass-kept in
-    let last = pass.last.1 in
-    all_passed a.v a.t a.vertices.now a.triangles.now a.edges.now (lists (goal.at.returns c).In_default) pass.result last.0 last.1.0 last.1.1.0 pass.ensures
+    let last = c.pass-kept.last.1 in
+    all_passed a.v a.t a.vertices.now a.triangles.now a.edges.now (lists (goal.at.returns c).In_default) c.pass-kept.result last.0 last.1.0 last.1.1.0 c.pass-kept.ensures

@@ -11,22 +11,19 @@ use Rattle.writing.proofs.Reading.{read_all}
 use Rattle.writing.proofs.write_mesh.Goals as goal
 use Rattle.writing.proofs.write_mesh.Goals.{After-write_regular_cells-regular, After-write_transition_cells-all}
 
-same : (c : After-write_regular_cells-regular) → let a = c.args in let w = c.write_regular_cells-regular in
-    let after = w.new.1.1.1.1.1 in
+same : (c : After-write_regular_cells-regular) → let a = c.args in let after = c.write_regular_cells-regular.new.1.1.1.1.1 in
     SameLengths a.vertices.now after.1.0 a.triangles.now after.1.1.0 a.store.now after.0 a.edges.now after.1.1.1.0
 same c =
     let kept = c.write_regular_cells-regular.auto.1.1.1.1.1 in
-    record { vertices_same = kept.1.0; triangles_same = kept.1.1.0; store_same = kept.0 ∙ c.clear.auto.0; edges_same = kept.1.1.1.0 }
+    record { vertices_same = kept.1.0; triangles_same = kept.1.1.0; store_same = kept.0 ∙ c.clear.auto.store; edges_same = kept.1.1.1.0 }
 
-same_at_after_write_transition_cells_all : (c : After-write_transition_cells-all) → let a = c.args in let w = c.write_regular_cells-regular in
-    let after = w.new.1.1.1.1.1 in
+same_at_after_write_transition_cells_all : (c : After-write_transition_cells-all) → let a = c.args in let after = c.write_regular_cells-regular.new.1.1.1.1.1 in
     SameLengths a.vertices.now after.1.0 a.triangles.now after.1.1.0 a.store.now after.0 a.edges.now after.1.1.1.0
 same_at_after_write_transition_cells_all c =
     let kept = c.write_regular_cells-regular.auto.1.1.1.1.1 in
-    record { vertices_same = kept.1.0; triangles_same = kept.1.1.0; store_same = kept.0 ∙ c.clear.auto.0; edges_same = kept.1.1.1.0 }
+    record { vertices_same = kept.1.0; triangles_same = kept.1.1.0; store_same = kept.0 ∙ c.clear.auto.store; edges_same = kept.1.1.1.0 }
 
-same-still : (t : After-write_transition_cells-all) → let a = t.args in let w = t.write_transition_cells-all in
-    let after = w.new.1.1.1.1.1 in
+same-still : (t : After-write_transition_cells-all) → let a = t.args in let after = t.write_transition_cells-all.new.1.1.1.1.1 in
     SameLengths a.vertices.now after.1.0 a.triangles.now after.1.1.0 a.store.now after.0 a.edges.now after.1.1.1.0
 same-still t =
     let kept = t.write_transition_cells-all.auto.1.1.1.1.1 in
@@ -34,7 +31,7 @@ same-still t =
 
 pub write_regular_cells-regular-requires : goal.write_regular_cells-regular-requires
 write_regular_cells-regular-requires c =
-    let fits = c.requires.exact.fits in record { shaped = (c.requires.shaped, c.fractions_of-fractions.ensures); trusted = c.requires.trusted; fits = fits_still {edges₀ = c.args.edges.now} {edges = c.args.edges.now} (record { vertices_same = refl; triangles_same = refl; store_same = c.clear.auto.0; edges_same = refl }) fits; store_value = c.clear.ensures ∙ ap (λ (k : ℕ). replicate k 0) fits.store_fits }
+    let fits = c.requires.exact.fits in record { shaped = (c.requires.shaped, c.fractions_of-fractions.ensures); trusted = c.requires.trusted; fits = fits_still {edges₀ = c.args.edges.now} {edges = c.args.edges.now} (record { vertices_same = refl; triangles_same = refl; store_same = c.clear.auto.store; edges_same = refl }) fits; store_value = c.clear.ensures ∙ ap (λ (k : ℕ). replicate k 0) fits.store_fits }
 
 pub write_transition_cells-all-requires : goal.write_transition_cells-all-requires
 write_transition_cells-all-requires c =
@@ -42,8 +39,7 @@ write_transition_cells-all-requires c =
 
 pub overflow_add-result : goal.overflow_add-result
 overflow_add-result c =
-    let w = c.write_transition_cells-all.ensures in
-    omega (arith, w.1.few, w.0.read_so_far, w.0.vertex_count, c.requires.exact.fits.vertices_fit.short)
+    omega (arith, c.write_transition_cells-all.ensures.reads.few, c.write_transition_cells-all.ensures.holds_2.read_so_far, c.write_transition_cells-all.ensures.holds_2.vertex_count, c.requires.exact.fits.vertices_fit.short)
 
 pub shape_of-store : goal.shape_of-store
 shape_of-store c = (same-still (goal.at.shape_of-store c).After-write_transition_cells-all).store_same
@@ -59,6 +55,5 @@ shape_of-edges c = (same-still (goal.at.shape_of-edges c).After-write_transition
 
 pub returns : goal.returns
 returns c =
-    let w = c.write_transition_cells-all.ensures in
     let pre = c.requires in
-    record { written = holds_all _ _ _ _ _ _ (exact_still (same-still (goal.at.returns c).After-write_transition_cells-all) pre.exact) w.0; reads = read_all _ _ _ _ _ _ _ _ _ pre.trusted c.write_regular_cells-regular.ensures.reads w.1 w.0; edges = w.0.numbered }
+    record { written = holds_all _ _ _ _ _ _ (exact_still (same-still (goal.at.returns c).After-write_transition_cells-all) pre.exact) c.write_transition_cells-all.ensures.holds_2; reads = read_all _ _ _ _ _ _ _ _ _ pre.trusted c.write_regular_cells-regular.ensures.reads c.write_transition_cells-all.ensures.reads c.write_transition_cells-all.ensures.holds_2; edges = c.write_transition_cells-all.ensures.holds_2.numbered }

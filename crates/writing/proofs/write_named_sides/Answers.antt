@@ -23,16 +23,14 @@ below : (c : In-loop-side) → c.loop-side.side < side_count
 below c = omega (arith, c.loop-side-test.true)
 
 -- the sheet and its marks are as long as they were
-still-long : (c : After-face_cases-reads) → let after = c.face_cases-reads.new.1.1.1 in
-    (length after.0 ≡ sheet_places) × (length after.1.0 ≡ sheet_places)
+still-long : (c : After-face_cases-reads) → (length c.face_cases-reads.new.cases ≡ sheet_places) × (length c.face_cases-reads.new.marks ≡ sheet_places)
 still-long c =
     let kept = c.face_cases-reads.auto.1.1.1 in
     let before = c.loop-side.invariant.2 in
     (kept.0 ∙ before.cases_long, kept.1.0 ∙ before.marks_long)
 
 -- they hold the side
-held : (c : After-face_cases-reads) → let after = c.face_cases-reads.new.1.1.1 in
-    Held ((star c.args.header c.args.centre.now c.args.neighbours.now)) (Side c.loop-side.side) c.args.header.block.subdivisions [] after.0 after.1.0
+held : (c : After-face_cases-reads) → Held ((star c.args.header c.args.centre.now c.args.neighbours.now)) (Side c.loop-side.side) c.args.header.block.subdivisions [] c.face_cases-reads.new.cases c.face_cases-reads.new.marks
 held c =
     let centre = c.args.centre.now in
     record { numbers = c.face_cases-reads.ensures.cases centre; marked = c.face_cases-reads.ensures.marks centre }
@@ -93,7 +91,6 @@ loop-side-preserved c =
     let l = c.loop-side in
     let s = (star c.args.header c.args.centre.now c.args.neighbours.now) in
     let told = c.face_cases-reads.ensures.reads in
-    let w = c.write_sheet-counts in
     let next = c.next_side-side-in-loop-side.ensures in (
       next.le_six,
       next.is_named,
@@ -102,8 +99,8 @@ loop-side-preserved c =
         marks_long = (still-long (goal.at.loop-side-preserved c).After-face_cases-reads).1;
         same =
             same_then l.invariant.2.same
-            record { vertices_same = omega (arith, w.auto); triangles_same = omega (arith, w.auto); store_same = omega (arith, w.auto); edges_same = omega (arith, w.auto) };
-        holds = rw (← transition_skip s (l.side + 1) _ next) w.ensures;
+            record { vertices_same = omega (arith, c.write_sheet-counts.auto); triangles_same = omega (arith, c.write_sheet-counts.auto); store_same = omega (arith, c.write_sheet-counts.auto); edges_same = omega (arith, c.write_sheet-counts.auto) };
+        holds = rw (← transition_skip s (l.side + 1) _ next) c.write_sheet-counts.ensures;
         read_to = read_side s _ l.side _ l.reads _ (l.invariant.1 (below (goal.at.loop-side-preserved c).In-loop-side)) next told.0 told.1 l.invariant.2.read_to;
       },
     )

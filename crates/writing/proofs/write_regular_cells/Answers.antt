@@ -18,16 +18,14 @@ use Rattle.writing.proofs.write_regular_cells.Goals as goal
 use Rattle.writing.proofs.write_regular_cells.Goals.{After-layer_cases-reads}
 
 -- the sheet and its marks are as long as they were
-still-long : (c : After-layer_cases-reads) → let after = c.layer_cases-reads.new.1.1.1 in
-    (length after.0 ≡ sheet_places) × (length after.1.0 ≡ sheet_places)
+still-long : (c : After-layer_cases-reads) → (length c.layer_cases-reads.new.cases ≡ sheet_places) × (length c.layer_cases-reads.new.marks ≡ sheet_places)
 still-long c =
     let kept = c.layer_cases-reads.auto.1.1.1 in
     let before = c.loop-x.invariant.2 in
     (kept.0 ∙ before.cases_long, kept.1.0 ∙ before.marks_long)
 
 -- they hold the layer
-held : (c : After-layer_cases-reads) → let after = c.layer_cases-reads.new.1.1.1 in
-    Held ((star c.args.header c.args.centre.now c.args.neighbours.now)) (Layer c.loop-x.x) c.args.header.block.subdivisions after.0 [] after.1.0
+held : (c : After-layer_cases-reads) → Held ((star c.args.header c.args.centre.now c.args.neighbours.now)) (Layer c.loop-x.x) c.args.header.block.subdivisions c.layer_cases-reads.new.cases [] c.layer_cases-reads.new.marks
 held c =
     let neighbours = c.args.neighbours.now in
     record { numbers = c.layer_cases-reads.ensures.cases neighbours; marked = c.layer_cases-reads.ensures.marks neighbours }
@@ -92,7 +90,6 @@ loop-x-preserved c =
     let s = (star c.args.header c.args.centre.now c.args.neighbours.now) in
     let summary = c.args.summary.now in
     let told = c.layer_cases-reads.ensures.reads in
-    let w = c.write_sheet-counts in
     let next = c.next_layer-x-in-loop-x.ensures in (
       next.within,
       next.not_over,
@@ -101,8 +98,8 @@ loop-x-preserved c =
         marks_long = (still-long (goal.at.loop-x-preserved c).After-layer_cases-reads).1;
         same =
             same_then l.invariant.2.same
-            record { vertices_same = omega (arith, w.auto); triangles_same = omega (arith, w.auto); store_same = omega (arith, w.auto); edges_same = omega (arith, w.auto) };
-        holds = holds_same (regular_skip s summary c.requires.trusted (l.x + 1) _ next) w.ensures;
+            record { vertices_same = omega (arith, c.write_sheet-counts.auto); triangles_same = omega (arith, c.write_sheet-counts.auto); store_same = omega (arith, c.write_sheet-counts.auto); edges_same = omega (arith, c.write_sheet-counts.auto) };
+        holds = holds_same (regular_skip s summary c.requires.trusted (l.x + 1) _ next) c.write_sheet-counts.ensures;
         read_to = read_layer s summary l.x _ l.reads _ (l.invariant.1 (omega (arith, c.loop-x-test.true))) next told.0 told.1 l.invariant.2.read_to;
       },
     )

@@ -76,13 +76,12 @@ loop-v-smaller c = omega (arith, c.next_marked-v-in-loop-v.ensures.ordered, belo
 pub loop-v-preserved : goal.loop-v-preserved
 loop-v-preserved c =
     let l = c.loop-v in
-    let w = c.write_sheet_cell-counts in
     let next = c.next_marked-v-in-loop-v.ensures in (
       next.within,
       (
         same_then l.invariant.1.0
-            record { vertices_same = omega (arith, w.auto); triangles_same = omega (arith, w.auto); store_same = omega (arith, w.auto); edges_same = omega (arith, w.auto) },
-        holds_on ((star c.args.header c.args.centre.now c.args.neighbours.now)) c.args.sheet c.args.u c.requires.u_lt_subdivisions.0 c.requires.sheeted.1 l.v _ next (holds_more (ready (goal.at.loop-v-preserved c).In-loop-v) _ _ _ _ _ w.ensures.0 w.ensures.1),
+            record { vertices_same = omega (arith, c.write_sheet_cell-counts.auto); triangles_same = omega (arith, c.write_sheet_cell-counts.auto); store_same = omega (arith, c.write_sheet_cell-counts.auto); edges_same = omega (arith, c.write_sheet_cell-counts.auto) },
+        holds_on ((star c.args.header c.args.centre.now c.args.neighbours.now)) c.args.sheet c.args.u c.requires.u_lt_subdivisions.0 c.requires.sheeted.1 l.v _ next (holds_more (ready (goal.at.loop-v-preserved c).In-loop-v) _ _ _ _ _ c.write_sheet_cell-counts.ensures.cell_put c.write_sheet_cell-counts.ensures.edges),
       ),
     )
 

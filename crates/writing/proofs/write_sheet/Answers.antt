@@ -27,12 +27,12 @@ loop-u-smaller c = omega (arith, c.loop-u-test.true)
 
 pub loop-u-preserved : goal.loop-u-preserved
 loop-u-preserved c =
-    let w = c.write_row-counts in (
+    (
       omega (arith, c.loop-u-test.true),
       (
         same_then c.loop-u.invariant.1.0
-            record { vertices_same = omega (arith, w.auto); triangles_same = omega (arith, w.auto); store_same = omega (arith, w.auto); edges_same = omega (arith, w.auto) },
-        w.ensures,
+            record { vertices_same = omega (arith, c.write_row-counts.auto); triangles_same = omega (arith, c.write_row-counts.auto); store_same = omega (arith, c.write_row-counts.auto); edges_same = omega (arith, c.write_row-counts.auto) },
+        c.write_row-counts.ensures,
       ),
     )
 

@@ -10,24 +10,21 @@ loop-k-init c = ((omega arith, omega arith), λ j l h. absurd (let x : ⊥ = ome
 
 pub returns-then-word-ne0 : goal.returns-then-word-ne0
 returns-then-word-ne0 c =
-    let word = c.eight_at-word in
     let l = c.loop-k in
     let a = c.args in
-    let clear = c.clear_bytes.ensures in
     let bytes : (k : ℕ) → get_or a.marks.now k 0 < 256 = λ k. omega (arith, c.shared_slice_known-1.given k) in
     let none = more_unmarked a.marks.now a.start a.from l.k _ l.invariant.1
-    (bytes_clear a.marks.now bytes (a.start + l.k) _ clear.0 (rw word.ensures at clear.1)) in
+    (bytes_clear a.marks.now bytes (a.start + l.k) _ c.clear_bytes.ensures.0 (rw c.eight_at-word.ensures at c.clear_bytes.ensures.1)) in
     ((omega (arith, c.least.ensures), omega (arith, c.least.ensures)), λ j low high. none j low (omega (arith, c.least.ensures)))
 
 pub loop-k-preserved : goal.loop-k-preserved
 loop-k-preserved c =
-    let word = c.eight_at-word in
     let l = c.loop-k in
     let a = c.args in
     let bytes : (k : ℕ) → get_or a.marks.now k 0 < 256 = λ k. omega (arith, c.shared_slice_known-1.given k) in (
       (omega arith, omega arith),
       more_unmarked a.marks.now a.start a.from l.k 8 l.invariant.1
-          (word_clear a.marks.now bytes (a.start + l.k) (rw word.ensures at c.if-word-ne0.false)),
+          (word_clear a.marks.now bytes (a.start + l.k) (rw c.eight_at-word.ensures at c.if-word-ne0.false)),
     )
 
 pub returns : goal.returns

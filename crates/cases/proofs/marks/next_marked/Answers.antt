@@ -8,9 +8,8 @@ returns-then-marks-start-ne0 c = record { ordered = omega arith; within = omega 
 
 pub returns : goal.returns
 returns c =
-    let words = c.next_by_words.ensures in
     record {
-      ordered = omega (arith, words.0);
-      within = words.0.1;
-      none_marked = first_unmarked c.args.marks.now c.args.start c.args.from _ c.if-marks-start-ne0.false words.1;
+      ordered = omega (arith, c.next_by_words.ensures.0);
+      within = c.next_by_words.ensures.0.1;
+      none_marked = first_unmarked c.args.marks.now c.args.start c.args.from _ c.if-marks-start-ne0.false c.next_by_words.ensures.1;
     }

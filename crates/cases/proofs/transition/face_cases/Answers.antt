@@ -23,10 +23,9 @@ numbers c centre =
     let there = c.requires.neighbour_there in
     let n = c.args.header.block.subdivisions in
     let side = c.args.side in
-    let fine = c.neighbour-fine in
-    subst (λ (walk : FaceWalk). OnWalk (transition_case ((s c) centre) side) c.args.header.threshold fine.result.now n walk n 0)
+    subst (λ (walk : FaceWalk). OnWalk (transition_case ((s c) centre) side) c.args.header.threshold c.neighbour-fine.result.now n walk n 0)
     (sym c.face_walk-walk.ensures)
-    (face_numbers ((s c) centre) side there.few there.side_is fine.result.now fine.ensures.0)
+    (face_numbers ((s c) centre) side there.few there.side_is c.neighbour-fine.result.now c.neighbour-fine.ensures.0)
 
 pub face_walk-walk-requires : goal.face_walk-walk-requires
 face_walk-walk-requires c = (omega arith, omega arith)
@@ -38,4 +37,4 @@ rows_on-requires c =
 pub returns : goal.returns
 returns c =
     let all = zero-add c.args.header.block.subdivisions in
-    let rows = c.rows_on.ensures in record { cases = λ centre. rw all at (rows.0 (transition_case (s (goal.at.returns c).After-face_walk-walk centre) c.args.side) (numbers (goal.at.returns c).After-face_walk-walk centre) (no_row _ _ _)); marks = λ centre. rw all at (rows.1.0 (transition_case (s (goal.at.returns c).After-face_walk-walk centre) c.args.side) (numbers (goal.at.returns c).After-face_walk-walk centre) (no_row _ _ _)); reads = rows.1.1 }
+    record { cases = λ centre. rw all at (c.rows_on.ensures.cases (transition_case (s (goal.at.returns c).After-face_walk-walk centre) c.args.side) (numbers (goal.at.returns c).After-face_walk-walk centre) (no_row _ _ _)); marks = λ centre. rw all at (c.rows_on.ensures.marks (transition_case (s (goal.at.returns c).After-face_walk-walk centre) c.args.side) (numbers (goal.at.returns c).After-face_walk-walk centre) (no_row _ _ _)); reads = c.rows_on.ensures.reads }

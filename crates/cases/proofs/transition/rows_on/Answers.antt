@@ -16,18 +16,8 @@ use Rattle.cases.specs.Faces.{nine_inside, OnWalk}
 use Rattle.cases.specs.RowPlaces.{row_fits}
 use Rattle.cases.specs.Rows.{row_as, one_more_row}
 use Rattle.cases.proofs.transition.rows_on.Goals as goal
+use Rattle.cases.proofs.transition.rows_on.Invariants.{SoFar}
 use Rattle.cases.proofs.transition.rows_on.Goals.{In-loop-u}
-
-record SoFar (n : ℕ) (threshold : Float) (fine : List Float) (walk : FaceWalk) (rows : ℕ) (cases₀ marks₀ : List ℕ) (at : ℕ) (cases marks : List ℕ) (reads u : ℕ)
-    : Type 0 where
-  within : u ≤ rows
-  cases_long : length cases ≡ sheet_places
-  marks_long : length marks ≡ sheet_places
-  numbers : (case : ℕ → ℕ → ℕ) → OnWalk case threshold fine n walk rows at → Sheet case n at cases₀ → Sheet case n (at + u) cases
-  marked : (case : ℕ → ℕ → ℕ) → OnWalk case threshold fine n walk rows at → Sheet (λ j k. mark_of all_transition (case j k)) n at marks₀
-      → Sheet (λ j k. mark_of all_transition (case j k)) n (at + u) marks
-  reads_are : reads ≡ transition_reads * n * u
-  reads-few : reads ≤ transition_reads * most_subdivisions * u
 
 -- the row is one of the sheet's
 row_is : (c : In-loop-u) → c.args.at + (c.loop-u.u) < c.args.n
@@ -80,22 +70,21 @@ loop-u-preserved c =
     let a = c.args in
     let so_far = c.loop-u.invariant in
     let lines = c.lines_at-lines.ensures in
-    let row = c.row_on-reads in
     let next : a.at + c.loop-u.u + 1 ≡ a.at + (c.loop-u.u + 1) = omega arith in
     let number : (case : ℕ → ℕ → ℕ) → OnWalk case a.threshold a.fine.now a.n a.walk a.rows a.at → (v : ℕ) → v < a.n
     → nine_inside a.threshold a.fine.now c.lines_at-lines.result v ≡ case (a.at + c.loop-u.u) v =
     λ case on v h. ap (λ (l : Lines). nine_inside a.threshold a.fine.now l v) lines ∙ on.number (c.loop-u.u) v c.loop-u-test.true h in
     record {
       within = omega (arith, c.loop-u-test.true);
-      cases_long = row.auto.1.1.1.1.0 ∙ so_far.cases_long;
-      marks_long = row.auto.1.1.1.1.1.0 ∙ so_far.marks_long;
+      cases_long = c.row_on-reads.auto.cases ∙ so_far.cases_long;
+      marks_long = c.row_on-reads.auto.marks ∙ so_far.marks_long;
       numbers = λ case on first.
-          rw next at (one_more_row _ _ (a.at + c.loop-u.u) _ _ (row_as (number case on) row.ensures.0) (so_far.numbers case on first));
+          rw next at (one_more_row _ _ (a.at + c.loop-u.u) _ _ (row_as (number case on) c.row_on-reads.ensures.cases) (so_far.numbers case on first));
       marked = λ case on first.
           rw next at
-          (one_more_row _ _ (a.at + c.loop-u.u) _ _ (row_as (λ v h. ap (mark_of all_transition) (number case on v h)) row.ensures.1.0) (so_far.marked case on first));
-      reads_are = omega (arith, row.ensures.1.1, so_far.reads_are);
-      reads-few = omega (arith, row.ensures.1.1, so_far.reads-few, c.requires.n_le_most_subdivisions.0);
+          (one_more_row _ _ (a.at + c.loop-u.u) _ _ (row_as (λ v h. ap (mark_of all_transition) (number case on v h)) c.row_on-reads.ensures.marks) (so_far.marked case on first));
+      reads_are = omega (arith, c.row_on-reads.ensures.reads, so_far.reads_are);
+      reads-few = omega (arith, c.row_on-reads.ensures.reads, so_far.reads-few, c.requires.n_le_most_subdivisions.0);
     }
 
 pub shape_of-cases : goal.shape_of-cases

@@ -29,14 +29,12 @@ pub overflow_add-reads : goal.overflow_add-reads
 unfolding fill_to
 overflow_add-reads c =
     let p = c.requires.1.1.1 in
-    let put = c.fill_cell-filled.ensures in
-    omega (arith, p.ready.short, p.1.1, put.reads_are)
+    omega (arith, p.ready.short, p.1.1, c.fill_cell-filled.ensures.reads_are)
 
 pub returns : goal.returns
 unfolding fill_to triangle_of row_triangle
 returns c =
     let a = c.args in
-    let put = c.put_triangles-made.ensures in
     let s = star a.header a.centre.now a.neighbours.now in
     let cell = cell_of s a.at a.codes.now a.row.now a.turned in record { cell_put = cell_put cell a.counts.vertices a.counts.triangles a.vertices.now a.triangles.now a.store.now _ _ _ _ _ _ _ _ _ c.requires.room_2.1
-          c.fill_cell-filled.ensures put.0 put.1; edges = c.put_edges.ensures s a.turned a.store.now refl }
+          c.fill_cell-filled.ensures c.put_triangles-made.ensures.value c.put_triangles-made.ensures.triangles_after; edges = c.put_edges.ensures s a.turned a.store.now refl }

@@ -33,9 +33,8 @@ overflow_add-end c =
 
 pub overflow_mul-end : goal.overflow_mul-end
 overflow_mul-end c =
-    let length = c.sample_length-length in
-    let small : (c.count_below.result + 1) * length.result ≤ most_samples =
-    rw length.ensures (parts_small c.args.n c.args.mask c.requires.0 c.requires.1 (counted c)) in
+    let small : (c.count_below.result + 1) * c.sample_length-length.result ≤ most_samples =
+    rw c.sample_length-length.ensures (parts_small c.args.n c.args.mask c.requires.0 c.requires.1 (counted c)) in
     omega arith
 
 pub returns-then-held-end : goal.returns-then-held-end
@@ -43,9 +42,8 @@ unfolding judge_missing
 returns-then-held-end c =
     let args = c.args in
     let turn = c.loop-side in
-    let length = c.sample_length-length in
     let short : args.held < (named_below args.mask turn.side + 1) * neighbour_length args.n =
-    rw (c.count_below.ensures, length.ensures) at c.if-held-end.true in
+    rw (c.count_below.ensures, c.sample_length-length.ensures) at c.if-held-end.true in
     let missing : part_there args.n args.mask args.held turn.side ≡ Refused (MissingNeighbour turn.side) =
     rw (lt-leb ((named_below args.mask turn.side + 1) * neighbour_length args.n) args.held short) in
     sym (refused_at args.mask (part_there args.n args.mask args.held) turn.invariant c.loop-side-test.true missing)
@@ -54,9 +52,8 @@ pub loop-side-preserved : goal.loop-side-preserved
 loop-side-preserved c =
     let args = c.args in
     let turn = c.loop-side in
-    let length = c.sample_length-length in
     let enough : (named_below args.mask turn.side + 1) * neighbour_length args.n ≤ args.held =
-    rw (c.count_below.ensures, length.ensures) at c.if-held-end.false in
+    rw (c.count_below.ensures, c.sample_length-length.ensures) at c.if-held-end.false in
     let there : part_there args.n args.mask args.held turn.side ≡ Passed =
     rw (le-leb ((named_below args.mask turn.side + 1) * neighbour_length args.n) args.held enough) in
     go_on args.mask (part_there args.n args.mask args.held) turn.invariant c.loop-side-test.true there

@@ -19,7 +19,6 @@ returns-then-is_marked c = sym (ap (over (goal.at.returns-then-is_marked c).Afte
 
 pub returns : goal.returns
 returns c =
-    let read = c.entry-told in
     let threshold = c.args.threshold in
-    ap (λ (b : Bool). b || lt read.result.greatest threshold) c.inside.ensures
-    ∙ ap (λ (e : Extent). one_sided threshold e) read.ensures ∙ sym (ap (over (goal.at.returns c).After-is_marked) (is-told (goal.at.returns c).After-is_marked _ c.if-is_marked.false))
+    ap (λ (b : Bool). b || lt c.entry-told.result.greatest threshold) c.inside.ensures
+    ∙ ap (λ (e : Extent). one_sided threshold e) c.entry-told.ensures ∙ sym (ap (over (goal.at.returns c).After-is_marked) (is-told (goal.at.returns c).After-is_marked _ c.if-is_marked.false))

@@ -34,9 +34,8 @@ is_extent-requires c =
 pub returns : goal.returns
 unfolding layer_extent
 returns c =
-    let read = c.entry-told in
     let samples = c.args.samples.now in
     c.is_extent.ensures
-    ∙ ap₂ (λ (from count : ℕ). agree read.result (extent_of (samples_from samples from) count)) c.in_block.ensures.0 c.layer_count.ensures
-    ∙ ap (λ (e : Extent). agree e ((layer_extent c.args.n c.args.samples.now c.args.x))) read.ensures
+    ∙ ap₂ (λ (from count : ℕ). agree c.entry-told.result (extent_of (samples_from samples from) count)) c.in_block.ensures.0 c.layer_count.ensures
+    ∙ ap (λ (e : Extent). agree e ((layer_extent c.args.n c.args.samples.now c.args.x))) c.entry-told.ensures
     ∙ sym (ap (λ (b : Bool). b || agree ((entry_of c.args.summary.now c.args.x)) ((layer_extent c.args.n c.args.samples.now c.args.x))) (is-told (goal.at.returns c).After-is_marked _ c.if-is_marked.false))

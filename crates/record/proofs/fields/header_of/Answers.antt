@@ -24,8 +24,8 @@ unfolding header_of
 returns c =
     λ i. record {
       block = record {
-        base = record { x = c.Float-at.ensures i; y = c.float_at-2.ensures i; c = c.float_at-3.ensures i };
-        c = c.float_at-4.ensures i;
+        base = record { x = c.float_at.ensures i; y = c.float_at-2.ensures i; z = c.float_at-3.ensures i };
+        size = c.float_at-4.ensures i;
         subdivisions = c.subdivisions_of.ensures i;
       };
       mask = c.mask_of.ensures i;

@@ -17,4 +17,4 @@ float_at-requires c =
 pub returns : goal.returns
 returns c =
     let bytes = c.args.bytes.now in
-    c.Float-at.ensures ∙ ap (float_at bytes) c.sample_from.ensures ∙ sym (sample_is bytes c.args.k c.requires.1)
+    c.float_at.ensures ∙ ap (float_at bytes) c.sample_from.ensures ∙ sym (sample_is bytes c.args.k c.requires.1)

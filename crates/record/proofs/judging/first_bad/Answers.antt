@@ -17,11 +17,10 @@ is_usable_at-requires c = omega arith
 
 pub returns-then-not-is_usable_at : goal.returns-then-not-is_usable_at
 returns-then-not-is_usable_at c =
-    let judged = c.is_usable_at in
     let turn = c.loop-k in
     let args = c.args in
     let here : sample_usable_at args.bytes.now turn.k ≡ Refused (BadSample turn.k) =
-    rw (← c.sample_from.ensures, ← judged.ensures, c.if-not-is_usable_at.true) in
+    rw (← c.sample_from.ensures, ← c.is_usable_at.ensures, c.if-not-is_usable_at.true) in
     sym (hit (sample_usable_at args.bytes.now) turn.k args.count (BadSample turn.k) turn.invariant.1 here (omega arith))
 
 pub loop-k-smaller : goal.loop-k-smaller
@@ -29,11 +28,10 @@ loop-k-smaller c = omega arith
 
 pub loop-k-preserved : goal.loop-k-preserved
 loop-k-preserved c =
-    let judged = c.is_usable_at in
     let turn = c.loop-k in
     let args = c.args in
     let here : sample_usable_at args.bytes.now turn.k ≡ Passed =
-    rw (← c.sample_from.ensures, ← judged.ensures, c.if-not-is_usable_at.false) in
+    rw (← c.sample_from.ensures, ← c.is_usable_at.ensures, c.if-not-is_usable_at.false) in
     (omega arith, not_yet (sample_usable_at args.bytes.now) turn.k turn.invariant.1 here)
 
 pub returns : goal.returns

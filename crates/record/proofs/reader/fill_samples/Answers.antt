@@ -48,14 +48,13 @@ loop-k-preserved c =
     let before = c.args.samples.now in
     let turn = c.loop-k in
     let k = turn.k in
-    let sample = c.sample_of in
     let here = in-turn (goal.at.loop-k-preserved c).In-loop-k in
     let room : k < length before = omega (arith, here, c.requires.1) in (
       omega (arith, here),
       (
-        length-set turn.samples k sample.result ∙ turn.invariant.1.0,
-        ap (λ (l : List Float). set l k sample.result) turn.invariant.1.1
-            ∙ ap (set (listed (at bytes) k ++ drop k before) k) (sample.ensures ∙ sample_is bytes k here)
+        length-set turn.samples k c.sample_of.result ∙ turn.invariant.1.0,
+        ap (λ (l : List Float). set l k c.sample_of.result) turn.invariant.1.1
+            ∙ ap (set (listed (at bytes) k ++ drop k before) k) (c.sample_of.ensures ∙ sample_is bytes k here)
             ∙ listed_more (at bytes) k before room,
       ),
     )

@@ -37,7 +37,7 @@ loop-k-preserved c =
     let turn = c.loop-k in
     let floats = start.floats.now in
     let here : turn.k < length floats = omega arith in
-    let put : c.put_word.new.0 ≡ sets start.bytes.now start.at (each float_bytes (take (turn.k + 1) floats)) =
+    let put : c.put_word.new.bytes ≡ sets start.bytes.now start.at (each float_bytes (take (turn.k + 1) floats)) =
     c.put_word.ensures
     ∙ ap (λ (l : List ℕ). sets l (start.at + 4 * turn.k) (float_bytes (get_or floats turn.k nan))) turn.invariant.1.1
     ∙ put_more big start.bytes.now start.at floats turn.k here in

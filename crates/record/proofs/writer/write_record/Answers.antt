@@ -62,7 +62,7 @@ unfolding write_record
 returns c =
     let c' = c.args.centre.now in
     let n' = c.args.neighbours.now in
-    let put : c.put_floats-2.new.0 ≡ laid (record_of (c.args.header) (c' ++ n')) (c.args.bytes.now) =
+    let put : c.put_floats-2.new.bytes ≡ laid (record_of (c.args.header) (c' ++ n')) (c.args.bytes.now) =
     c.put_floats-2.ensures
     ∙ (λ i. sets (c.put_floats.ensures i) (c.sample_from-2.ensures i) (each float_bytes n'))
     ∙ (λ i. sets (sets (c.put_header.ensures i) (c.sample_from.ensures i) (each float_bytes c')) (sample_from (length c')) (each float_bytes n'))

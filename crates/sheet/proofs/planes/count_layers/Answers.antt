@@ -49,11 +49,11 @@ n-few e = omega (arith, e.requires.0.few, (is e).subdivisions_are)
 few : (e : Start) → ((e.args.header.block.subdivisions) + 1) * ((e.args.header.block.subdivisions) + 1) ≤ plane_places
 few e = layer_fits (e.args.header.block.subdivisions) (n-few e)
 
-first-long : (c : After-fill_plane) → length c.fill_plane.new.1.1.1.0 ≡ plane_places
-first-long c = c.fill_plane.auto.1.1.1.0 ∙ zeros
+first-long : (c : After-fill_plane) → length c.fill_plane.new.plane ≡ plane_places
+first-long c = c.fill_plane.auto.plane ∙ zeros
 
-low-long : (c : After-move_down) → length (c.move_down.new.1.1.0) ≡ plane_places
-low-long c = c.move_down.auto.1.1.0 ∙ c.loop-x.invariant.low-long
+low-long : (c : After-move_down) → length (c.move_down.new.low) ≡ plane_places
+low-long c = c.move_down.auto.low ∙ c.loop-x.invariant.low-long
 
 is_at_after_move_down : (e : After-move_down) → Measured ((star_of e.args.src.now)) (e.args.header.block.subdivisions) e.args.header.threshold
 is_at_after_move_down e =
@@ -62,19 +62,19 @@ is_at_after_move_down e =
       threshold_is = ap (λ (h : Header). h.threshold) (sym e.requires.1);
     }
 
-low-plane : (c : After-move_down) → Plane ((star_of c.args.src.now)) (c.loop-x.x) (c.move_down.new.1.1.0)
+low-plane : (c : After-move_down) → Plane ((star_of c.args.src.now)) (c.loop-x.x) (c.move_down.new.low)
 low-plane c =
-    plane_same ((star_of c.args.src.now)) (c.loop-x.x) c.loop-x.high (c.move_down.new.1.1.0) c.loop-x.invariant.plane
+    plane_same ((star_of c.args.src.now)) (c.loop-x.x) c.loop-x.high (c.move_down.new.low) c.loop-x.invariant.plane
     (λ k h. c.move_down.ensures k (rw (is_at_after_move_down c).subdivisions_are at h))
 
-high-long : (c : After-fill_plane-in-loop-x) → length (c.fill_plane-in-loop-x.new.1.1.1.0) ≡ plane_places
-high-long c = c.fill_plane-in-loop-x.auto.1.1.1.0 ∙ c.loop-x.invariant.high-long
+high-long : (c : After-fill_plane-in-loop-x) → length (c.fill_plane-in-loop-x.new.plane) ≡ plane_places
+high-long c = c.fill_plane-in-loop-x.auto.plane ∙ c.loop-x.invariant.high-long
 
-cases_long : (c : After-cases_between) → length (c.cases_between.new.1.1.1.1.0) ≡ sheet_places
-cases_long c = c.cases_between.auto.1.1.1.1.0 ∙ c.loop-x.invariant.cases_long
+cases_long : (c : After-cases_between) → length (c.cases_between.new.cases) ≡ sheet_places
+cases_long c = c.cases_between.auto.cases ∙ c.loop-x.invariant.cases_long
 
-marks_long : (c : After-cases_between) → length (c.cases_between.new.1.1.1.1.1.0) ≡ sheet_places
-marks_long c = c.cases_between.auto.1.1.1.1.1.0 ∙ c.loop-x.invariant.marks_long
+marks_long : (c : After-cases_between) → length (c.cases_between.new.marks) ≡ sheet_places
+marks_long c = c.cases_between.auto.marks ∙ c.loop-x.invariant.marks_long
 
 is_at_after_cases_between : (e : After-cases_between) → Measured ((star_of e.args.src.now)) (e.args.header.block.subdivisions) e.args.header.threshold
 is_at_after_cases_between e =
@@ -83,18 +83,17 @@ is_at_after_cases_between e =
       threshold_is = ap (λ (h : Header). h.threshold) (sym e.requires.1);
     }
 
-low-plane_at_after_cases_between : (c : After-cases_between) → Plane ((star_of c.args.src.now)) (c.loop-x.x) (c.move_down.new.1.1.0)
+low-plane_at_after_cases_between : (c : After-cases_between) → Plane ((star_of c.args.src.now)) (c.loop-x.x) (c.move_down.new.low)
 low-plane_at_after_cases_between c =
-    plane_same ((star_of c.args.src.now)) (c.loop-x.x) c.loop-x.high (c.move_down.new.1.1.0) c.loop-x.invariant.plane
+    plane_same ((star_of c.args.src.now)) (c.loop-x.x) c.loop-x.high (c.move_down.new.low) c.loop-x.invariant.plane
     (λ k h. c.move_down.ensures k (rw (is_at_after_cases_between c).subdivisions_are at h))
 
-held : (c : After-cases_between) → Held ((star_of c.args.src.now)) (Layer (c.loop-x.x)) (c.args.header.block.subdivisions) (c.cases_between.new.1.1.1.1.0) [] (c.cases_between.new.1.1.1.1.1.0)
+held : (c : After-cases_between) → Held ((star_of c.args.src.now)) (Layer (c.loop-x.x)) (c.args.header.block.subdivisions) (c.cases_between.new.cases) [] (c.cases_between.new.marks)
 held c =
-    let made = c.cases_between.ensures in
     let high-plane = c.fill_plane-in-loop-x.ensures in
     record {
-      numbers = made.0 ((star_of c.args.src.now)) (c.loop-x.x) (is_at_after_cases_between c) (low-plane_at_after_cases_between c) high-plane;
-      marked = made.1.0 ((star_of c.args.src.now)) (c.loop-x.x) (is_at_after_cases_between c) (low-plane_at_after_cases_between c) high-plane;
+      numbers = c.cases_between.ensures.cases ((star_of c.args.src.now)) (c.loop-x.x) (is_at_after_cases_between c) (low-plane_at_after_cases_between c) high-plane;
+      marked = c.cases_between.ensures.marks ((star_of c.args.src.now)) (c.loop-x.x) (is_at_after_cases_between c) (low-plane_at_after_cases_between c) high-plane;
     }
 
 is_at_after_count_sheet_counts : (e : After-count_sheet-counts) → Measured ((star_of e.args.src.now)) (e.args.header.block.subdivisions) e.args.header.threshold
@@ -104,18 +103,17 @@ is_at_after_count_sheet_counts e =
       threshold_is = ap (λ (h : Header). h.threshold) (sym e.requires.1);
     }
 
-low-plane_at_after_count_sheet_counts : (c : After-count_sheet-counts) → Plane ((star_of c.args.src.now)) (c.loop-x.x) (c.move_down.new.1.1.0)
+low-plane_at_after_count_sheet_counts : (c : After-count_sheet-counts) → Plane ((star_of c.args.src.now)) (c.loop-x.x) (c.move_down.new.low)
 low-plane_at_after_count_sheet_counts c =
-    plane_same ((star_of c.args.src.now)) (c.loop-x.x) c.loop-x.high (c.move_down.new.1.1.0) c.loop-x.invariant.plane
+    plane_same ((star_of c.args.src.now)) (c.loop-x.x) c.loop-x.high (c.move_down.new.low) c.loop-x.invariant.plane
     (λ k h. c.move_down.ensures k (rw (is_at_after_count_sheet_counts c).subdivisions_are at h))
 
-held_at_after_count_sheet_counts : (c : After-count_sheet-counts) → Held ((star_of c.args.src.now)) (Layer (c.loop-x.x)) (c.args.header.block.subdivisions) (c.cases_between.new.1.1.1.1.0) [] (c.cases_between.new.1.1.1.1.1.0)
+held_at_after_count_sheet_counts : (c : After-count_sheet-counts) → Held ((star_of c.args.src.now)) (Layer (c.loop-x.x)) (c.args.header.block.subdivisions) (c.cases_between.new.cases) [] (c.cases_between.new.marks)
 held_at_after_count_sheet_counts c =
-    let made = c.cases_between.ensures in
     let high-plane = c.fill_plane-in-loop-x.ensures in
     record {
-      numbers = made.0 ((star_of c.args.src.now)) (c.loop-x.x) (is_at_after_count_sheet_counts c) (low-plane_at_after_count_sheet_counts c) high-plane;
-      marked = made.1.0 ((star_of c.args.src.now)) (c.loop-x.x) (is_at_after_count_sheet_counts c) (low-plane_at_after_count_sheet_counts c) high-plane;
+      numbers = c.cases_between.ensures.cases ((star_of c.args.src.now)) (c.loop-x.x) (is_at_after_count_sheet_counts c) (low-plane_at_after_count_sheet_counts c) high-plane;
+      marked = c.cases_between.ensures.marks ((star_of c.args.src.now)) (c.loop-x.x) (is_at_after_count_sheet_counts c) (low-plane_at_after_count_sheet_counts c) high-plane;
     }
 
 counts : (c : After-count_sheet-counts) → LayerCounts ((star_of c.args.src.now)) (c.loop-x.x) c.count_sheet-counts.result
@@ -150,7 +148,6 @@ plane_figures-figures-requires c =
 
 pub loop-x-init : goal.loop-x-init
 loop-x-init c =
-    let figures = c.plane_figures-figures.ensures in
     record {
       within = omega arith;
       cases_long = length-replicate {A = ℕ} sheet_places 0;
@@ -158,8 +155,8 @@ loop-x-init c =
       low-long = zeros;
       high-long = first-long (goal.at.loop-x-init c).After-fill_plane;
       plane = c.fill_plane.ensures;
-      small = figures.0;
-      added = figures.1 ((star_of c.args.src.now)) 0 (is (goal.at.loop-x-init c).Start) c.fill_plane.ensures;
+      small = c.plane_figures-figures.ensures.0;
+      added = c.plane_figures-figures.ensures.1 ((star_of c.args.src.now)) 0 (is (goal.at.loop-x-init c).Start) c.fill_plane.ensures;
     }
 
 pub slice_bounds-move_down-end : goal.slice_bounds-move_down-end
@@ -242,8 +239,7 @@ loop-x-smaller c = omega (arith, c.loop-x-test.true)
 pub loop-x-preserved : goal.loop-x-preserved
 loop-x-preserved c =
     let so_far = c.loop-x.invariant in
-    let step = c.step_figures-more.ensures in
-    let more = step.1 ((star_of c.args.src.now)) (c.loop-x.x) (is (goal.at.loop-x-preserved c).Start) (low-plane (goal.at.loop-x-preserved c).After-move_down) c.fill_plane-in-loop-x.ensures (counts (goal.at.loop-x-preserved c).After-count_sheet-counts) in
+    let more = c.step_figures-more.ensures.1 ((star_of c.args.src.now)) (c.loop-x.x) (is (goal.at.loop-x-preserved c).Start) (low-plane (goal.at.loop-x-preserved c).After-move_down) c.fill_plane-in-loop-x.ensures (counts (goal.at.loop-x-preserved c).After-count_sheet-counts) in
     record {
       within = omega (arith, c.loop-x-test.true);
       cases_long = cases_long (goal.at.loop-x-preserved c).After-cases_between;
@@ -251,7 +247,7 @@ loop-x-preserved c =
       low-long = low-long (goal.at.loop-x-preserved c).After-move_down;
       high-long = high-long (goal.at.loop-x-preserved c).After-fill_plane-in-loop-x;
       plane = c.fill_plane-in-loop-x.ensures;
-      small = rw c.plus-figures.ensures (small_plus (c.loop-x.x + 1) 1 so_far.small step.0);
+      small = rw c.plus-figures.ensures (small_plus (c.loop-x.x + 1) 1 so_far.small c.step_figures-more.ensures.0);
       added = c.plus-figures.ensures ∙ ap₂ plus so_far.added more ∙ ap (planes_to ((star_of c.args.src.now))) (sym (add-one (c.loop-x.x)));
     }
 

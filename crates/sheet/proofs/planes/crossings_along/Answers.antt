@@ -57,16 +57,16 @@ pub loop-y-preserved : goal.loop-y-preserved
 loop-y-preserved c =
     let turn = c.loop-y in
     let a = c.args in
-    let more = c.crossings-found.ensures in (
+    (
       omega (arith, c.loop-y-test.true),
       (
-        omega (arith, more.1, turn.invariant.1.0, mul-add a.n turn.y 1),
+        omega (arith, c.crossings-found.ensures.1, turn.invariant.1.0, mul-add a.n turn.y 1),
         λ s x is p.
             let line =
             measured s a.n a.threshold
             (λ k t. crossing_sum t a.plane.now ((k + 1) * turn.y) a.plane.now ((k + 1) * turn.y + 1) k ≡ inLine s x turn.y) is
             (plane_along s x a.plane.now p turn.y (omega (arith, c.loop-y-test.true, is.subdivisions_are))) in
-            rw add-one (ap₂ ◌+◌ (turn.invariant.1.1 s x is p) (more.0 ∙ line)),
+            rw add-one (ap₂ ◌+◌ (turn.invariant.1.1 s x is p) (c.crossings-found.ensures.0 ∙ line)),
       ),
     )
 

@@ -39,27 +39,25 @@ insides-requires c =
 pub returns : goal.returns
 returns c =
     let a = c.args in
-    let up = c.crossings-y.ensures in
-    let along = c.crossings_along-z.ensures in
-    let in_all = c.insides.ensures in (
+    (
       record {
-        inside = omega (arith, in_all.1, few (goal.at.returns c).Start);
+        inside = omega (arith, c.insides.ensures.1, few (goal.at.returns c).Start);
         x = zero-le;
-        y = omega (arith, up.1, lines-few (goal.at.returns c).Start);
-        z = omega (arith, along.0);
+        y = omega (arith, c.crossings-y.ensures.1, lines-few (goal.at.returns c).Start);
+        z = omega (arith, c.crossings_along-z.ensures.0);
         vertices = zero-le;
         triangles = zero-le;
       },
       λ s x is p.
           let insides-are =
-          in_all.0
+          c.insides.ensures.0
           ∙ measured s a.n a.threshold
           (λ k t. total (λ j. inside_bit t (get_or a.plane.now j nan)) ((k + 1) * (k + 1)) ≡ square (inside_at s x) (subdivisions s + 1)) is
           (plane_inside s x a.plane.now p) in
           let up-are =
-          up.0
+          c.crossings-y.ensures.0
           ∙ measured s a.n a.threshold
           (λ k t. crossing_sum t a.plane.now 0 a.plane.now (k + 1) ((k + 1) * k) ≡ (plane_figures s x).edges.y) is
           (plane_up s x a.plane.now p) in
-          λ i. record { inside = insides-are i; edges = record { x = 0; y = up-are i; z = along.1 s x is p i }; vertices = 0; triangles = 0 },
+          λ i. record { inside = insides-are i; edges = record { x = 0; y = up-are i; z = c.crossings_along-z.ensures.1 s x is p i }; vertices = 0; triangles = 0 },
     )

@@ -23,20 +23,19 @@ crossings-x-requires c =
 pub returns : goal.returns
 returns c =
     let a = c.args in
-    let plane = c.plane_figures-plane.ensures in
-    let across = c.crossings-x.ensures in (
+    (
       record {
-        inside = plane.0.inside;
-        x = omega (arith, across.1, few (goal.at.returns c).Start);
-        y = plane.0.y;
-        z = plane.0.z;
+        inside = c.plane_figures-plane.ensures.0.inside;
+        x = omega (arith, c.crossings-x.ensures.1, few (goal.at.returns c).Start);
+        y = c.plane_figures-plane.ensures.0.y;
+        z = c.plane_figures-plane.ensures.0.z;
         vertices = omega (arith, c.requires.few.vertices);
         triangles = omega (arith, c.requires.few.triangles);
       },
       λ s x is p q counted.
-          let above = plane.1 s (x + 1) is q in
+          let above = c.plane_figures-plane.ensures.1 s (x + 1) is q in
           let across-are =
-          across.0
+          c.crossings-x.ensures.0
           ∙ measured s a.n a.threshold
           (λ k t. crossing_sum t a.low.now 0 a.high.now 0 ((k + 1) * (k + 1)) ≡ square (crosses_x s x) (subdivisions s + 1)) is
           (plane_across s x a.low.now a.high.now p q) in

@@ -18,8 +18,7 @@ loop-k-init c = (omega arith, (refl, omega arith))
 pub loop-k-preserved : goal.loop-k-preserved
 loop-k-preserved c =
     let turn = c.loop-k in
-    let found = c.inside_bit-found.ensures in
-    (omega (arith, c.loop-k-test.true), (rw add-one (ap₂ ◌+◌ turn.invariant.1.0 found.0), omega (arith, found.1)))
+    (omega (arith, c.loop-k-test.true), (rw add-one (ap₂ ◌+◌ turn.invariant.1.0 c.inside_bit-found.ensures.0), omega (arith, c.inside_bit-found.ensures.1)))
 
 pub returns : goal.returns
 returns c =

@@ -28,7 +28,7 @@ sides e = omega (arith, e.requires.0.sides, (mask_is e))
 n-few : (e : Start) → (e.args.header).block.subdivisions ≤ most_subdivisions
 n-few e = omega (arith, e.requires.0.few, (subdivisions_are e))
 
-still-long : (c : After-face_cases) → let after = c.face_cases.new.1.1.1 in (length after.0 ≡ sheet_places) × (length after.1.0 ≡ sheet_places)
+still-long : (c : After-face_cases) → (length c.face_cases.new.cases ≡ sheet_places) × (length c.face_cases.new.marks ≡ sheet_places)
 still-long c =
     let kept = c.face_cases.auto.1.1.1 in
     let before = c.loop-side.invariant.1.0 in
@@ -94,7 +94,6 @@ pub loop-side-preserved : goal.loop-side-preserved
 loop-side-preserved c =
     let l = c.loop-side in
     let so_far = l.invariant.1.1 in
-    let counted = c.count_sheet-more in
     let next = c.next_side-side-in-loop-side.ensures in
     let taken = c.loop-side-test.true in
     let is_named : named ((star_of c.args.src.now)).mask (c.loop-side.side) ≡ true = rw (mask_is (goal.at.loop-side-preserved c).Start) (l.invariant.0.1 taken) in (
@@ -103,11 +102,11 @@ loop-side-preserved c =
         still-long (goal.at.loop-side-preserved c).After-face_cases,
         rw c.plus-counts.ensures (
           record {
-            vertices = omega (arith, next.from_le, so_far.0.vertices, counted.ensures.0.vertices);
-            triangles = omega (arith, next.from_le, so_far.0.triangles, counted.ensures.0.triangles);
+            vertices = omega (arith, next.from_le, so_far.0.vertices, c.count_sheet-more.ensures.few.vertices);
+            triangles = omega (arith, next.from_le, so_far.0.triangles, c.count_sheet-more.ensures.few.triangles);
           },
-          sides_more ((star_of c.args.src.now)) (c.loop-side.side) c.next_side-side-in-loop-side.result l.counts counted.result
-              (counted.ensures.1 ((star_of c.args.src.now)) (subdivisions_are (goal.at.loop-side-preserved c).Start) (taken, is_named) c.face_cases.ensures)
+          sides_more ((star_of c.args.src.now)) (c.loop-side.side) c.next_side-side-in-loop-side.result l.counts c.count_sheet-more.result
+              (c.count_sheet-more.ensures.grows ((star_of c.args.src.now)) (subdivisions_are (goal.at.loop-side-preserved c).Start) (taken, is_named) c.face_cases.ensures)
               (rw (mask_is (goal.at.loop-side-preserved c).Start) next)
               so_far.1,
         ),

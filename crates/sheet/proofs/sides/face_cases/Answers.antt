@@ -23,8 +23,8 @@ record SoFar (src : List ℕ) (side n : ℕ) (cases marks : List ℕ) (samples :
   marked : Sheet (λ j k. mark_of all_transition (transition_case (star_of src) side j k)) n u marks
 
 -- the three lines have their places still
-still-long : (c : After-fill_lines) → length c.fill_lines.new.1.1.1.1.0 ≡ three_lines
-still-long c = c.fill_lines.auto.1.1.1.1.0 ∙ c.loop-u.invariant.samples-long
+still-long : (c : After-fill_lines) → length c.fill_lines.new.samples ≡ three_lines
+still-long c = c.fill_lines.auto.samples ∙ c.loop-u.invariant.samples-long
 
 pub loop-u-init : goal.loop-u-init
 loop-u-init c =
@@ -55,16 +55,15 @@ rows_on-requires c =
 pub loop-u-preserved : goal.loop-u-preserved
 loop-u-preserved c =
     let turn = c.loop-u in
-    let put = c.rows_on in
     let side = transition_case (star_of c.args.src.now) c.args.side in
     let on = face_cases c.args.src.now c.args.header c.args.side turn.u c.requires.accepted.1.0 _ c.fill_lines.ensures in
     record {
       within = omega (arith, c.loop-u-test.true);
-      cases_long = put.auto.1.1.1.1.1.0 ∙ turn.invariant.cases_long;
-      marks_long = put.auto.1.1.1.1.1.1.0 ∙ turn.invariant.marks_long;
+      cases_long = c.rows_on.auto.cases ∙ turn.invariant.cases_long;
+      marks_long = c.rows_on.auto.marks ∙ turn.invariant.marks_long;
       samples-long = still-long (goal.at.loop-u-preserved c).After-fill_lines;
-      numbers = put.ensures.0 side on turn.invariant.numbers;
-      marked = put.ensures.1.0 side on turn.invariant.marked;
+      numbers = c.rows_on.ensures.cases side on turn.invariant.numbers;
+      marked = c.rows_on.ensures.marks side on turn.invariant.marked;
     }
 
 pub shape_of-cases : goal.shape_of-cases

@@ -57,7 +57,7 @@ pub loop-i-preserved : goal.loop-i-preserved
 loop-i-preserved c =
     let turn = c.loop-i in
     let f = (line c.args.src.now c.args.header c.args.side c.args.u) in
-    let put : c.fill_line.new.1.1.0 ≡ sets c.args.samples.now 0 (gather f (turn.i + 1)) =
+    let put : c.fill_line.new.samples ≡ sets c.args.samples.now 0 (gather f (turn.i + 1)) =
     c.fill_line.ensures
     ∙ ap₂ (λ (l : List Float) (g : Line). sets l ((2 * c.args.header.block.subdivisions + 1) * turn.i) (line_samples c.args.src.now g)) turn.invariant.2 c.fine_line-line.ensures
     ∙ ap (λ (at : ℕ). sets (sets c.args.samples.now 0 (gather f turn.i)) at (f turn.i)) (sym (zero-add ((2 * c.args.header.block.subdivisions + 1) * turn.i)))

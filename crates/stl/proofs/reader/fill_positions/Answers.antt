@@ -48,7 +48,7 @@ loop-t-preserved c =
     let turn = c.loop-t in
     let start = c.args in
     let corners = corners_in start.bytes.now in
-    let put : c.fill_corners.new.1.1.0 ≡ sets start.positions.now 0 (gather corners (turn.t + 1)) =
+    let put : c.fill_corners.new.positions ≡ sets start.positions.now 0 (gather corners (turn.t + 1)) =
     c.fill_corners.ensures
     ∙ ap₂ (λ (l : List Float) (from : ℕ). sets l (float_count * turn.t) (listed (λ k. little_float_at start.bytes.now (from + normal_length + 4 * k)) float_count)) turn.invariant.2 c.file_length-from.ensures
     ∙ ap (λ (i : ℕ). sets (sets start.positions.now 0 (gather corners turn.t)) i (corners turn.t)) (sym (zero-add (float_count * turn.t)))

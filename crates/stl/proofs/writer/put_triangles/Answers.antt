@@ -34,7 +34,7 @@ loop-t-preserved c =
     let turn = c.loop-t in
     let start = c.args in
     let facet = facet_of start.vertices.now start.triangles.now in
-    let put : c.put_triangle.new.0 ≡ sets start.bytes.now start_length (gather facet (turn.t + 1)) =
+    let put : c.put_triangle.new.bytes ≡ sets start.bytes.now start_length (gather facet (turn.t + 1)) =
     c.put_triangle.ensures
     ∙ ap₂ (λ (l : List ℕ) (at : ℕ). sets l at (facet turn.t)) turn.invariant.2 c.file_length.ensures
     ∙ sets_gather facet triangle_length (length_facet start.vertices.now start.triangles.now) start.bytes.now start_length turn.t in

@@ -27,4 +27,4 @@ pub returns : goal.returns
 returns c =
     let args = c.args in
     all_put args.bytes.now args.sizes args.n args.first c.fill_steps.ensures c.fill_steps-2.ensures c.fill_steps-3.ensures
-    args.samples.now c.put_block.new.1.1.1.1.0 c.put_block.ensures c.requires.1 c.put_block.auto.1.1.1.1.0
+    args.samples.now c.put_block.new.samples c.put_block.ensures c.requires.1 c.put_block.auto.samples

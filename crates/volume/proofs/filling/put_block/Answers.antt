@@ -6,16 +6,16 @@ use Rattle.volume.proofs.filling.put_block.Goals as goal
 pub put_faces-requires : goal.put_faces-requires
 put_faces-requires c =
     let pre = c.requires in
-    (pre.few, rw c.put_squares.auto.1.1.1.1.0 pre.faces_y)
+    (pre.few, rw c.put_squares.auto.samples pre.faces_y)
 
 pub put_faces-requires-2 : goal.put_faces-requires-2
 put_faces-requires-2 c =
     let pre = c.requires in
-    (pre.few, rw (c.put_faces.auto.1.1.1.1.0 ∙ c.put_squares.auto.1.1.1.1.0) pre.faces_z)
+    (pre.few, rw (c.put_faces.auto.samples ∙ c.put_squares.auto.samples) pre.faces_z)
 
 pub returns : goal.returns
 returns c =
     let args = c.args in
-    block_put args.n args.bytes.now args.xs.now args.ys.now args.zs.now args.samples.now c.put_squares.new.1.1.1.1.0
-    c.put_faces.new.1.1.1.1.0 c.put_faces-2.new.1.1.1.1.0 c.put_squares.ensures c.put_faces.ensures
+    block_put args.n args.bytes.now args.xs.now args.ys.now args.zs.now args.samples.now c.put_squares.new.samples
+    c.put_faces.new.samples c.put_faces-2.new.samples c.put_squares.ensures c.put_faces.ensures
     c.put_faces-2.ensures

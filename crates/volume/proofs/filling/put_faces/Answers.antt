@@ -64,9 +64,9 @@ loop-side-preserved c =
     let turn = c.loop-side in
     let args = c.args in (
       omega arith,
-      c.put_line.auto.1.1.1.1.0 ∙ turn.invariant.1,
+      c.put_line.auto.samples ∙ turn.invariant.1,
       faces_more args.n args.bytes.now args.xs.now args.across.now args.along.now args.square args.samples.now turn.side
-          turn.samples c.put_line.new.1.1.1.1.0 c.put_line.ensures turn.invariant.2,
+          turn.samples c.put_line.new.samples c.put_line.ensures turn.invariant.2,
     )
 
 pub shape_of-samples : goal.shape_of-samples

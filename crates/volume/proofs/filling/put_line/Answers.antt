@@ -50,9 +50,9 @@ pub loop-j-preserved : goal.loop-j-preserved
 loop-j-preserved c =
     let turn = c.loop-j in
     let args = c.args in
-    let after = c.put_column.new.1.1.1.0 in (
+    let after = c.put_column.new.samples in (
       omega arith,
-      c.put_column.auto.1.1.1.0 ∙ turn.invariant.1,
+      c.put_column.auto.samples ∙ turn.invariant.1,
       line_more args.bytes.now args.xs.now args.fixed args.along.now args.at args.wide args.rows args.samples.now turn.j
           turn.samples after (omega (arith, c.requires.narrow)) c.put_column.ensures turn.invariant.2,
     )

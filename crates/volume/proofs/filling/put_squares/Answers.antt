@@ -55,9 +55,9 @@ loop-y-preserved c =
     let turn = c.loop-y in
     let args = c.args in (
       omega arith,
-      c.put_line.auto.1.1.1.1.0 ∙ turn.invariant.1,
+      c.put_line.auto.samples ∙ turn.invariant.1,
       squares_more args.n args.bytes.now args.xs.now args.ys.now args.zs.now args.samples.now turn.y turn.samples
-          c.put_line.new.1.1.1.1.0 (omega arith) c.put_line.ensures turn.invariant.2,
+          c.put_line.new.samples (omega arith) c.put_line.ensures turn.invariant.2,
     )
 
 pub shape_of-samples : goal.shape_of-samples

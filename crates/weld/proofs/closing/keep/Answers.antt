@@ -13,11 +13,10 @@ returns-then-at-k c =
 pub returns : goal.returns
 returns c =
     let a = c.args in
-    let note = c.note in
     let f = le-ltb a.at a.k c.if-at-k.false in
     record {
       count_is = rw f;
       edges_are = rw f;
       vertices_are = rw f c.move_down.ensures;
-      c = noted_more a.seen.now note.new.0 a.edges.now a.k a.number (omega arith) note.ensures;
+      c = noted_more a.seen.now c.note.new.seen a.edges.now a.k a.number (omega arith) c.note.ensures;
     }

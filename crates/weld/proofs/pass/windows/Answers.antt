@@ -21,20 +21,18 @@ room : (c : After-window_end-end) → let l = c.loop-start in
 room c =
     let l = c.loop-start in
     let given = c.requires.fits in
-    let end = c.window_end-end.ensures in
     let as_long = l.invariant.as_long in
     record {
       few = l.invariant.few;
-      ordered = omega (arith, end.0);
-      in_table = omega (arith, end.1.1, as_long.table_same, l.invariant.places_are);
-      short = omega (arith, end.1.0, given.short);
-      in_edges = omega (arith, end.1.0, given.in_edges, as_long.edges_same);
-      in_vertices = omega (arith, end.1.0, given.in_vertices, as_long.vertices_same);
+      ordered = omega (arith, c.window_end-end.ensures.0);
+      in_table = omega (arith, c.window_end-end.ensures.1.1, as_long.table_same, l.invariant.places_are);
+      short = omega (arith, c.window_end-end.ensures.1.0, given.short);
+      in_edges = omega (arith, c.window_end-end.ensures.1.0, given.in_edges, as_long.edges_same);
+      in_vertices = omega (arith, c.window_end-end.ensures.1.0, given.in_vertices, as_long.vertices_same);
     }
 
 -- it is closed, and all five lists are as long as they were
-still-long : (c : After-close-k) → let l = c.loop-start in let last = c.close-k.new.1.1.1 in
-    AsLong l.vertices last.0 l.edges last.1.0 l.seen last.1.1.0 l.hints last.1.1.1.0 l.table last.1.1.1.1.0
+still-long : (c : After-close-k) → let l = c.loop-start in AsLong l.vertices c.close-k.new.vertices l.edges c.close-k.new.edges l.seen c.close-k.new.seen l.hints c.close-k.new.hints l.table c.close-k.new.table
 still-long c =
     let kept = c.close-k.auto.1.1.1 in
     record { vertices_same = kept.0; edges_same = kept.1.0; seen_same = kept.1.1.0; hints_same = kept.1.1.1.0; table_same = kept.1.1.1.1.0 }
@@ -71,16 +69,13 @@ pub loop-start-preserved : goal.loop-start-preserved
 loop-start-preserved c =
     let a = c.args in
     let l = c.loop-start in
-    let end = c.window_end-end in
-    let close = c.close-k in
-    let renumber = c.renumber in
     let as_long = l.invariant.as_long in
     let still = still-long (goal.at.loop-start-preserved c).After-close-k in
     record {
-      within = end.ensures.1.0;
-      few = close.ensures.within;
+      within = c.window_end-end.ensures.1.0;
+      few = c.close-k.ensures.within;
       places_are = l.invariant.places_are;
-      triangles_same = renumber.auto.1.1.1.0 ∙ l.invariant.triangles_same;
+      triangles_same = c.renumber.auto.triangles ∙ l.invariant.triangles_same;
       as_long = record {
         vertices_same = still.vertices_same ∙ as_long.vertices_same;
         edges_same = still.edges_same ∙ as_long.edges_same;
@@ -88,9 +83,9 @@ loop-start-preserved c =
         hints_same = still.hints_same ∙ as_long.hints_same;
         table_same = still.table_same ∙ as_long.table_same;
       };
-      noted = close.ensures.noted;
-      welded = all_welded_more l.start end.result a.vertices.now a.triangles.now a.edges.now l.k l.vertices l.triangles l.edges
-          (room (goal.at.loop-start-preserved c).After-window_end-end).ordered as_long.edges_same as_long.vertices_same l.invariant.welded close.result _ _ _ _ _ close.ensures renumber.ensures;
+      noted = c.close-k.ensures.noted;
+      welded = all_welded_more l.start c.window_end-end.result a.vertices.now a.triangles.now a.edges.now l.k l.vertices l.triangles l.edges
+          (room (goal.at.loop-start-preserved c).After-window_end-end).ordered as_long.edges_same as_long.vertices_same l.invariant.welded c.close-k.result _ _ _ _ _ c.close-k.ensures c.renumber.ensures;
     }
 
 pub shape_of-vertices : goal.shape_of-vertices

@@ -18,5 +18,4 @@ overflow_cast-hint c = omega (arith, c.shared_slice_known-4-1.given c.slot.resul
 
 pub returns : goal.returns
 returns c =
-    let found = c.look.ensures in
-    record { within = found.within; has = found.has; regular = λ l q. omega arith; new = λ q _. found.none q }
+    record { within = c.look.ensures.within; has = c.look.ensures.has; regular = λ l q. omega arith; new = λ q _. c.look.ensures.none q }

@@ -5,5 +5,4 @@ use Rattle.weld.proofs.seen.note.Goals as goal
 pub returns : goal.returns
 returns c =
     let a = c.args in
-    let slot = c.slot-word in
-    rw slot.ensures.0 (marked a.seen.now a.number (rw slot.ensures.0 at slot.ensures.1))
+    rw c.slot-word.ensures.0 (marked a.seen.now a.number (rw c.slot-word.ensures.0 at c.slot-word.ensures.1))
