@@ -20,9 +20,8 @@ use Rattle.counting.proofs.count_named_sides.Goals.{After-face_cases}
 -- the sheet and its marks are as long as they were
 still-long : (c : After-face_cases) → (length c.face_cases.new.cases ≡ sheet_places) × (length c.face_cases.new.marks ≡ sheet_places)
 still-long c =
-    let kept = c.face_cases.auto.1.1.1 in
     let before = c.loop-side.invariant.2 in
-    (kept.0 ∙ before.cases_long, kept.1.0 ∙ before.marks_long)
+    (c.face_cases.auto.cases ∙ before.cases_long, c.face_cases.auto.marks ∙ before.marks_long)
 
 -- they hold the side, whatever the block's own samples are
 held : (c : After-face_cases) → (centre : List Float) → let a = c.args in

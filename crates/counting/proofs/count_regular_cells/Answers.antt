@@ -19,9 +19,8 @@ use Rattle.counting.proofs.count_regular_cells.Goals.{After-layer_cases}
 -- the pairs, the sheet and its marks are as long as they were
 still-long : (c : After-layer_cases) → (length c.layer_cases.new.pairs ≡ sheet_places) × ((length c.layer_cases.new.cases ≡ sheet_places) × (length c.layer_cases.new.marks ≡ sheet_places))
 still-long c =
-    let kept = c.layer_cases.auto.1.1.1 in
     let before = c.loop-x.invariant in
-    (kept.0 ∙ c.pair_at.auto.pairs ∙ before.1, (kept.1.0 ∙ before.3.cases_long, kept.1.1.0 ∙ before.3.marks_long))
+    (c.layer_cases.auto.pairs ∙ c.pair_at.auto.pairs ∙ before.1, (c.layer_cases.auto.cases ∙ before.3.cases_long, c.layer_cases.auto.marks ∙ before.3.marks_long))
 
 -- the sheet and its marks hold the layer, whatever the neighbours are
 held : (c : After-layer_cases) → (ns : List Float) → let l = c.loop-x in

@@ -31,5 +31,4 @@ pass-kept-requires c =
 pub returns : goal.returns
 returns c =
     let a = c.args in
-    let last = c.pass-kept.last.1 in
-    all_passed a.v a.t a.vertices.now a.triangles.now a.edges.now (lists (goal.at.returns c).In_default) c.pass-kept.result last.0 last.1.0 last.1.1.0 c.pass-kept.ensures
+    all_passed a.v a.t a.vertices.now a.triangles.now a.edges.now (lists (goal.at.returns c).In_default) c.pass-kept.result c.pass-kept.new.vertices c.pass-kept.new.triangles c.pass-kept.new.edges c.pass-kept.ensures

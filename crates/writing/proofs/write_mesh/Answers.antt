@@ -11,23 +11,17 @@ use Rattle.writing.proofs.Reading.{read_all}
 use Rattle.writing.proofs.write_mesh.Goals as goal
 use Rattle.writing.proofs.write_mesh.Goals.{After-write_regular_cells-regular, After-write_transition_cells-all}
 
-same : (c : After-write_regular_cells-regular) → let a = c.args in let after = c.write_regular_cells-regular.new.1.1.1.1.1 in
-    SameLengths a.vertices.now after.1.0 a.triangles.now after.1.1.0 a.store.now after.0 a.edges.now after.1.1.1.0
+same : (c : After-write_regular_cells-regular) → let a = c.args in SameLengths a.vertices.now c.write_regular_cells-regular.new.vertices a.triangles.now c.write_regular_cells-regular.new.triangles a.store.now c.write_regular_cells-regular.new.store a.edges.now c.write_regular_cells-regular.new.edges
 same c =
-    let kept = c.write_regular_cells-regular.auto.1.1.1.1.1 in
-    record { vertices_same = kept.1.0; triangles_same = kept.1.1.0; store_same = kept.0 ∙ c.clear.auto.store; edges_same = kept.1.1.1.0 }
+    record { vertices_same = c.write_regular_cells-regular.auto.vertices; triangles_same = c.write_regular_cells-regular.auto.triangles; store_same = c.write_regular_cells-regular.auto.store ∙ c.clear.auto.store; edges_same = c.write_regular_cells-regular.auto.edges }
 
-same_at_after_write_transition_cells_all : (c : After-write_transition_cells-all) → let a = c.args in let after = c.write_regular_cells-regular.new.1.1.1.1.1 in
-    SameLengths a.vertices.now after.1.0 a.triangles.now after.1.1.0 a.store.now after.0 a.edges.now after.1.1.1.0
+same_at_after_write_transition_cells_all : (c : After-write_transition_cells-all) → let a = c.args in SameLengths a.vertices.now c.write_regular_cells-regular.new.vertices a.triangles.now c.write_regular_cells-regular.new.triangles a.store.now c.write_regular_cells-regular.new.store a.edges.now c.write_regular_cells-regular.new.edges
 same_at_after_write_transition_cells_all c =
-    let kept = c.write_regular_cells-regular.auto.1.1.1.1.1 in
-    record { vertices_same = kept.1.0; triangles_same = kept.1.1.0; store_same = kept.0 ∙ c.clear.auto.store; edges_same = kept.1.1.1.0 }
+    record { vertices_same = c.write_regular_cells-regular.auto.vertices; triangles_same = c.write_regular_cells-regular.auto.triangles; store_same = c.write_regular_cells-regular.auto.store ∙ c.clear.auto.store; edges_same = c.write_regular_cells-regular.auto.edges }
 
-same-still : (t : After-write_transition_cells-all) → let a = t.args in let after = t.write_transition_cells-all.new.1.1.1.1.1 in
-    SameLengths a.vertices.now after.1.0 a.triangles.now after.1.1.0 a.store.now after.0 a.edges.now after.1.1.1.0
+same-still : (t : After-write_transition_cells-all) → let a = t.args in SameLengths a.vertices.now c.write_regular_cells-regular.new.vertices a.triangles.now c.write_regular_cells-regular.new.triangles a.store.now c.write_regular_cells-regular.new.store a.edges.now c.write_regular_cells-regular.new.edges
 same-still t =
-    let kept = t.write_transition_cells-all.auto.1.1.1.1.1 in
-    same_then (same_at_after_write_transition_cells_all t) (record { vertices_same = kept.1.0; triangles_same = kept.1.1.0; store_same = kept.0; edges_same = kept.1.1.1.0 })
+    same_then (same_at_after_write_transition_cells_all t) (record { vertices_same = c.write_regular_cells-regular.auto.vertices; triangles_same = c.write_regular_cells-regular.auto.triangles; store_same = c.write_regular_cells-regular.auto.store; edges_same = c.write_regular_cells-regular.auto.edges })
 
 pub write_regular_cells-regular-requires : goal.write_regular_cells-regular-requires
 write_regular_cells-regular-requires c =

@@ -25,9 +25,8 @@ below c = omega (arith, c.loop-side-test.true)
 -- the sheet and its marks are as long as they were
 still-long : (c : After-face_cases-reads) → (length c.face_cases-reads.new.cases ≡ sheet_places) × (length c.face_cases-reads.new.marks ≡ sheet_places)
 still-long c =
-    let kept = c.face_cases-reads.auto.1.1.1 in
     let before = c.loop-side.invariant.2 in
-    (kept.0 ∙ before.cases_long, kept.1.0 ∙ before.marks_long)
+    (c.face_cases-reads.auto.cases ∙ before.cases_long, c.face_cases-reads.auto.marks ∙ before.marks_long)
 
 -- they hold the side
 held : (c : After-face_cases-reads) → Held ((star c.args.header c.args.centre.now c.args.neighbours.now)) (Side c.loop-side.side) c.args.header.block.subdivisions [] c.face_cases-reads.new.cases c.face_cases-reads.new.marks

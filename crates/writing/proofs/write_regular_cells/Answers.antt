@@ -20,9 +20,8 @@ use Rattle.writing.proofs.write_regular_cells.Goals.{After-layer_cases-reads}
 -- the sheet and its marks are as long as they were
 still-long : (c : After-layer_cases-reads) → (length c.layer_cases-reads.new.cases ≡ sheet_places) × (length c.layer_cases-reads.new.marks ≡ sheet_places)
 still-long c =
-    let kept = c.layer_cases-reads.auto.1.1.1 in
     let before = c.loop-x.invariant.2 in
-    (kept.0 ∙ before.cases_long, kept.1.0 ∙ before.marks_long)
+    (c.layer_cases-reads.auto.cases ∙ before.cases_long, c.layer_cases-reads.auto.marks ∙ before.marks_long)
 
 -- they hold the layer
 held : (c : After-layer_cases-reads) → Held ((star c.args.header c.args.centre.now c.args.neighbours.now)) (Layer c.loop-x.x) c.args.header.block.subdivisions c.layer_cases-reads.new.cases [] c.layer_cases-reads.new.marks

@@ -30,9 +30,8 @@ n-few e = omega (arith, e.requires.0.few, (subdivisions_are e))
 
 still-long : (c : After-face_cases) → (length c.face_cases.new.cases ≡ sheet_places) × (length c.face_cases.new.marks ≡ sheet_places)
 still-long c =
-    let kept = c.face_cases.auto.1.1.1 in
     let before = c.loop-side.invariant.1.0 in
-    (kept.0 ∙ before.0, kept.1.0 ∙ before.1)
+    (c.face_cases.auto.cases ∙ before.0, c.face_cases.auto.marks ∙ before.1)
 
 pub next_side-side-requires : goal.next_side-side-requires
 next_side-side-requires c = (sides (goal.at.next_side-side-requires c).Start, omega arith)

@@ -49,6 +49,6 @@ returns c =
     let laid-down =
     c.put_triangles.ensures
     ∙ ap (λ (l : List ℕ). sets l start_length (gather (facet_of (c.args.vertices.now) (c.args.triangles.now)) count)) c.put_start.ensures
-    ∙ file_laid (c.args.vertices.now) (c.args.triangles.now) (c.args.bytes.now) (is-writable (goal.at.returns c).In_default).ranges in
+    ∙ file_laid (c.args.vertices.now) (c.args.triangles.now) (c.args.bytes.now) (is-writable (goal.at.returns c).In_default).fits in
     (λ i. record { answer = StlWritten.Bytes (c.file_length.ensures i); bytes = laid-down i })
     ∙ sym (ap (write_answer (c.args.vertices.now) (c.args.triangles.now) (c.args.bytes.now)) (passed (goal.at.returns c).In_default))

@@ -3,4 +3,4 @@ use Rattle.volume.proofs.places.nearest_point.Goals as goal
 
 pub returns : goal.returns
 returns c =
-    λ i. record { c = c.nearest.ensures.0 i; c = c.nearest-2.ensures.0 i; z = c.nearest-3.ensures.0 i }
+    λ i. record { x = c.nearest.ensures.0 i; y = c.nearest-2.ensures.0 i; z = c.nearest-3.ensures.0 i }

@@ -82,20 +82,19 @@ loop-i-preserved c =
     let a = c.args in
     let l = c.loop-i in
     let as_long = l.invariant.1.0 in
-    let still = c.keep-k.auto.1.1.1.1 in
-    let last = c.keep-k.last.1.1.1.1 in (
+    (
       (omega (arith, l.invariant.0.0), omega (arith, c.loop-i-test.true)),
       (
         record {
-          vertices_same = still.0 ∙ as_long.vertices_same;
-          edges_same = still.1.0 ∙ as_long.edges_same;
-          seen_same = still.1.1.0 ∙ as_long.seen_same;
+          vertices_same = c.keep-k.auto.vertices ∙ as_long.vertices_same;
+          edges_same = c.keep-k.auto.edges ∙ as_long.edges_same;
+          seen_same = c.keep-k.auto.seen ∙ as_long.seen_same;
           hints_same = simp length-set as_long.hints_same;
           table_same = simp length-set as_long.table_same;
         },
         window_more a.start l.i a.first l.k c.place_of-at.result a.vertices.now a.edges.now l.vertices l.edges l.seen l.table
             l.invariant.0.0 (in_edges (goal.at.loop-i-preserved c).In-loop-i) (in_vertices (goal.at.loop-i-preserved c).In-loop-i) as_long.edges_same as_long.vertices_same (in_table (goal.at.loop-i-preserved c).In-loop-i) l.invariant.1.1 c.place_of-at.ensures
-            c.keep-k.result last.0 last.1.0 last.1.1.0 c.keep-k.ensures,
+            c.keep-k.result c.keep-k.new.vertices c.keep-k.new.edges c.keep-k.new.seen c.keep-k.ensures,
       ),
     )
 

@@ -18,5 +18,5 @@ returns c =
       count_is = rw f;
       edges_are = rw f;
       vertices_are = rw f c.move_down.ensures;
-      c = noted_more a.seen.now c.note.new.seen a.edges.now a.k a.number (omega arith) c.note.ensures;
+      noted = noted_more a.seen.now c.note.new.seen a.edges.now a.k a.number (omega arith) c.note.ensures;
     }

@@ -34,8 +34,7 @@ room c =
 -- it is closed, and all five lists are as long as they were
 still-long : (c : After-close-k) → let l = c.loop-start in AsLong l.vertices c.close-k.new.vertices l.edges c.close-k.new.edges l.seen c.close-k.new.seen l.hints c.close-k.new.hints l.table c.close-k.new.table
 still-long c =
-    let kept = c.close-k.auto.1.1.1 in
-    record { vertices_same = kept.0; edges_same = kept.1.0; seen_same = kept.1.1.0; hints_same = kept.1.1.1.0; table_same = kept.1.1.1.1.0 }
+    record { vertices_same = c.close-k.auto.vertices; edges_same = c.close-k.auto.edges; seen_same = c.close-k.auto.seen; hints_same = c.close-k.auto.hints; table_same = c.close-k.auto.table }
 
 pub loop-start-init : goal.loop-start-init
 loop-start-init c =
