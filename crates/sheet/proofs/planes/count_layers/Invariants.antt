@@ -4,7 +4,7 @@ use Prim.Native.Nat.{◌-◌}
 use Rattle.sheet.proofs.planes.count_layers.Given as goal
 
 abbrev pub invariant-loop-x : goal.invariant-loop-x
-invariant-loop-x l = SoFar l.src l.n l.marks l.low l.high l.figures l.x x
+invariant-loop-x l = SoFar l.src l.n l.cases l.marks l.low l.high l.figures l.x
 
 abbrev pub decreases-loop-x : goal.decreases-loop-x
-decreases-loop-x l = l.n - x
+decreases-loop-x l = l.n - l.x
