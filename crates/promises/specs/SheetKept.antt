@@ -35,7 +35,7 @@ use Rattle.sheet.specs.declared.SheetTotal.{SheetTotal}
 use Rattle.sheet.specs.declared.SheetTotal.TheVariants as SheetTotal
 use Rattle.sheet.specs.Definition.{is_inside, inside_at, inside_samples, crosses, crosses_x, crosses_y, crosses_z, x_edges, y_edges, z_edges, figures_of, judge_line, line_by, line_of, row_of, rows_of, adds, total_of, most_run, line_answer, sheet_line, sheet_total}
 use Rattle.sheet.specs.Rows.{carries_vertex, row_at, begin_of, AtMost}
-use Rattle.sheet.specs.Counted.{vertices_are, triangles_are}
+use Rattle.sheet.proofs.Counted.{vertices_are, triangles_are}
 use Rattle.sheet.specs.Crossed.{crossed_edges, carried_small}
 use Rattle.sheet.specs.Grids.{box_most}
 use Rattle.sheet.specs.Runs.{row_bytes, covered, found, begin_next, row_right}

@@ -1,1 +1,3 @@
+pub mod CellCounts
+pub mod Counted
 pub mod Pinned

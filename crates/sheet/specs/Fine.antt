@@ -1,36 +1,28 @@
 -- The three fine lines that a row of transition cells lies on, one after another in a list: the cells' numbers are the model's. And what the sides'
 -- cells add is the definition's sum over the named sides.
 use Rattle.std.specs.Prelude.{◌≡◌, List, ℕ, ◌+◌, ◌*◌, ◌≤◌, ◌<◌, Float, length, get_or}
-use Rattle.std.proofs.Math.Path.{refl}
-use Rattle.std.proofs.Common.{sym, ap, ap₂, ◌∙◌, subst, add-zero, mul_comm, mul-le-mul, mul-le-mul_left, le_of_suc-le-suc, add-one, arith}
+use Rattle.std.proofs.Common.{sym, ap, ◌∙◌, subst, add-zero, mul_comm, mul-le-mul, mul-le-mul_left, le_of_suc-le-suc, arith}
 use Rattle.std.specs.Float.{nan}
 use Rattle.std.proofs.Math.ListN.{get_or-append}
 use Rattle.std.proofs.lemmas.List.Edits.{sets}
 use Rattle.laws.specs.Steps.{total, listed, laid}
 use Rattle.laws.specs.Counting.{gather}
 use Rattle.laws.specs.Gathered.{length_gather, get_d_gather}
-use Rattle.laws.specs.Sums.{total_skip}
 use Rattle.laws.specs.Lists.{length_listed, get_d_listed, sets_first}
 use Rattle.model.specs.declared.Counts.{Counts}
 use Rattle.model.specs.declared.Header.{Header}
-use Rattle.model.specs.Limits.{most_subdivisions, side_count}
-use Rattle.model.specs.Sides.{named}
+use Rattle.model.specs.Limits.{most_subdivisions}
 use Rattle.model.specs.Star.{Star, subdivisions}
 use Rattle.model.specs.Points.{fine_sample, transition_case}
-use Rattle.model.specs.Mesh.{empty_mesh, transition_side}
 use Rattle.model.specs.Record.{header_of, count_of, samples_of, star_of}
 use Rattle.model.specs.OverCells.{over_side, triangles_on_side}
 use Rattle.grid.specs.declared.face_walk.FaceWalk.{FaceWalk}
 use Rattle.grid.specs.Walks.{along_by}
-use Rattle.grid.specs.SideLaws.{NextSide}
 use Rattle.lines.specs.declared.Line.{Line}
 use Rattle.lines.specs.Lines.{by_one, place_on, OnLine, NamedSide, fine_line, fine_on, fine_read}
 use Rattle.cases.specs.Faces.{lines_at, Walked, OnWalk}
 use Rattle.cases.specs.Fine.{cells_are}
-use Rattle.counting.specs.Counting.{Grows}
-use Rattle.counting.specs.Counting as Counting
 use Rattle.sheet.specs.Definition.{made_on_side}
-use Rattle.sheet.specs.Counted.{side_vertices, side_triangles}
 
 -- the places that three fine lines have room for
 abbrev pub three_lines : ℕ
@@ -149,28 +141,3 @@ module _ (bytes : List ℕ) (side u : ℕ) where
 pub record SideCounts (s : Star) (k : ℕ) (counts : Counts) : Type 0 where
   pub vertices_are : counts.vertices ≡ total (over_side s (made_on_side s)) k
   pub triangles_are : counts.triangles ≡ total (over_side s (triangles_on_side s)) k
-
-module _ (s : Star) where
-  -- sides that are not named add nothing
-  skip : (parts : ℕ → ℕ → ℕ → ℕ) (from to : ℕ) → NextSide s.mask from to → total (over_side s parts) from ≡ total (over_side s parts) to
-  skip parts from to step = sym (total_skip (over_side s parts) from to step.from_le (λ i l h. rw (step.none_between i l h)))
-
-  pub sides_start : (side : ℕ) → NextSide s.mask 0 side → SideCounts s side (record { vertices = 0; triangles = 0 })
-  sides_start side step = record { vertices_are = skip (made_on_side s) 0 side step; triangles_are = skip (triangles_on_side s) 0 side step }
-
-  pub sides_more : (side next : ℕ) (counts more : Counts) → Grows (transition_side s side) more → NextSide s.mask (side + 1) next
-      → SideCounts s side counts → SideCounts s next (Counting.plus counts more)
-  sides_more side next counts more g step so_far =
-      let m = empty_mesh (subdivisions s) in
-      record {
-        vertices_are = added (over_side s (made_on_side s)) (omega (arith, g.vertices m, side_vertices s side m)) so_far.vertices_are ∙ skip (made_on_side s) (side + 1) next step;
-        triangles_are = added (over_side s (triangles_on_side s)) (omega (arith, g.triangles m, side_triangles s side m)) so_far.triangles_are
-            ∙ skip (triangles_on_side s) (side + 1) next step;
-      }
-    where
-      added : (f : ℕ → ℕ) {a b : ℕ} → b ≡ f side → a ≡ total f side → a + b ≡ total f (side + 1)
-      added f e so_far = rw add-one (ap₂ ◌+◌ so_far e)
-
-  pub no_sides : s.mask ≡ 0 → SideCounts s side_count (record { vertices = 0; triangles = 0 })
-  unfolding named
-  no_sides e = rw e (record { vertices_are = refl; triangles_are = refl })

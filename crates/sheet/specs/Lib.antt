@@ -2,7 +2,6 @@
 pub mod Definition
 pub mod Rows
 -- the figures and the mesh
-pub mod Counted
 pub mod Grids
 pub mod Crossed
 -- a run

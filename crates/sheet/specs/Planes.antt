@@ -17,17 +17,14 @@ use Rattle.model.specs.Samples.{sample_length, in_block, value_of, value_at, sam
 use Rattle.model.specs.Rotations.{xyz}
 use Rattle.model.specs.Formulas.{inside, inside_bit}
 use Rattle.model.specs.Star.{Star, subdivisions}
-use Rattle.model.specs.Mesh.{empty_mesh, regular_layer}
 use Rattle.model.specs.OverCells.{triangles_at}
 use Rattle.model.specs.Record.{header_of, count_of, samples_of, star_of}
 use Rattle.grid.specs.Places.{in_block_lem}
 use Rattle.grid.specs.Kinds.{in_block_reading_lem}
 use Rattle.cases.specs.Sheets.{Measured, Plane}
 use Rattle.cases.specs.RowPlaces.{row_before}
-use Rattle.counting.specs.Counting.{Grows}
 use Rattle.sheet.specs.declared.Figures.{Figures}
 use Rattle.sheet.specs.Definition.{inside_at, inside_samples, crosses_x, crosses_y, crosses_z, x_edges, y_edges, z_edges, made_at, plus}
-use Rattle.sheet.specs.Counted.{layer_vertices, layer_triangles}
 
 -- the places that a plane has room for
 abbrev pub plane_places : ℕ
@@ -116,14 +113,6 @@ module _ (s : Star) where
 pub record LayerCounts (s : Star) (x : ℕ) (counts : Counts) : Type 0 where
   pub vertices_are : counts.vertices ≡ square (made_at s x) (subdivisions s)
   pub triangles_are : counts.triangles ≡ square (triangles_at s x) (subdivisions s)
-
-pub layer_counts : (s : Star) (x : ℕ) (counts : Counts) → Grows (regular_layer s x) counts → LayerCounts s x counts
-layer_counts s x counts g =
-    let m = empty_mesh (subdivisions s) in
-    record {
-      vertices_are = omega (arith, g.vertices m, layer_vertices s x m);
-      triangles_are = omega (arith, g.triangles m, layer_triangles s x m);
-    }
 
 -- ---- a list of samples that is a plane
 

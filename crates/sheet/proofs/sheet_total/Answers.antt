@@ -45,8 +45,7 @@ loop-at-smaller c =
 
 pub loop-at-preserved : goal.loop-at-preserved
 loop-at-preserved c =
-    let so_far = c.loop-at.invariant.1 in
-    (
+    let so_far = c.loop-at.invariant.1 in (
       omega (arith, c.line_at-found.ensures.1.1, ends-in (goal.at.loop-at-preserved c).In-loop-at),
       (
         rw (c.with_line-sum.ensures, c.line_at-found.ensures.1.1) (small_more (c.loop-at.at) ((length (row_of (drop (c.loop-at.at) (c.args.run.now))).bytes)) c.line_at-found.result.line (some (goal.at.loop-at-preserved c).In-loop-at) so_far.0 c.line_at-found.ensures.0),

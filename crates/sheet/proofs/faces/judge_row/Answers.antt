@@ -35,10 +35,13 @@ pub loop-v-init : goal.loop-v-init
 loop-v-init c = (omega arith, refl)
 
 pub spot_agrees-requires : goal.spot_agrees-requires
-spot_agrees-requires c = record { accepted = (c.requires.0, omega (arith, on_row c, c.requires.1.1.0.few)); on_line = (
+spot_agrees-requires c = record {
+  accepted = (c.requires.0, omega (arith, on_row c, c.requires.1.1.0.few));
+  on_line = (
     rw c.coarse_line-coarse.ensures ((lined (goal.at.spot_agrees-requires c).Start).coarse (c.loop-v.v) (on_row c)),
     rw c.fine_line-fine.ensures ((lined (goal.at.spot_agrees-requires c).Start).fine (c.loop-v.v) (on_row c)),
-  ) }
+  );
+}
 
 pub returns-then-not-spot_agrees : goal.returns-then-not-spot_agrees
 returns-then-not-spot_agrees c =

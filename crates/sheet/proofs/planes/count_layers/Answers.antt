@@ -18,7 +18,8 @@ use Rattle.walk.specs.Numbers.{held_sheeted}
 use Rattle.sheet.specs.declared.Figures.{Figures}
 use Rattle.sheet.specs.Definition.{plus}
 use Rattle.cases.specs.RowPlaces.{layer_fits}
-use Rattle.sheet.specs.Planes.{plane_places, planes_to, LayerCounts, layer_counts, plane_same}
+use Rattle.sheet.specs.Planes.{plane_places, planes_to, LayerCounts, plane_same}
+use Rattle.sheet.proofs.CellCounts.{layer_counts}
 use Rattle.sheet.specs.Sizes.{most_planes, Small, small_plus, small_of, small_fits}
 use Rattle.sheet.proofs.planes.count_layers.Goals as goal
 use Rattle.sheet.proofs.planes.count_layers.Invariants.{SoFar}

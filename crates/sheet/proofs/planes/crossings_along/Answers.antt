@@ -56,8 +56,7 @@ loop-y-smaller c = omega (arith, c.loop-y-test.true)
 pub loop-y-preserved : goal.loop-y-preserved
 loop-y-preserved c =
     let turn = c.loop-y in
-    let a = c.args in
-    (
+    let a = c.args in (
       omega (arith, c.loop-y-test.true),
       (
         omega (arith, c.crossings-found.ensures.1, turn.invariant.1.0, mul-add a.n turn.y 1),

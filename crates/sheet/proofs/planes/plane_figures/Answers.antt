@@ -38,8 +38,7 @@ insides-requires c =
 
 pub returns : goal.returns
 returns c =
-    let a = c.args in
-    (
+    let a = c.args in (
       record {
         inside = omega (arith, c.insides.ensures.1, few (goal.at.returns c).Start);
         x = zero-le;

@@ -22,8 +22,7 @@ crossings-x-requires c =
 
 pub returns : goal.returns
 returns c =
-    let a = c.args in
-    (
+    let a = c.args in (
       record {
         inside = c.plane_figures-plane.ensures.0.inside;
         x = omega (arith, c.crossings-x.ensures.1, few (goal.at.returns c).Start);

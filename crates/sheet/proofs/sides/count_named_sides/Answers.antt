@@ -12,7 +12,7 @@ use Rattle.lines.specs.Lines.{NamedSide}
 use Rattle.cases.specs.Sheets.{sheet_places}
 use Rattle.cells.specs.declared.SheetIndex.TheVariants.{Side}
 use Rattle.walk.specs.Numbers.{held_sheeted}
-use Rattle.sheet.specs.Fine.{sides_start, sides_more}
+use Rattle.sheet.proofs.CellCounts.{sides_start, sides_more}
 use Rattle.sheet.proofs.sides.count_named_sides.Goals as goal
 use Rattle.sheet.proofs.sides.count_named_sides.Goals.{After-face_cases, Start}
 

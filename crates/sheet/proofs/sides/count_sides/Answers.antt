@@ -3,7 +3,7 @@ use Prim.Native.Nat.{zero-le}
 use mathlib.Core.Path.{◌≡◌, sym, ap, ◌∙◌}
 use Rattle.model.specs.declared.Header.{Header}
 use Rattle.model.specs.Record.{header_of, star_of}
-use Rattle.sheet.specs.Fine.{no_sides}
+use Rattle.sheet.proofs.CellCounts.{no_sides}
 use Rattle.sheet.proofs.sides.count_sides.Goals as goal
 
 pub returns-then-header-eq0 : goal.returns-then-header-eq0

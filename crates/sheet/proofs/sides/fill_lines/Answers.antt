@@ -47,11 +47,14 @@ overflow_mul-width-in-loop-i c =
     omega (arith, ends-in (goal.at.overflow_mul-width-in-loop-i c).In-loop-i, c.requires.u_lt_subdivisions.1)
 
 pub fill_line-requires : goal.fill_line-requires
-fill_line-requires c = record { accepted = (
+fill_line-requires c = record {
+  accepted = (
     c.requires.accepted.0,
     subst (λ (l : Line). (k : ℕ) → k < l.points → OnLine (count_of c.args.src.now) l k) (sym c.fine_line-line.ensures)
         ((lined (goal.at.fill_line-requires c).Start).on_line (c.loop-i.i) c.loop-i-test.true),
-  ); points_in_bounds = rw c.fine_line-line.ensures (omega (arith, ends-in (goal.at.fill_line-requires c).In-loop-i, c.loop-i.invariant.1)) }
+  );
+  points_in_bounds = rw c.fine_line-line.ensures (omega (arith, ends-in (goal.at.fill_line-requires c).In-loop-i, c.loop-i.invariant.1));
+}
 
 pub loop-i-preserved : goal.loop-i-preserved
 loop-i-preserved c =
