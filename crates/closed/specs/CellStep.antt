@@ -61,7 +61,7 @@ Owing = ℕ → ℕ → Type 0
 abbrev pub Pays : Owing → List Made → List ℕ → Type 0
 Pays owed made store = (p g : ℕ) → owed p g → Names made (get_or store p 0) g
 
-never : {A : Type 0} → true ≡ false → A
+pub never : {A : Type 0} → true ≡ false → A
 never e = absurd (let z : ◌≡◌ {A = ℕ} 0 1 = cc in omega arith)
 
 -- both kinds of cell use a code so: a new one makes a vertex and stores it at a place of its cell; one that leaves makes one too; any other takes its
@@ -77,15 +77,6 @@ module _ (owed : Owing) (size : ℕ) where
     pub takes : t.makes ≡ false → owed t.place g
     pub place_in : t.stores ≡ true → t.place < size
     pub apart : t.stores ≡ true → (h : ℕ) → owed t.place h → ⊥
-
-  pub use_fits : (made : Made) (own back g : ℕ) (new leaves : Bool) → made.edge ≡ g → own < size → ((h : ℕ) → owed own h → ⊥)
-      → (new ≡ false → leaves ≡ false → owed back g) → Fits (use_by made own back new leaves) g
-  use_fits made own back g true leaves e inside free taken =
-      record { label_is = e; stores_makes = λ h. refl; takes = λ h. never h; place_in = λ h. inside; apart = λ h. free }
-  use_fits made own back g false true e inside free taken =
-      record { label_is = e; stores_makes = λ h. refl; takes = λ h. never h; place_in = λ h. never (sym h); apart = λ h. never (sym h) }
-  use_fits made own back g false false e inside free taken =
-      record { label_is = e; stores_makes = λ h. h; takes = λ h. taken refl refl; place_in = λ h. never (sym h); apart = λ h. never (sym h) }
 
   -- what it comes to, where the vertices so far are `made`: those after it, its index, and the store after it
   record Put (t : CodeUse) (g : ℕ) (made : List Made) (store : List ℕ) (after : List Made) (index : ℕ) (store' : List ℕ) : Type 0 where

@@ -23,7 +23,7 @@ use Rattle.model.specs.Rotations.{xyz}
 use Rattle.model.specs.Formulas.{inside}
 use Rattle.model.specs.Star.{Star, subdivisions}
 use Rattle.model.specs.Points.{corner_point, regular_case}
-use Rattle.closed.specs.Clauses.{Edge, edge, high, OfBlock, OfCell, inside_at, Crossed, IsCell}
+use Rattle.closed.specs.Clauses.{Edge, high, OfBlock, OfCell, inside_at, Crossed, IsCell}
 use Rattle.closed.specs.Places.{same_edge}
 
 -- ---- a number from its bits

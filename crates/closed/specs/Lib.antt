@@ -4,15 +4,9 @@ pub mod Cells
 pub mod CellStep
 pub mod Weighing
 pub mod Stored
-pub mod Whole
 pub mod Flux
-pub mod Counted
 pub mod Outer
-pub mod NoHole
-pub mod Front
-pub mod Marks
 pub mod Renamed
 pub mod SideCells
 pub mod Indices
 pub mod Wrong
-pub mod Refuted

@@ -1,16 +1,14 @@
 -- Directed sides between the edges of a cell, as numbers, and what they weigh where each edge has a label: 1 if a side runs from the label g to h.
 -- Knows nothing of the grid.
-use Rattle.std.specs.Prelude.{◌≡◌, refl, Bool, true, false, ◌&&◌, List, map, ℕ, ◌+◌, ◌*◌, ◌/◌, ◌%◌, ◌<◌, T, eqb}
-use Rattle.std.proofs.Common.{sym, ◌∙◌, eqb→eq}
+use Rattle.std.specs.Prelude.{◌≡◌, refl, Bool, true, false, ◌&&◌, List, map, ℕ, ◌/◌, ◌%◌, ◌<◌, T, eqb}
+use Rattle.std.proofs.Common.{◌∙◌, eqb→eq}
 use Rattle.std.proofs.Math.Path.{ap₂}
 use native.Mathlib.Omega.{arith}
-use Rattle.laws.specs.Steps.{total}
 use Rattle.laws.specs.Counting.{one, gather, weighed}
-use Rattle.laws.specs.Sums.{Each, each_gather, total_same, weighed_gather, weighed_map, weighed_same, weighed_none}
+use Rattle.laws.specs.Sums.{Each, each_gather, weighed_map, weighed_same, weighed_none}
 use Rattle.tables.specs.Codes.{edge_of}
 use Rattle.tables.specs.Sides.{side, back, sides_of}
 use Rattle.closed.specs.Clauses.{run}
-use Rattle.closed.specs.CellStep.{sides_by}
 
 -- ---- sides as numbers
 
@@ -82,20 +80,3 @@ module _ (at : ℕ → ℕ) (g h : ℕ) where
   pub weighed_never : (P : ℕ → Type 0) (ks : List ℕ) → ((k : ℕ) → P k → at (k / 256) ≡ g → at (k % 256) ≡ h → ⊥) → Each P ks
       → weighed (weight_by at g h) ks ≡ 0
   weighed_never P ks none e = weighed_none _ {P = P} (λ k p. no_run g h (at (k / 256)) (at (k % 256)) (none k p)) ks e
-
-  -- the sides of triangles whose corners are codes, where an edge has the label of its code
-  module _ (byte : (c : ℕ) → at (edge_of c) ≡ at c) (code : ℕ → ℕ) where
-    one_weighed : (j : ℕ) → sides_by (λ k. at (code k)) g h j ≡ weighed (weight_by at g h) (sides_of (λ j. edge_of (code j)) j)
-    unfolding sides_by sides_of
-    one_weighed j =
-        let w : (c d : ℕ) → weight_by at g h (side (edge_of c) (edge_of d)) ≡ run g h (at c) (at d) =
-        λ c d. side_weight (edge_of c) (edge_of d) (byte_small d) ∙ ap₂ (run g h) (byte c) (byte d) in
-        omega (
-          arith,
-          w (code (3 * j)) (code (3 * j + 1)),
-          w (code (3 * j + 1)) (code (3 * j + 2)),
-          w (code (3 * j + 2)) (code (3 * j)),
-        )
-
-    pub all_weighed : (n : ℕ) → total (sides_by (λ k. at (code k)) g h) n ≡ weighed (weight_by at g h) (gather (sides_of (λ j. edge_of (code j))) n)
-    all_weighed n = total_same _ _ n (λ k l. one_weighed k) ∙ sym (weighed_gather (weight_by at g h) (sides_of (λ j. edge_of (code j))) n)

@@ -23,7 +23,7 @@ use Rattle.model.specs.Points.{transition_case}
 use Rattle.model.specs.Mesh.{regular_mesh}
 use Rattle.closed.specs.Clauses.{edges_most, around, sides, runs, edge_at, IsCell, OwnVertex}
 use Rattle.closed.specs.Cells.{own_of_block}
-use Rattle.closed.specs.Whole.{whole}
+use Rattle.closed.proofs.Whole.{whole}
 use Rattle.closed.specs.SideCells.{case_small}
 use Rattle.closed.specs.Weighing.{side_from, side_to, byte_small, no_run}
 use Rattle.closed.specs.Indices.{IsSideCell}

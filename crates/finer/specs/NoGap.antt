@@ -24,7 +24,7 @@ use Rattle.closed.specs.Cells.{code_edge, byte_own}
 use Rattle.closed.specs.Weighing.{weighed_never}
 use Rattle.closed.specs.Flux.{shown_near, weight, face_bits, face_runs}
 use Rattle.closed.specs.Outer.{face_of_block, near_in_face}
-use Rattle.closed.specs.NoHole.{balanced_with_border}
+use Rattle.closed.proofs.NoHole.{balanced_with_border}
 use Rattle.finer.specs.Labels.{label_of, labelled_mesh}
 use Rattle.finer.specs.Clauses.{IsSide, Agreed, InSide, CoarseClosed, NoGap}
 use Rattle.finer.specs.SideLabels.{IsFine, fine_or_coarse, fine_label, edge_right}

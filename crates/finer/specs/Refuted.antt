@@ -13,7 +13,7 @@ use Rattle.model.specs.Points.{fine_sample, transition_case}
 use Rattle.model.specs.Mesh.{Mesh, regular_mesh, transition_place, transition_leaves, transition_use, transition_cell}
 use Rattle.closed.specs.Clauses.{Edge, edge, number, runs}
 use Rattle.closed.specs.Wrong.{last_dropped}
-use Rattle.closed.specs.Refuted.{star_of, of_block_test, of_block}
+use Rattle.closed.proofs.Refuted.{star_of, of_block_test, of_block}
 use Rattle.closed.specs.Indices.{IsSideCell}
 use Rattle.finer.specs.Labels.{edge_between, face_edge, fine_number, label_at, side_cell, mesh_with, labelled_mesh}
 use Rattle.finer.specs.Clauses.{InSide, CoarseClosed, border_label, BorderClosed}

@@ -6,7 +6,8 @@ use Rattle.model.specs.declared.Triangle.{Triangle}
 use Rattle.model.specs.Star.{Star}
 use Rattle.model.specs.Mesh.{Mesh}
 use Rattle.closed.specs.Clauses.{number, NamesVertices, runs}
-use Rattle.closed.specs.Renamed.{Renamed, runs_same, names_anew}
+use Rattle.closed.specs.Renamed.{Renamed}
+use Rattle.closed.proofs.Renamed.{runs_same, names_anew}
 use Rattle.finer.specs.Clauses.{IsSide, CoarseClosed, border_label, BorderClosed, OwnSideVertex, SideCorners, NoGap}
 
 module _ (s : Star) (m m' : Mesh) (name : ℕ → ℕ) (r : Renamed m m' name) (named : (t : ℕ) → t < length m.triangles → NamesVertices m t) (h : NoGap s m) where

@@ -14,7 +14,7 @@ use Rattle.model.specs.Points.{transition_case}
 use Rattle.model.specs.Mesh.{Mesh, cell_step, transition_cell, transition_to, regular_mesh}
 use Rattle.closed.specs.Clauses.{runs}
 use Rattle.closed.specs.CellStep.{step_counted}
-use Rattle.closed.specs.Weighing.{all_weighed}
+use Rattle.closed.proofs.Weighing.{all_weighed}
 use Rattle.closed.specs.Indices.{IsSideCell}
 use Rattle.finer.specs.Labels.{label_of, side_cell, labelled_mesh}
 use Rattle.finer.specs.Walk.{Keeps, kept_all}

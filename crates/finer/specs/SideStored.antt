@@ -12,7 +12,8 @@ use Rattle.model.specs.Star.{Star, subdivisions}
 use Rattle.model.specs.Mesh.{Made, store_length, transition_place, transition_leaves, transition_use, transition_cell}
 use Rattle.closed.specs.Clauses.{Names}
 use Rattle.closed.specs.Places.{pair_one, pair_in, pair_less}
-use Rattle.closed.specs.CellStep.{Pays, Fits, use_fits, FitsCell, names_as}
+use Rattle.closed.specs.CellStep.{Pays, Fits, FitsCell, names_as}
+use Rattle.closed.proofs.CellStep.{use_fits}
 use Rattle.closed.specs.Stored.{back_in}
 use Rattle.closed.specs.SideCells.{codes, code_at, code_used, CrossedAt, code_crossed, slot_crossed, just_one, steps_back}
 use Rattle.closed.specs.Indices.{IsSideCell}

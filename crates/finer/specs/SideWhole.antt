@@ -22,7 +22,7 @@ use Rattle.model.specs.Adding.{cell_triangles}
 use Rattle.closed.specs.Clauses.{no_vertex, Names}
 use Rattle.closed.specs.Places.{pair_one}
 use Rattle.closed.specs.CellStep.{Filled, cell_filled, From, step_made, step_triangles, names_more, InReach, step_reach}
-use Rattle.closed.specs.Whole.{whole, in_reach}
+use Rattle.closed.proofs.Whole.{whole, in_reach}
 use Rattle.closed.specs.SideCells.{case_small, codes, code_at, code_used, CrossedAt, crossed_slot, new_index}
 use Rattle.closed.specs.Indices.{IsSideCell}
 use Rattle.finer.specs.Labels.{label_of, side_cell, labelled_mesh, SameBut}

@@ -19,7 +19,7 @@ use Rattle.model.specs.Judging.{judge_star, judge_faces, judge_store}
 use Rattle.model.specs.Mesh.{Mesh, store_length, regular_mesh, mesh_of}
 use Rattle.model.specs.Extraction.{vertex_floats, triangle_indices, Outcome, judge_extraction, outcome, extract}
 use Rattle.judge.specs.First.{both_passed, unless_passed}
-use Rattle.closed.specs.Front.{regular_first, store_long, none_named}
+use Rattle.closed.proofs.Front.{regular_first, store_long, none_named}
 use Rattle.promises.specs.Left.{Lent, answered, left, counts}
 use Rattle.promises.specs.Orders.{Judged, extraction_judges}
 use Rattle.promises.specs.Promises.{EqualMesh, NoHoleIsLeft}

@@ -23,8 +23,8 @@ use Rattle.model.specs.Viewer.{subdivisions_answer, blank_answer, record_point, 
 use Rattle.grid.specs.Places.{small, in_block_lem, place_in}
 use Rattle.grid.specs.StorePlaces.{small_store, regular_place_in, transition_place_in}
 use Rattle.closed.specs.Clauses.{edge_at}
-use Rattle.closed.specs.NoHole.{no_hole}
-use Rattle.closed.specs.Indices.{names_vertices}
+use Rattle.closed.proofs.NoHole.{no_hole}
+use Rattle.closed.proofs.Indices.{names_vertices}
 use Rattle.promises.specs.Left.{counts}
 use Rattle.promises.specs.Enough.{enough_vertices, enough_triangles}
 use Rattle.promises.specs.Former.{former_most, former_verdict, record_by, extract_by, point_by, read_by, write_by, subdivisions_by, blank_by, record_point_by, sample_by}

@@ -11,7 +11,7 @@ use Rattle.model.specs.Star.{Star}
 use Rattle.model.specs.Points.{fine_sample, transition_case}
 use Rattle.model.specs.Judging.{judge_measures, judge_missing, judge_samples, judge_lent, judge_star, faces_agree, judge_faces}
 use Rattle.model.specs.Mesh.{transition_place, transition_leaves, transition_use, transition_cell, transition_row, transition_side, mesh_of}
-use Rattle.closed.specs.Refuted.{star_of}
+use Rattle.closed.proofs.Refuted.{star_of}
 use Rattle.promises.specs.Reads.{Costly}
 
 -- one cell with the corners inside that lie two steps from one another; whoever unfolds it can judge it and compute its mesh

@@ -20,7 +20,7 @@ use Rattle.model.specs.Extraction.{vertex_floats, triangle_indices}
 use Rattle.judge.specs.First.{or_else_passed}
 use Rattle.judge.specs.Passing.{star_shaped}
 use Rattle.closed.specs.Clauses.{no_triangle, triangle_at}
-use Rattle.closed.specs.Indices.{names_vertices}
+use Rattle.closed.proofs.Indices.{names_vertices}
 use Rattle.stl.specs.declared.StlWritten.TheVariants as StlWritten
 use Rattle.stl.specs.declared.StlRead.TheVariants as StlRead
 use Rattle.model.specs.Corners.{triangle_count, named, judge_named}

@@ -14,8 +14,8 @@ use Rattle.model.specs.Star.{Star}
 use Rattle.model.specs.Mesh.{Made, Mesh, regular_mesh, mesh_of}
 use Rattle.model.specs.Extraction.{vertex_floats, triangle_indices}
 use Rattle.closed.specs.Clauses.{no_vertex, edge_at, no_triangle, sides, runs, OwnVertex, NoHole}
-use Rattle.closed.specs.NoHole.{no_hole}
-use Rattle.closed.specs.Front.{regular_first}
+use Rattle.closed.proofs.NoHole.{no_hole}
+use Rattle.closed.proofs.Front.{regular_first}
 use Rattle.promises.specs.Left.{Lent, number_in, corner_in, vertex_in, triangle_in, regular_part}
 
 -- place j of item k of what is laid into a buffer

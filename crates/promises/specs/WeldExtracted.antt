@@ -22,7 +22,7 @@ use Rattle.model.specs.Edges.{judge_edges, edge_number, judge_whole, edges_left,
 use Rattle.judge.specs.First.{or_else_assoc, or_else_passed, unless_passed}
 use Rattle.judge.specs.Passing.{star_shaped}
 use Rattle.closed.specs.Clauses.{no_vertex, edge_at}
-use Rattle.closed.specs.Marks.{marked, unmarked}
+use Rattle.closed.proofs.Marks.{marked, unmarked}
 use Rattle.promises.specs.Left.{answered, left, counts}
 use Rattle.promises.specs.Orders.{in_order, Numbered, Judged, block_judges}
 use Rattle.promises.specs.Judges.{◌&◌, judged, by_unless, numbered_append, faces_number, block_numbered}

@@ -20,8 +20,8 @@ use Rattle.model.specs.Mesh.{Made, no_edge, regular_mesh, mesh_of}
 use Rattle.judge.specs.First.{or_else_passed}
 use Rattle.judge.specs.Passing.{star_shaped}
 use Rattle.closed.specs.Clauses.{Edge, number, OfBlock, Crossed, edge_at, NoHole}
-use Rattle.closed.specs.Marks.{number_low}
-use Rattle.closed.specs.Renamed.{no_hole_renamed}
+use Rattle.closed.proofs.Marks.{number_low}
+use Rattle.closed.proofs.Renamed.{no_hole_renamed}
 use Rattle.weld.specs.declared.Welded.TheVariants as Welded
 use Rattle.weld.specs.Definition.{kept, kept_before, new_index, judge_weld, Outcome, weld_answer, weld}
 use Rattle.weld.specs.Kept.{kept_mark, keeper_keeps, kept_index, kept_is}

@@ -17,8 +17,8 @@ use Rattle.model.specs.Star.{Star}
 use Rattle.model.specs.Mesh.{Made, no_edge, regular_mesh, mesh_of}
 use Rattle.model.specs.Extraction.{vertex_floats}
 use Rattle.closed.specs.Clauses.{no_vertex, edge_at, triangle_at, no_triangle, NamesVertices}
-use Rattle.closed.specs.NoHole.{one_vertex}
-use Rattle.closed.specs.Marks.{made_regular}
+use Rattle.closed.proofs.NoHole.{one_vertex}
+use Rattle.closed.proofs.Marks.{made_regular}
 use Rattle.closed.specs.Renamed.{renamed, Renamed}
 use Rattle.stl.specs.Definition.{vertex_count}
 use Rattle.weld.specs.Definition.{kept, kept_before, keeper, new_index, weld_answer, weld}

@@ -17,7 +17,7 @@ use Rattle.grid.specs.Places.{in_block_lem}
 use Rattle.closed.specs.Clauses.{Edge, edge, high, number, edges_most, OfBlock, Names, edge_at}
 use Rattle.closed.specs.Cells.{same_point}
 use Rattle.closed.specs.Places.{Begins, begun_one, begins}
-use Rattle.closed.specs.NoHole.{carried, no_hole}
+use Rattle.closed.proofs.NoHole.{carried, no_hole}
 use Rattle.sheet.specs.Definition.{box, is_inside, crosses, x_edges, y_edges, z_edges}
 use Rattle.sheet.specs.Rows.{edges_of, carries_vertex}
 use Rattle.sheet.specs.Grids.{total_places, box_three, box_same}

@@ -14,8 +14,8 @@ use Rattle.closed.specs.Clauses.{number, runs, IsCell}
 use Rattle.closed.specs.Places.{rank}
 use Rattle.closed.specs.Cells.{code_edge, code_at, byte_edge}
 use Rattle.closed.specs.CellStep.{step_counted}
-use Rattle.closed.specs.Whole.{Whole, corner_named, in_reach, column_end, layer_end, block_end, whole_at}
-use Rattle.closed.specs.Weighing.{all_weighed}
+use Rattle.closed.proofs.Whole.{Whole, corner_named, in_reach, column_end, layer_end, block_end, whole_at}
+use Rattle.closed.proofs.Weighing.{all_weighed}
 use Rattle.closed.specs.Flux.{weight, cell_runs}
 
 cell_counted : (s : Star) (g h x y z : ℕ) (c : IsCell s x y z) → Whole s (rank s x y z) (regular_to s x y z)

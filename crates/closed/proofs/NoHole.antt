@@ -9,9 +9,9 @@ use Rattle.closed.specs.Clauses.{Edge, number, OfBlock, OfCell, Crossed, runs, I
 use Rattle.closed.specs.Places.{number_one, rank_in}
 use Rattle.closed.specs.Cells.{code_edge, byte_edge, own_byte, crossed_code}
 use Rattle.closed.specs.CellStep.{names_as}
-use Rattle.closed.specs.Whole.{whole}
+use Rattle.closed.proofs.Whole.{whole}
 use Rattle.closed.specs.Flux.{face_runs, block_balanced}
-use Rattle.closed.specs.Counted.{block_counted}
+use Rattle.closed.proofs.Counted.{block_counted}
 use Rattle.closed.specs.Outer.{border_none}
 
 -- ---- 1

@@ -17,7 +17,8 @@ use Rattle.closed.specs.Clauses.{number, Crossed, Names, triangle_at, IsCell, Se
 use Rattle.closed.specs.Places.{rank, cells_up_to}
 use Rattle.closed.specs.Cells.{code_edge, codes, code_at, slot_edge, code_own, case_small, code_right, crossed_slot}
 use Rattle.closed.specs.CellStep.{Filled, cell_filled, From, step_made, step_triangles, names_more, InReach}
-use Rattle.closed.specs.Stored.{Holds, Stored, pays, LiesOn, owed, size, label, stored_at, cell_fits, cell_lies}
+use Rattle.closed.specs.Stored.{Holds, Stored, pays, LiesOn, owed, size, label, stored_at}
+use Rattle.closed.proofs.Stored.{cell_fits, cell_lies}
 
 -- the mesh of the cells before the rank `here`
 pub record Whole (s : Star) (here : ℕ) (m : Mesh) : Type 0 where

@@ -13,8 +13,8 @@ use Rattle.model.specs.Sides.{named}
 use Rattle.model.specs.Star.{Star, subdivisions}
 use Rattle.model.specs.Mesh.{Made, CodeUse, Cell, Fill, Mesh, made_by, fill_step, fill_to, cell_step, no_edge, transition_use, transition_cell, transition_row, transition_side, regular_mesh, mesh_of}
 use Rattle.closed.specs.Clauses.{Edge, number, OfBlock, edge_at, no_vertex}
-use Rattle.closed.specs.Whole.{whole}
-use Rattle.closed.specs.Front.{regular_first}
+use Rattle.closed.proofs.Whole.{whole}
+use Rattle.closed.proofs.Front.{regular_first}
 
 -- ---- transition cells add none with a grid edge
 

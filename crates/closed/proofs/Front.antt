@@ -8,7 +8,7 @@ use Rattle.laws.specs.Steps.{iterate}
 use Rattle.laws.specs.Iterated.{iterate_keeps}
 use Rattle.model.specs.Star.{Star, subdivisions}
 use Rattle.model.specs.Mesh.{Made, Cell, Fill, Mesh, fill_step, fill_to, store_length, cell_step, transition_cell, transition_row, transition_side, regular_mesh, mesh_of}
-use Rattle.closed.specs.Whole.{whole}
+use Rattle.closed.proofs.Whole.{whole}
 
 pub record Begins (first all : Mesh) : Type 0 where
   pub made : List Made

@@ -1,0 +1,11 @@
+pub mod CellStep
+pub mod Weighing
+pub mod Stored
+pub mod Whole
+pub mod Counted
+pub mod NoHole
+pub mod Front
+pub mod Marks
+pub mod Renamed
+pub mod Indices
+pub mod Refuted
