@@ -1,5 +1,3 @@
--- what is proved of the definition
-pub mod Theorems
 -- on small blocks
 pub mod Shown
 -- how it is proved

@@ -1,4 +1,4 @@
--- Meshes that are not the mesh: each is refuted at a small block in Refuted.antt. Definitions only.
+-- Meshes that are not the mesh: each is refuted at a small block in proofs/Refuted.antt. Definitions only.
 use Rattle.std.specs.Prelude.{ℕ, ◌-◌, not, ◌&&◌, ◌++◌, eqb, ltb, length, take, set, replicate}
 use Rattle.tables.specs.Codes.{step_x, step_y}
 use Rattle.tables.specs.Cases.{regular_code}

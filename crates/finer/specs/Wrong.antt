@@ -1,4 +1,4 @@
--- Meshes that are not the mesh: each is refuted at a small block in Refuted.antt, and so is the mesh without its last triangle. Definitions only.
+-- Meshes that are not the mesh: each is refuted at a small block in proofs/Refuted.antt, and so is the mesh without its last triangle. Definitions only.
 use Rattle.std.specs.Prelude.{ℕ, ◌&&◌, ◌||◌, eqb, ltb}
 use Rattle.tables.specs.Codes.{step_x, step_y, is_new}
 use Rattle.tables.specs.Cases.{transition_code, transition_corner}

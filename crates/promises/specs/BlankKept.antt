@@ -20,7 +20,7 @@ use Rattle.model.specs.Viewer.{packed, blank_answer, blank_answer_before}
 use Rattle.record.specs.Accepted.{accepted, passes, length_samples}
 use Rattle.record.specs.Reading.{was_read}
 use Rattle.record.specs.RoundTrip.{star_passes, read_star}
-use Rattle.blankness.specs.Theorems.{blank_none, blank_exactly, mask_zero}
+use Rattle.blankness.proofs.Theorems.{blank_none, blank_exactly, mask_zero}
 use Rattle.promises.specs.Left.{Lent, answered, counts, centre_of, neighbours_of}
 use Rattle.promises.specs.Orders.{in_order, block_judges, record_judges}
 use Rattle.promises.specs.Blank.{BlankPromises}

@@ -18,9 +18,9 @@ use Rattle.closed.specs.Clauses.{high, Crossed, no_vertex, vertex_at, edge_at, v
 use Rattle.finer.specs.Labels.{labelled_mesh, SameBut}
 use Rattle.finer.specs.Clauses.{Agreed, vertex_back, runs_down, NoGap, SameBits}
 use Rattle.finer.specs.InStep.{as_many, same_vertex}
-use Rattle.finer.specs.SideWhole.{labelled_sound}
-use Rattle.finer.specs.NoGap.{no_gap}
-use Rattle.finer.specs.Vertices.{on_one_edge, same_bits}
+use Rattle.finer.proofs.SideWhole.{labelled_sound}
+use Rattle.finer.proofs.NoGap.{no_gap}
+use Rattle.finer.proofs.Vertices.{on_one_edge, same_bits}
 use Rattle.weights.specs.Clauses.{AreF32, NearVertices}
 use Rattle.weights.specs.BothEnds.{near_itself, vertices_near}
 use Rattle.promises.specs.Left.{Lent, answered, left, vertex_in, triangle_in}

@@ -11,7 +11,7 @@ use Rattle.model.specs.Mesh.{Made, Mesh, no_edge, regular_mesh}
 use Rattle.closed.specs.Clauses.{no_vertex}
 use Rattle.closed.specs.Renamed.{Renamed}
 use Rattle.finer.specs.Clauses.{RegularLying, SideLying, NoGap, SameBits}
-use Rattle.finer.specs.SideWhole.{labelled_sound}
+use Rattle.finer.proofs.SideWhole.{labelled_sound}
 use Rattle.finer.specs.Renamed.{coarse_renamed, borders_renamed, corners_renamed}
 use Rattle.weld.specs.Definition.{kept_before, keeper, new_index, closed_up}
 use Rattle.weld.specs.Kept.{keeper_keeps, closed_at}

@@ -13,10 +13,10 @@ use Rattle.closed.specs.Clauses.{Edge, number, edges_most, OfBlock, Crossed, no_
 use Rattle.closed.specs.Places.{number_one}
 use Rattle.finer.specs.Labels.{labelled_mesh}
 use Rattle.finer.specs.Clauses.{MadeBySide, OnFineEdge, OnCoarseEdge, OnSide, vertex_back, runs_down, SameBits}
-use Rattle.finer.specs.Faces.{number_below}
-use Rattle.finer.specs.Apart.{fine_above, fine_one}
+use Rattle.finer.proofs.Faces.{number_below}
+use Rattle.finer.proofs.Apart.{fine_above, fine_one}
 use Rattle.finer.specs.InStep.{as_many}
-use Rattle.finer.specs.SideWhole.{side_none, whole_to, labelled_sound, regular_lying}
+use Rattle.finer.proofs.SideWhole.{side_none, whole_to, labelled_sound, regular_lying}
 
 start_below : (u2 k st : ℕ) → u2 + st ≤ 0 + k → u2 ≤ k
 start_below u2 k st h = omega arith

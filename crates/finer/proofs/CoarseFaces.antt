@@ -22,8 +22,9 @@ use Rattle.closed.specs.Indices.{IsSideCell}
 use Rattle.finer.specs.Labels.{label_of}
 use Rattle.finer.specs.Clauses.{Agreed}
 use Rattle.finer.specs.SideLabels.{is_coarse, coarse_label}
-use Rattle.finer.specs.Faces.{face_at, corner_of, way_of, corner_at, way_right, corner_at_lem, byte_at, half_small, edge_is, byte_small}
-use Rattle.finer.specs.SideFlux.{corner_inside, coarse_bits, weight, coarse_runs, shown_coarse_lem}
+use Rattle.finer.proofs.Faces.{face_at, corner_of, way_of, corner_at, way_right, corner_at_lem, byte_at, half_small, edge_is, byte_small}
+use Rattle.finer.specs.SideFlux.{corner_inside, coarse_bits, weight, coarse_runs}
+use Rattle.finer.proofs.SideFlux.{shown_coarse_lem}
 
 -- ---- the four corners
 

@@ -24,7 +24,8 @@ use Rattle.model.specs.Mesh.{mesh_of}
 use Rattle.model.specs.Blank.{lies_as, centre_as, side_as, sides_as, is_blank, blank_before}
 use Rattle.grid.specs.Places.{in_block_lem, sample_is}
 use Rattle.blankness.specs.Weights.{alike, of_alike, by_ones, all_ones}
-use Rattle.blankness.specs.OneSide.{centre_in, fine_in, OneSide, one_side_none, none_one_side}
+use Rattle.blankness.specs.OneSide.{centre_in, fine_in, OneSide}
+use Rattle.blankness.proofs.OneSide.{one_side_none, none_one_side}
 
 -- ---- each in-block place is a point's
 

@@ -7,7 +7,8 @@ use Rattle.laws.specs.Sums.{Each, total_none, square, square_none}
 use Rattle.model.specs.Star.{Star, subdivisions}
 use Rattle.closed.specs.Weighing.{weight_by, weighed_never}
 use Rattle.finer.specs.Clauses.{across_of}
-use Rattle.finer.specs.SideFlux.{side_runs, border_runs, coarse_runs, fine_runs, side_balanced}
+use Rattle.finer.specs.SideFlux.{side_runs, border_runs, coarse_runs, fine_runs}
+use Rattle.finer.proofs.SideFlux.{side_balanced}
 
 -- of what f counts from one label to the other, nothing runs from g to h, and nothing back
 pub record Quiet (f : ℕ → ℕ → ℕ) (g h : ℕ) : Type 0 where

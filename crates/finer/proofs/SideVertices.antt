@@ -23,7 +23,7 @@ use Rattle.closed.specs.Indices.{IsSideCell}
 use Rattle.finer.specs.Labels.{label_of, labelled_use}
 use Rattle.finer.specs.Clauses.{OnFineEdge, OnCoarseEdge, OnSide}
 use Rattle.finer.specs.SideLabels.{EdgeRight, edge_right, IsFine, IsCoarse, fine_or_coarse, byte_label, fine_label, coarse_label, fine_within}
-use Rattle.finer.specs.Faces.{edge_on, edge_is, of_block, in_side, edge_vertex}
+use Rattle.finer.proofs.Faces.{edge_on, edge_is, of_block, in_side, edge_vertex}
 
 fine_step : (u a b k : ℕ) → b ≡ a + (1 + 0) * k → 2 * u + b ≡ 2 * u + a + k
 fine_step u a b k e = omega arith

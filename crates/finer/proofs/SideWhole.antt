@@ -29,8 +29,9 @@ use Rattle.finer.specs.Labels.{label_of, side_cell, labelled_mesh, SameBut}
 use Rattle.finer.specs.Clauses.{IsSide, OwnSideVertex, OwnSideTriangle, SideCorners, MadeBySide, OnSide, RegularLying}
 use Rattle.finer.specs.Walk.{Keeps, kept_all}
 use Rattle.finer.specs.SideLabels.{edge_right, own_edge, byte_label}
-use Rattle.finer.specs.SideStored.{rank_of, HoldsFine, StoredFine, pays, owed, size, label, stored_at, cell_fits}
-use Rattle.finer.specs.SideVertices.{made_lies}
+use Rattle.finer.specs.SideStored.{rank_of, HoldsFine, StoredFine, pays, owed, size, label, stored_at}
+use Rattle.finer.proofs.SideStored.{cell_fits}
+use Rattle.finer.proofs.SideVertices.{made_lies}
 use Rattle.finer.specs.InStep.{as_many, step_same, same_mesh}
 
 -- where the definition's mesh is `plain`, and all cells of the sides before `side` are done

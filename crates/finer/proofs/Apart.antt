@@ -15,8 +15,9 @@ use Rattle.closed.specs.Places.{pair_one}
 use Rattle.finer.specs.Labels.{fine_number, label_of}
 use Rattle.finer.specs.Clauses.{across_of}
 use Rattle.finer.specs.SideLabels.{edge_right, edge_told, edges_told, IsFine, IsCoarse, fine_or_coarse, fine_label, coarse_label, fine_on}
-use Rattle.finer.specs.Faces.{edge_on, edge_is, of_block, number_below}
-use Rattle.finer.specs.SideFlux.{onward, moved, label_moved}
+use Rattle.finer.proofs.Faces.{edge_on, edge_is, of_block, number_below}
+use Rattle.finer.specs.SideFlux.{onward}
+use Rattle.finer.proofs.SideFlux.{moved, label_moved}
 
 -- ---- numbers of fine edges
 

@@ -28,15 +28,15 @@ use Rattle.closed.proofs.NoHole.{balanced_with_border}
 use Rattle.finer.specs.Labels.{label_of, labelled_mesh}
 use Rattle.finer.specs.Clauses.{IsSide, Agreed, InSide, CoarseClosed, NoGap}
 use Rattle.finer.specs.SideLabels.{IsFine, fine_or_coarse, fine_label, edge_right}
-use Rattle.finer.specs.SideWhole.{labelled_sound, regular_lying}
-use Rattle.finer.specs.Faces.{face_at, is_face, part_is, half_small, number_below}
+use Rattle.finer.proofs.SideWhole.{labelled_sound, regular_lying}
+use Rattle.finer.proofs.Faces.{face_at, is_face, part_is, half_small, number_below}
 use Rattle.finer.specs.SideFlux.{side_runs, coarse_runs}
-use Rattle.finer.specs.SideCounted.{named_runs, labelled_counted}
-use Rattle.finer.specs.Apart.{fine_above, low_own, one_coarse}
-use Rattle.finer.specs.Quiet.{coarse_left}
+use Rattle.finer.proofs.SideCounted.{named_runs, labelled_counted}
+use Rattle.finer.proofs.Apart.{fine_above, low_own, one_coarse}
+use Rattle.finer.proofs.Quiet.{coarse_left}
 use Rattle.finer.specs.Planes.{one_edge}
-use Rattle.finer.specs.Borders.{border_quiet, fine_quiet, border_closed}
-use Rattle.finer.specs.CoarseFaces.{shown_at, coarse_shows}
+use Rattle.finer.proofs.Borders.{border_quiet, fine_quiet, border_closed}
+use Rattle.finer.proofs.CoarseFaces.{shown_at, coarse_shows}
 
 -- ---- between two coarse labels, a side comes down to its coarse faces
 

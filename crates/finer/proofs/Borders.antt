@@ -30,12 +30,13 @@ use Rattle.closed.specs.Indices.{IsSideCell}
 use Rattle.finer.specs.Labels.{label_at, label_of, labelled_mesh}
 use Rattle.finer.specs.Clauses.{across_of, border_label, BorderClosed}
 use Rattle.finer.specs.SideLabels.{IsFine, fine_or_coarse, is_fine, is_coarse, fine_label, edge_right, edges_told}
-use Rattle.finer.specs.SideWhole.{corner_in_lem}
-use Rattle.finer.specs.Faces.{number_below}
-use Rattle.finer.specs.SideFlux.{side_runs, border_runs, border_bits, coarse_runs, coarse_bits, fine_runs, shown_low_lem, shown_coarse_lem}
-use Rattle.finer.specs.SideCounted.{named_runs, labelled_counted}
-use Rattle.finer.specs.Apart.{fine_above, Placed, cell_placed, low_own, rim_placed, SamePlace, same_place, low_right, one_coarse, across_on, across_rim}
-use Rattle.finer.specs.Quiet.{Quiet, quiet_list, quiet_square, QuietRim, coarse_left}
+use Rattle.finer.proofs.SideWhole.{corner_in_lem}
+use Rattle.finer.proofs.Faces.{number_below}
+use Rattle.finer.specs.SideFlux.{side_runs, border_runs, border_bits, coarse_runs, coarse_bits, fine_runs}
+use Rattle.finer.proofs.SideFlux.{shown_low_lem, shown_coarse_lem}
+use Rattle.finer.proofs.SideCounted.{named_runs, labelled_counted}
+use Rattle.finer.proofs.Apart.{fine_above, Placed, cell_placed, low_own, rim_placed, SamePlace, same_place, low_right, one_coarse, across_on, across_rim}
+use Rattle.finer.proofs.Quiet.{Quiet, quiet_list, quiet_square, QuietRim, coarse_left}
 
 -- ---- the edges of lists of sides
 

@@ -19,7 +19,7 @@ use Rattle.closed.specs.Indices.{IsSideCell}
 use Rattle.finer.specs.Labels.{label_of, side_cell, labelled_mesh}
 use Rattle.finer.specs.Walk.{Keeps, kept_all}
 use Rattle.finer.specs.SideLabels.{byte_label}
-use Rattle.finer.specs.SideWhole.{Sound, SideWhole, corner_code, corner_named, whole_keeps}
+use Rattle.finer.proofs.SideWhole.{Sound, SideWhole, corner_code, corner_named, whole_keeps}
 use Rattle.finer.specs.SideFlux.{weight, side_runs}
 
 cell_counted : (s : Star) (side u v : ℕ) (cell : IsSideCell s side u v) (m : Mesh) → SideWhole s side u v m → (g h : ℕ)
