@@ -22,7 +22,7 @@ use Rattle.finer.proofs.SideWhole.{labelled_sound}
 use Rattle.finer.proofs.NoGap.{no_gap}
 use Rattle.finer.proofs.Vertices.{on_one_edge, same_bits}
 use Rattle.weights.specs.Clauses.{AreF32, NearVertices}
-use Rattle.weights.specs.BothEnds.{near_itself, vertices_near}
+use Rattle.weights.proofs.BothEnds.{near_itself, vertices_near}
 use Rattle.promises.specs.Left.{Lent, answered, left, vertex_in, triangle_in}
 use Rattle.promises.specs.Finer.{labelled_part, NearBy, NoGapIsLeft}
 use Rattle.promises.specs.Surface.{vertex_is, triangle_is}

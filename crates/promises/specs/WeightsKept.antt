@@ -6,7 +6,7 @@ use Rattle.model.specs.declared.Extraction.TheVariants as Extraction
 use Rattle.model.specs.Star.{Star}
 use Rattle.model.specs.Mesh.{Made, mesh_of}
 use Rattle.weights.specs.Clauses.{AreF32, VertexWeighed, Weights}
-use Rattle.weights.specs.Weights.{weights}
+use Rattle.weights.proofs.Weights.{weights}
 use Rattle.promises.specs.Left.{Lent, answered, left}
 use Rattle.promises.specs.Weights.{LeftWeighed, WeightsPromises}
 use Rattle.promises.specs.Surface.{vertex_is}

@@ -6,7 +6,7 @@ use Rattle.std.proofs.Math.Decide.{dec_lt}
 use Rattle.std.specs.Float.{nan, inf, fin, binary32}
 use Rattle.std.specs.Float.Ieee.{up, down, unlike, round, neg, sum, add, sub, mul, div}
 use Rattle.std.specs.Float.Ieee.Fits.{down_pos, neg-fits}
-use Rattle.std.specs.Float.Ieee.Scale.{finite, round_same}
+use Rattle.std.specs.Float.Ieee.Scale.{round_same}
 use Rattle.model.specs.Formulas.{◌⊕◌, ◌⊖◌, ◌⊗◌, ◌⊘◌}
 use Rattle.weights.specs.Units.{per_one, magnitude, negative, above, below, distance, Within, parts}
 use Rattle.weights.specs.Rounding.{rounded, some_units, near_units, too_many, plenty, room}

@@ -6,7 +6,7 @@ use Rattle.std.proofs.Common.{sym, ap, ◌∙◌, subst, le_trans, le_of_eq, mul
 use Rattle.std.proofs.Math.Dec.{is_le, compare_is_eq, nleb→lt, eqb_refl}
 use Rattle.std.proofs.Math.Arith.{lt_of_le-ne}
 use Rattle.std.specs.Float.{binary32}
-use Rattle.std.specs.Float.Ieee.{prec, low, nearest, size, odd, units}
+use Rattle.std.specs.Float.Ieee.{prec, low, nearest, size}
 use Rattle.std.specs.Float.Ieee.Digits.{size_reaches, size-le, back}
 use Rattle.std.specs.Float.Ieee.Nearest.{closest, closest_same}
 use Rattle.std.specs.Float.Ieee.Scale.{grid, overflow}

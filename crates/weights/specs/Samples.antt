@@ -1,5 +1,5 @@
 -- A block that passes 1 to 7: its threshold, each sample that a cell reads, and the coordinates of its grid points are finite and not too large.
-use Rattle.std.specs.Prelude.{ℕ, ◌+◌, ◌-◌, ◌*◌, ◌≤◌, ◌<◌, ◌≡◌, true, ◌++◌, length}
+use Rattle.std.specs.Prelude.{ℕ, ◌+◌, ◌*◌, ◌≤◌, ◌<◌, ◌≡◌, true, ◌++◌, length}
 use Rattle.std.proofs.Common.{sym, ap, ◌∙◌, length-append, get_or-append-add}
 use Rattle.std.proofs.Math.Path.{subst}
 use native.Mathlib.Omega.{arith}

@@ -1,11 +1,11 @@
 -- Finite f32 values whose size is at most a whole number below 2 ^ 24: what sums, differences and products of them, and quotients of whole numbers, come
 -- to. None overflows. Assumes nothing.
-use Rattle.std.specs.Prelude.{ℕ, ◌+◌, ◌*◌, ◌^◌, ◌≤◌, ◌<◌, ◌≡◌, Bool, false, Float}
+use Rattle.std.specs.Prelude.{ℕ, ◌+◌, ◌*◌, ◌≤◌, ◌<◌, ◌≡◌, Bool, false, Float}
 use Rattle.std.proofs.Common.{◌∙◌, le_antisymm, mul-le-mul, mul-le-mul_right, le_of_mul-le-mul_right, mul-pos, arith}
 use Rattle.std.specs.Float.{binary32}
 use Rattle.std.specs.Float.Ieee.{low, of_int, round}
 use Rattle.model.specs.Formulas.{◌⊕◌, ◌⊖◌, ◌⊗◌, ◌⊘◌, whole}
-use Rattle.weights.specs.Units.{per_one, magnitude, distance, below, parts}
+use Rattle.weights.specs.Units.{per_one, magnitude, distance, parts}
 use Rattle.weights.specs.Rounding.{rounded, exactly, some_units, large, near_quotient, too_many, plenty, room}
 use Rattle.weights.specs.Values.{Number, Known, known, rounded_mono}
 use Rattle.weights.specs.Operations.{Rounds, both_parts, sum_rounds, difference_rounds, product_known, quotient_known}

@@ -1,6 +1,6 @@
 -- Finite f32 values as whole numbers of units: each is one, their order and equality are those of the numbers, and one that is rounded is known by its
 -- size and sign. Assumes nothing.
-use Rattle.std.specs.Prelude.{ℕ, zero, suc, ◌+◌, ◌-◌, ◌*◌, ◌/◌, ◌%◌, ◌^◌, ◌≤◌, ◌<◌, ◌≡◌, refl, Bool, true, false, not, ◌&&◌, ◌||◌, cond, ℤ, pos, negsuc, T, leb, ltb, eqb, Float}
+use Rattle.std.specs.Prelude.{ℕ, zero, suc, ◌+◌, ◌-◌, ◌*◌, ◌%◌, ◌^◌, ◌≤◌, ◌<◌, ◌≡◌, refl, Bool, true, false, not, ◌&&◌, ◌||◌, cond, ℤ, pos, negsuc, T, leb, ltb, eqb, Float}
 use Rattle.std.proofs.Common.{sym, ap, ◌∙◌, subst, inl, inr, add_comm, lt_of_not-le, not-le_of_lt, le_of_mul-le-mul_right, mul-le-mul_right, mul-one, mul_assoc, mul-pos, eq-zero-or-pos, arith, leb→le, ltb→lt, nltb→le, eqb→eq, pow-add, pow_pos}
 use Rattle.std.proofs.Math.Nat.{mul-sub, div-eq_of_eq-mul_left, eq_of_mul-eq-mul_right}
 use Rattle.std.proofs.Math.Decide.{dec_le}

@@ -1,4 +1,4 @@
-// Weights between 0 and 1, and vertices between their ends: theorems over the model's mesh, all in specs/. specs/Clauses.antt says what is
-// proved, in the words of specs/Units.antt; specs/Weights.antt is the theorem.
+// Weights between 0 and 1, and vertices between their ends: theorems over the model's mesh. specs/Clauses.antt says what is
+// proved, in the words of specs/Units.antt; proofs/Weights.antt is the theorem.
 
 #![tactic(auto)]

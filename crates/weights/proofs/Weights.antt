@@ -10,8 +10,8 @@ use Rattle.model.specs.Mesh.{Made, regular_vertex, regular_use, regular_cell, re
 use Rattle.closed.specs.Clauses.{IsCell}
 use Rattle.closed.specs.Indices.{IsSideCell}
 use Rattle.weights.specs.Clauses.{AreF32, MakesAt, VertexWeighed, Weights}
-use Rattle.weights.specs.Ends.{regular_weighed, side_weighed}
-use Rattle.weights.specs.EveryVertex.{each_regular, each_vertex}
+use Rattle.weights.proofs.Ends.{regular_weighed, side_weighed}
+use Rattle.weights.proofs.EveryVertex.{each_regular, each_vertex}
 
 module _ (s : Star) (fit : AreF32 s) (passed : judge_star s ≡ Passed) where
   abbrev Well : ℕ → Made → Type 0

@@ -33,8 +33,8 @@ use Rattle.closed.specs.Indices.{IsSideCell}
 use Rattle.weights.specs.Clauses.{OneInside, AreF32, Weighed}
 use Rattle.weights.specs.Small.{Small}
 use Rattle.weights.specs.Coordinates.{Reached, regular_reached, fine_reached}
-use Rattle.weights.specs.Weighing.{weigh}
-use Rattle.weights.specs.Segments.{coordinate}
+use Rattle.weights.proofs.Weighing.{weigh}
+use Rattle.weights.proofs.Segments.{coordinate}
 use Rattle.weights.specs.Samples.{shaped, threshold_small, measured, centre_small, fine_small}
 
 -- ---- a vertex between two points, one inside and the other outside

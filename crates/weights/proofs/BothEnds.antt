@@ -20,7 +20,7 @@ use Rattle.weights.specs.Units.{parts, magnitude, above, below, distance, apart,
 use Rattle.weights.specs.Clauses.{numerator, denominator, Weight, reach, Coordinate, AreF32, Weighed, both_off, FromBoth, NearVertices}
 use Rattle.weights.specs.Values.{Number, order}
 use Rattle.weights.specs.Small.{Small}
-use Rattle.weights.specs.Ends.{regular_ready, points_weighed}
+use Rattle.weights.proofs.Ends.{regular_ready, points_weighed}
 
 -- ---- over plain numbers
 
