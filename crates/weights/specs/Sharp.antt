@@ -21,10 +21,10 @@ pub between_them : (inside t a ≡ false) × (inside t b ≡ true)
 unfolding le
 between_them = (refl, refl)
 
-pub half-too-small :
+pub half_too_small :
     leb (per_one * (apart a t * (2 * weight_parts))) ((magnitude (weight a b t) * (2 * weight_parts) + per_one) * apart a b) ≡ false
 unfolding sub div sum round magnitude negative per_one
-half-too-small = refl
+half_too_small = refl
 
 -- the coordinates 1 + 3 * 2^-23 and 3 + 3 * 2^-22, with the weight 1: b - a is rounded up, and so is a + (b - a)
 abbrev p : Float

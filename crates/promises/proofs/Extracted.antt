@@ -23,9 +23,9 @@ use Rattle.closed.proofs.Front.{regular_first, store_long, none_named}
 use Rattle.promises.specs.Left.{Lent, answered, left, counts}
 use Rattle.promises.specs.Orders.{Judged, extraction_judges}
 use Rattle.promises.specs.Promises.{EqualMesh, NoHoleIsLeft}
-use Rattle.promises.specs.Judges.{judged, extraction_in_order, extraction_numbered, no_room}
-use Rattle.promises.specs.ReadBack.{is_laid}
-use Rattle.promises.specs.Surface.{no_hole_left}
+use Rattle.promises.proofs.Judges.{judged, extraction_in_order, extraction_numbered, no_room}
+use Rattle.promises.proofs.ReadBack.{is_laid}
+use Rattle.promises.proofs.Surface.{no_hole_left}
 
 module _ (m : Mesh) (lent : Lent) where
   abbrev came : Verdict → Outcome

@@ -24,8 +24,8 @@ use Rattle.volume.specs.Finer.{passes_8}
 use Rattle.promises.specs.Left.{Laid}
 use Rattle.promises.specs.Orders.{in_order, Numbered, Judged}
 use Rattle.promises.specs.Volume.{cut_judges, Accepted, cut_out, VolumePromises}
-use Rattle.promises.specs.Judges.{◌&◌, judged, Refuses, by_unless, by_first, buffer_number}
-use Rattle.promises.specs.ReadBack.{is_laid}
+use Rattle.promises.proofs.Judges.{◌&◌, judged, Refuses, by_unless, by_first, buffer_number}
+use Rattle.promises.proofs.ReadBack.{is_laid}
 
 module _ (bytes : List ℕ) (sizes : Xyz) (n : ℕ) (first : Xyz) (samples : List Float) where
   -- ---- the judges

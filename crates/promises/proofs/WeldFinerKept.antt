@@ -17,10 +17,10 @@ use Rattle.weld.specs.Definition.{kept_before, keeper, new_index, closed_up}
 use Rattle.weld.specs.Kept.{keeper_keeps, closed_at}
 use Rattle.promises.specs.Left.{Lent, left, mesh_in}
 use Rattle.promises.specs.Finer.{labelled_part, NearBy}
-use Rattle.promises.specs.FinerKept.{no_gap_is_left}
-use Rattle.promises.specs.Extracted.{equal_mesh}
+use Rattle.promises.proofs.FinerKept.{no_gap_is_left}
+use Rattle.promises.proofs.Extracted.{equal_mesh}
 use Rattle.promises.specs.Weld.{LentWhole, answered_whole, left_whole, edge_in, label_before, label_after, labelled_after, labelled_anew, NoGapAfter}
-use Rattle.promises.specs.WeldRenamed.{made_at, alone, mesh_is, edge_regular, by_kind, named_anew, names_vertices}
+use Rattle.promises.proofs.WeldRenamed.{made_at, alone, mesh_is, edge_regular, by_kind, named_anew, names_vertices}
 
 module _ (s : Star) (lent : LentWhole) (c : Counts) (e : answered_whole s lent ≡ Extraction.Mesh c) where
   abbrev lists : LentWhole

@@ -29,7 +29,7 @@ use Rattle.promises.specs.Left.{counts}
 use Rattle.promises.specs.Enough.{enough_vertices, enough_triangles}
 use Rattle.promises.specs.Former.{former_most, former_verdict, record_by, extract_by, point_by, read_by, write_by, subdivisions_by, blank_by, record_point_by, sample_by}
 use Rattle.promises.specs.Larger.{AnsweredBy, LargerRefused, largest_count, largest_vertices, largest_triangles, largest_edge, CornersBelow, Reached, LargerPromises}
-use Rattle.promises.specs.Room.{enough}
+use Rattle.promises.proofs.Room.{enough}
 
 -- ---- a verdict that is the same leaves every call the same
 

@@ -25,12 +25,12 @@ use Rattle.closed.specs.Clauses.{no_vertex, edge_at}
 use Rattle.closed.proofs.Marks.{marked, unmarked}
 use Rattle.promises.specs.Left.{answered, left, counts}
 use Rattle.promises.specs.Orders.{in_order, Numbered, Judged, block_judges}
-use Rattle.promises.specs.Judges.{◌&◌, judged, by_unless, numbered_append, faces_number, block_numbered}
-use Rattle.promises.specs.ReadBack.{is_laid}
+use Rattle.promises.proofs.Judges.{◌&◌, judged, by_unless, numbered_append, faces_number, block_numbered}
+use Rattle.promises.proofs.ReadBack.{is_laid}
 use Rattle.promises.specs.Reads.{reported}
-use Rattle.promises.specs.Surface.{laid_at}
-use Rattle.promises.specs.Extracted as Alone
-use Rattle.promises.specs.Extracted.{mesh_answered}
+use Rattle.promises.proofs.Surface.{laid_at}
+use Rattle.promises.proofs.Extracted as Alone
+use Rattle.promises.proofs.Extracted.{mesh_answered}
 use Rattle.promises.specs.Weld.{LentWhole, edge_in, whole_outcome, answered_whole, left_whole, whole_judges, WholeIsLeft, WholeExtraction}
 
 -- what passes with one judge more, passes without it

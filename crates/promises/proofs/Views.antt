@@ -30,7 +30,7 @@ use Rattle.grid.specs.Places.{value_is}
 use Rattle.judge.specs.First.{both_passed, unless_passed}
 use Rattle.promises.specs.Orders.{Judge, in_order, Numbered, Judged, Packed, record_judges, point_judge, point_judges, sample_judges}
 use Rattle.promises.specs.Points.{point_value, point_kind}
-use Rattle.promises.specs.Judges.{judged, record_in_order, point_in_order, sample_in_order, record_numbered, point_numbered, sample_numbered}
+use Rattle.promises.proofs.Judges.{judged, record_in_order, point_in_order, sample_in_order, record_numbered, point_numbered, sample_numbered}
 
 abbrev reading_if : Bool → Float → PlaceKind → ℕ → Reading
 reading_if b x kind count = cond b (Reading.Value x kind) (Reading.NeverSampled count)

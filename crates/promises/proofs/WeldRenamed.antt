@@ -25,11 +25,11 @@ use Rattle.weld.specs.Definition.{kept, kept_before, keeper, new_index, weld_ans
 use Rattle.weld.specs.Kept.{kept_mark, keeper_keeps, new_below, new_first, kept_index}
 use Rattle.weld.specs.Welded.{Whole, passes, corner_below, corner_is, same_number, kept_numbers}
 use Rattle.promises.specs.Left.{Lent, answered, left, number_in, vertex_in, triangle_in, mesh_in}
-use Rattle.promises.specs.Extracted.{equal_mesh, vertices_left, triangles_left, no_hole_is_left}
-use Rattle.promises.specs.Surface.{number_is}
-use Rattle.promises.specs.StlKept.{stl_kept}
+use Rattle.promises.proofs.Extracted.{equal_mesh, vertices_left, triangles_left, no_hole_is_left}
+use Rattle.promises.proofs.Surface.{number_is}
+use Rattle.promises.proofs.StlKept.{stl_kept}
 use Rattle.promises.specs.Weld.{LentWhole, answered_whole, left_whole, weld_outcome, left_welded, corner_at, edge_in}
-use Rattle.promises.specs.WeldExtracted.{answered_alike, left_alike, edges_fit, all_made, edge_told, whole_extraction}
+use Rattle.promises.proofs.WeldExtracted.{answered_alike, left_alike, edges_fit, all_made, edge_told, whole_extraction}
 
 -- the vertices and triangles of lists, read back
 module _ (b : Lent) (edge : ℕ → ℕ) (v t : ℕ) where

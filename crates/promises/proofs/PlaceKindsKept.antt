@@ -30,8 +30,8 @@ use Rattle.points.specs.StepKinds.{by_less, below, above, step_kinds}
 use Rattle.judge.specs.First.{both_passed, unless_passed}
 use Rattle.promises.specs.Orders.{Judge, in_order, Numbered, Judged, record_judges, point_judge, point_judges}
 use Rattle.promises.specs.Points.{point_value, point_kind}
-use Rattle.promises.specs.Judges.{numbered_take, others, never_sampled, record_numbered, point_numbered}
-use Rattle.promises.specs.Views.{point, record_point_lem}
+use Rattle.promises.proofs.Judges.{numbered_take, others, never_sampled, record_numbered, point_numbered}
+use Rattle.promises.proofs.Views.{point, record_point_lem}
 use Rattle.promises.specs.PlaceKinds.{In, OneBelow, OneAbove, JustOne, Stands, out_of, Placed, InStore, CameFrom, border_kind, GradientReads, PlaceKindPromises}
 
 -- ---- a coordinate

@@ -25,8 +25,8 @@ use Rattle.weights.specs.Clauses.{AreF32, NearVertices}
 use Rattle.weights.proofs.BothEnds.{near_itself, vertices_near}
 use Rattle.promises.specs.Left.{Lent, answered, left, vertex_in, triangle_in}
 use Rattle.promises.specs.Finer.{labelled_part, NearBy, NoGapIsLeft}
-use Rattle.promises.specs.Surface.{vertex_is, triangle_is}
-use Rattle.promises.specs.Extracted.{passed, faces_passed, vertices_left, triangles_left, equal_mesh}
+use Rattle.promises.proofs.Surface.{vertex_is, triangle_is}
+use Rattle.promises.proofs.Extracted.{passed, faces_passed, vertices_left, triangles_left, equal_mesh}
 
 -- what is said of a mesh is said of its vertices and its triangles, whatever its store and its reads
 as_left : (s : Star) (m : Mesh) (made : List Made) (triangles : List Triangle) (store : List ℕ) → m.made ≡ made → m.triangles ≡ triangles

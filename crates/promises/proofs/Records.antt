@@ -20,8 +20,8 @@ use Rattle.model.specs.Record.{header_length, header_of, count_of, samples_of, j
 use Rattle.judge.specs.First.{both_passed, unless_passed}
 use Rattle.promises.specs.Left.{Laid}
 use Rattle.promises.specs.Orders.{Judged, writing_judges, reading_judges}
-use Rattle.promises.specs.Judges.{judged, reading_in_order, writing_in_order, writing_numbered, reading_numbered}
-use Rattle.promises.specs.ReadBack.{is_laid}
+use Rattle.promises.proofs.Judges.{judged, reading_in_order, writing_in_order, writing_numbered, reading_numbered}
+use Rattle.promises.proofs.ReadBack.{is_laid}
 
 -- ---- reading
 

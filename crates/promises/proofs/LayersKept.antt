@@ -37,10 +37,10 @@ use Rattle.layers.specs.Layered.{layer_nothing}
 use Rattle.layers.specs.Holding.{in_or_apart}
 use Rattle.layers.specs.Setting.{all_stand, each_stands, fresh_stands, touched, untouched, made_beyond, made_long, stands_after}
 use Rattle.promises.specs.Orders.{in_order, Numbered, Judged}
-use Rattle.promises.specs.Judges.{◌&◌, judged, by_unless, subdivisions_number, centre_number, samples_number, point_number, buffer_number}
+use Rattle.promises.proofs.Judges.{◌&◌, judged, by_unless, subdivisions_number, centre_number, samples_number, point_number, buffer_number}
 use Rattle.promises.specs.Points.{point_kind}
 use Rattle.promises.specs.PlaceKinds.{In, AllIn, Stands}
-use Rattle.promises.specs.PlaceKindsKept.{stands_so, stands}
+use Rattle.promises.proofs.PlaceKindsKept.{stands_so, stands}
 use Rattle.promises.specs.Layers.{making_judges, setting_judges, LayerNumbers, SummaryMade, InLayer, SampleSet, DiffersFirst, MakesNothing, LayerPromises}
 
 -- ---- making

@@ -28,8 +28,8 @@ use Rattle.repair.specs.Outcomes.{accepted, star_after, faces_after, done_again,
 use Rattle.promises.specs.Left.{Laid, Lent, answered, counts}
 use Rattle.promises.specs.Orders.{in_order, Numbered, Judged, room_judges}
 use Rattle.promises.specs.Repair.{repair_judges, Told, ListTells, SoundDelivery, RepairPromises}
-use Rattle.promises.specs.Judges.{◌&◌, judged, by_unless, numbered_append, lent_numbered, room_numbered}
-use Rattle.promises.specs.ReadBack.{is_laid}
+use Rattle.promises.proofs.Judges.{◌&◌, judged, by_unless, numbered_append, lent_numbered, room_numbered}
+use Rattle.promises.proofs.ReadBack.{is_laid}
 
 -- ---- the call
 

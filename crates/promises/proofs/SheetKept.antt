@@ -44,10 +44,10 @@ use Rattle.sheet.specs.Totals.{added_up, total_most}
 use Rattle.promises.specs.Left.{Lent, answered, counts, centre_of, neighbours_of}
 use Rattle.promises.specs.Orders.{in_order, Judged, record_judges}
 use Rattle.promises.specs.Enough.{enough_vertices, enough_triangles}
-use Rattle.promises.specs.Judges.{◌&◌, judged, extraction_in_order, record_numbered, faces_number, numbered_append}
-use Rattle.promises.specs.Extracted.{extraction, faces_passed, equal_mesh}
-use Rattle.promises.specs.BlankKept.{block_passed}
-use Rattle.promises.specs.Room.{enough}
+use Rattle.promises.proofs.Judges.{◌&◌, judged, extraction_in_order, record_numbered, faces_number, numbered_append}
+use Rattle.promises.proofs.Extracted.{extraction, faces_passed, equal_mesh}
+use Rattle.promises.proofs.BlankKept.{block_passed}
+use Rattle.promises.proofs.Room.{enough}
 use Rattle.promises.specs.Sheet.{line_judges, counts_of, most_of_byte, SheetPromises}
 
 -- ---- a record's line

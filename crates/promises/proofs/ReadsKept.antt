@@ -23,10 +23,10 @@ use Rattle.judge.specs.First.{both_passed}
 use Rattle.judge.specs.Passing.{star_shaped}
 use Rattle.promises.specs.Left.{Lent, answered, counts}
 use Rattle.promises.specs.Enough.{enough_vertices}
-use Rattle.promises.specs.Extracted.{passed, equal_mesh}
-use Rattle.promises.specs.Room.{named_most, sides_named, enough}
+use Rattle.promises.proofs.Extracted.{passed, equal_mesh}
+use Rattle.promises.proofs.Room.{named_most, sides_named, enough}
 use Rattle.promises.specs.Reads.{reported, reads_total, most_reads, ReadsPromises}
-use Rattle.promises.specs.ReadsReached.{alone, alone_mask, alone_costly, among, among_mask, among_costly}
+use Rattle.promises.proofs.ReadsReached.{alone, alone_mask, alone_costly, among, among_mask, among_costly}
 
 -- ---- the count
 

@@ -9,8 +9,8 @@ use Rattle.weights.specs.Clauses.{AreF32, VertexWeighed, Weights}
 use Rattle.weights.proofs.Weights.{weights}
 use Rattle.promises.specs.Left.{Lent, answered, left}
 use Rattle.promises.specs.Weights.{LeftWeighed, WeightsPromises}
-use Rattle.promises.specs.Surface.{vertex_is}
-use Rattle.promises.specs.Extracted.{passed, faces_passed, equal_mesh, vertices_left, triangles_left}
+use Rattle.promises.proofs.Surface.{vertex_is}
+use Rattle.promises.proofs.Extracted.{passed, faces_passed, equal_mesh, vertices_left, triangles_left}
 
 module _ (s : Star) (lent : Lent) (c : Counts) (fit : AreF32 s) (e : answered s lent ≡ Extraction.Mesh c) where
   of_mesh : Weights s (mesh_of s)

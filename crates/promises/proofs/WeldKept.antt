@@ -30,13 +30,13 @@ use Rattle.weld.specs.Welded as Laws
 use Rattle.weld.specs.Welded.{Whole, corner_below, corner_is, corners_long, corner_beyond, same_number, kept_numbers, once, welds, again}
 use Rattle.promises.specs.Left.{Lent, number_in, vertex_in, mesh_in, regular_part}
 use Rattle.promises.specs.Orders.{in_order, Numbered, Judged}
-use Rattle.promises.specs.Judges.{◌&◌, judged, Refuses, by_unless, by_first, buffer_number}
-use Rattle.promises.specs.Extracted.{passed, no_hole_is_left}
-use Rattle.promises.specs.Surface.{as_surface}
+use Rattle.promises.proofs.Judges.{◌&◌, judged, Refuses, by_unless, by_first, buffer_number}
+use Rattle.promises.proofs.Extracted.{passed, no_hole_is_left}
+use Rattle.promises.proofs.Surface.{as_surface}
 use Rattle.promises.specs.Weld.{LentWhole, answered_whole, left_whole, weld_outcome, left_welded, new_counts, weld_judges, corner_at, edge_in, IsWelded, OneCarries, regular_vertices, regular_triangles, regular_kept, MeshIsWelded, WeldPromises}
-use Rattle.promises.specs.WeldExtracted.{all_made, edge_told, whole_extraction}
-use Rattle.promises.specs.WeldRenamed.{made_at, alone, mesh_is, regular_in, whole_lists, outcome_is, corner_low, edge_anew, numbers_anew, corner_anew, named_anew}
-use Rattle.promises.specs.WeldFinerKept.{no_gap_after}
+use Rattle.promises.proofs.WeldExtracted.{all_made, edge_told, whole_extraction}
+use Rattle.promises.proofs.WeldRenamed.{made_at, alone, mesh_is, regular_in, whole_lists, outcome_is, corner_low, edge_anew, numbers_anew, corner_anew, named_anew}
+use Rattle.promises.proofs.WeldFinerKept.{no_gap_after}
 
 -- ---- the pass over any lists
 

@@ -33,10 +33,10 @@ use Rattle.stl.specs.RoundTrip.{write_read, corner_back, read_write}
 use Rattle.promises.specs.Left.{Laid, Lent, answered, left}
 use Rattle.promises.specs.Orders.{in_order, Numbered, Judged}
 use Rattle.promises.specs.Stl.{stl_writing_judges, stl_reading_judges, vertices_left, triangles_left, WritableAsStl, StlPromises}
-use Rattle.promises.specs.Judges.{◌&◌, judged, one_or_other, Refuses, by_unless, by_first, buffer_number}
-use Rattle.promises.specs.ReadBack.{is_laid}
-use Rattle.promises.specs.Extracted.{passed, equal_mesh}
-use Rattle.promises.specs.LargerKept.{triangles_few}
+use Rattle.promises.proofs.Judges.{◌&◌, judged, one_or_other, Refuses, by_unless, by_first, buffer_number}
+use Rattle.promises.proofs.ReadBack.{is_laid}
+use Rattle.promises.proofs.Extracted.{passed, equal_mesh}
+use Rattle.promises.proofs.LargerKept.{triangles_few}
 
 -- ---- writing
 

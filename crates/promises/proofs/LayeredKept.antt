@@ -29,11 +29,11 @@ use Rattle.layers.specs.Over.{Trusted, trusted}
 use Rattle.layers.specs.Layered.{spared, layered_same, spared_whole, extract_spared}
 use Rattle.promises.specs.Left.{counts}
 use Rattle.promises.specs.Orders.{in_order, Numbered, Judged, block_judges}
-use Rattle.promises.specs.Judges.{◌&◌, judged, by_unless, by_first, numbered_append, faces_number, buffer_number, block_numbered}
-use Rattle.promises.specs.Extracted.{mesh_answered}
-use Rattle.promises.specs.Room.{named_most, sides_named}
+use Rattle.promises.proofs.Judges.{◌&◌, judged, by_unless, by_first, numbered_append, faces_number, buffer_number, block_numbered}
+use Rattle.promises.proofs.Extracted.{mesh_answered}
+use Rattle.promises.proofs.Room.{named_most, sides_named}
 use Rattle.promises.specs.Reads.{reads_total, most_reads}
-use Rattle.promises.specs.ReadsKept.{mesh_total, mesh_most, came_refused, came_most}
+use Rattle.promises.proofs.ReadsKept.{mesh_total, mesh_most, came_refused, came_most}
 use Rattle.promises.specs.Weld.{LentWhole, whole_outcome}
 use Rattle.promises.specs.Layered.{layered_outcome, answered_layered, left_layered, reported_layered, layered_judges, SummaryStands, Alike, LayeredPromises}
 

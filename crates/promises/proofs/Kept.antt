@@ -6,24 +6,24 @@ use Rattle.model.specs.Viewer.{subdivisions_answer, blank_answer}
 use Rattle.model.specs.Figures.{figures_agree}
 use Rattle.record.specs.RoundTrip.{read_write, write_read}
 use Rattle.promises.specs.Promises.{Promises}
-use Rattle.promises.specs.Extracted.{extraction, extraction_untouched, wanted, equal_mesh, no_hole_is_left}
-use Rattle.promises.specs.Records.{reading, reading_untouched, samples_laid, writing, writing_untouched, bytes_laid}
-use Rattle.promises.specs.Room.{enough}
-use Rattle.promises.specs.StlKept.{stl_kept}
-use Rattle.promises.specs.NestingKept.{nesting_kept}
-use Rattle.promises.specs.PlaceKindsKept.{place_kinds_kept}
-use Rattle.promises.specs.BlankKept.{blank_kept}
-use Rattle.promises.specs.WeightsKept.{weights_kept}
-use Rattle.promises.specs.FinerKept.{no_gap_is_left}
-use Rattle.promises.specs.ReadsKept.{reads_kept}
-use Rattle.promises.specs.VolumeKept.{volume_kept}
-use Rattle.promises.specs.LargerKept.{larger_kept}
-use Rattle.promises.specs.SheetKept.{sheet_kept}
-use Rattle.promises.specs.RepairKept.{repair_kept}
-use Rattle.promises.specs.WeldKept.{weld_kept}
-use Rattle.promises.specs.LayersKept.{layers_kept}
-use Rattle.promises.specs.LayeredKept.{layered_kept}
-use Rattle.promises.specs.Views.{point, packed_record, subdivisions_apart, blank_apart, viewer_sample}
+use Rattle.promises.proofs.Extracted.{extraction, extraction_untouched, wanted, equal_mesh, no_hole_is_left}
+use Rattle.promises.proofs.Records.{reading, reading_untouched, samples_laid, writing, writing_untouched, bytes_laid}
+use Rattle.promises.proofs.Room.{enough}
+use Rattle.promises.proofs.StlKept.{stl_kept}
+use Rattle.promises.proofs.NestingKept.{nesting_kept}
+use Rattle.promises.proofs.PlaceKindsKept.{place_kinds_kept}
+use Rattle.promises.proofs.BlankKept.{blank_kept}
+use Rattle.promises.proofs.WeightsKept.{weights_kept}
+use Rattle.promises.proofs.FinerKept.{no_gap_is_left}
+use Rattle.promises.proofs.ReadsKept.{reads_kept}
+use Rattle.promises.proofs.VolumeKept.{volume_kept}
+use Rattle.promises.proofs.LargerKept.{larger_kept}
+use Rattle.promises.proofs.SheetKept.{sheet_kept}
+use Rattle.promises.proofs.RepairKept.{repair_kept}
+use Rattle.promises.proofs.WeldKept.{weld_kept}
+use Rattle.promises.proofs.LayersKept.{layers_kept}
+use Rattle.promises.proofs.LayeredKept.{layered_kept}
+use Rattle.promises.proofs.Views.{point, packed_record, subdivisions_apart, blank_apart, viewer_sample}
 
 pub kept : Promises
 unfolding subdivisions_answer blank_answer

@@ -24,8 +24,8 @@ use Rattle.blankness.proofs.Theorems.{blank_none, blank_exactly, mask_zero}
 use Rattle.promises.specs.Left.{Lent, answered, counts, centre_of, neighbours_of}
 use Rattle.promises.specs.Orders.{in_order, block_judges, record_judges}
 use Rattle.promises.specs.Blank.{BlankPromises}
-use Rattle.promises.specs.Judges.{block_in_order, record_in_order}
-use Rattle.promises.specs.Extracted.{faces_passed, equal_mesh}
+use Rattle.promises.proofs.Judges.{block_in_order, record_in_order}
+use Rattle.promises.proofs.Extracted.{faces_passed, equal_mesh}
 
 -- one number of two, and one that is no refusal's
 is_one : (b : Bool) → (cond {A = ℕ} b 1 0 ≡ 1) ↔ (b ≡ true)
