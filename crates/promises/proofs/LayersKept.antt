@@ -29,7 +29,7 @@ use Rattle.cases.specs.Marks.{all_regular, uncut}
 use Rattle.layers.specs.Definition.{judge_own, layers_made, judge_making, make_answer, make_summary, point_up, place_up, judge_change, judge_setting, renewed, set_answer, set_sample}
 use Rattle.layers.specs.Order.{eq_le, eq_ge, le_not}
 use Rattle.layers.specs.Passing.{own, makeable, Changeable, changeable, setting_passed, set_own}
-use Rattle.layers.specs.Places.{plane, in_layer, in_layer_lem, layer_has, is_stored}
+use Rattle.layers.specs.Places.{in_layer, in_layer_lem, layer_has, is_stored}
 use Rattle.layers.specs.Made.{as_long, made_in, place_stays}
 use Rattle.layers.specs.OneSided.{least_is, greatest_is, is_over, not_cut}
 use Rattle.layers.specs.Over.{Trusted, threshold_number, trusted}

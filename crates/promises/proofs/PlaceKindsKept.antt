@@ -16,7 +16,6 @@ use Rattle.model.specs.declared.Refusal.TheVariants.{PointNeverSampled}
 use Rattle.model.specs.declared.Verdict.{Verdict}
 use Rattle.model.specs.declared.Verdict.TheVariants.{Passed, Refused}
 use Rattle.model.specs.declared.PointRead.{PointRead}
-use Rattle.model.specs.declared.PointRead.TheVariants as PointRead
 use Rattle.model.specs.Samples.{on_face, place_of, outside, sampled, kind_of, is_outside, outside_count, reading_at, value_at, one_up}
 use Rattle.model.specs.Extraction.{read_point}
 use Rattle.model.specs.Record.{header_of, samples_of}

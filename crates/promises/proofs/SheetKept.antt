@@ -27,12 +27,9 @@ use Rattle.record.specs.Reading.{was_read}
 use Rattle.record.specs.RoundTrip.{read_star}
 use Rattle.sheet.specs.declared.Figures.{Figures}
 use Rattle.sheet.specs.declared.Line.{Line}
-use Rattle.sheet.specs.declared.Line.TheVariants as Line
 use Rattle.sheet.specs.declared.LineAt.{LineAt}
 use Rattle.sheet.specs.declared.SheetLine.{SheetLine}
-use Rattle.sheet.specs.declared.SheetLine.TheVariants as SheetLine
 use Rattle.sheet.specs.declared.SheetTotal.{SheetTotal}
-use Rattle.sheet.specs.declared.SheetTotal.TheVariants as SheetTotal
 use Rattle.sheet.specs.Definition.{is_inside, inside_at, inside_samples, crosses, crosses_x, crosses_y, crosses_z, x_edges, y_edges, z_edges, figures_of, judge_line, line_by, line_of, row_of, rows_of, adds, total_of, most_run, line_answer, sheet_line, sheet_total}
 use Rattle.sheet.specs.Rows.{carries_vertex, row_at, begin_of, AtMost}
 use Rattle.sheet.proofs.Counted.{vertices_are, triangles_are}

@@ -13,12 +13,10 @@ use Rattle.laws.specs.Steps.{listed}
 use Rattle.laws.specs.Lists.{length_listed, get_d_listed}
 use Rattle.model.specs.declared.PlaceKind.{PlaceKind}
 use Rattle.model.specs.declared.Reading.{Reading}
-use Rattle.model.specs.declared.Reading.TheVariants as Reading
 use Rattle.model.specs.declared.Refusal.TheVariants.{Subdivisions, PointNeverSampled}
 use Rattle.model.specs.declared.Verdict.{Verdict}
 use Rattle.model.specs.declared.Verdict.TheVariants.{Passed, Refused}
 use Rattle.model.specs.declared.PointRead.{PointRead}
-use Rattle.model.specs.declared.PointRead.TheVariants as PointRead
 use Rattle.model.specs.Samples.{place_of, sampled, outside_count, reading_at, value_of, value_at, one_up}
 use Rattle.model.specs.Limits.{most_subdivisions}
 use Rattle.model.specs.Refusals.{unless, or_else}

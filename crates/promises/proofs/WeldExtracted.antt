@@ -16,7 +16,7 @@ use Rattle.model.specs.Limits.{most_subdivisions}
 use Rattle.model.specs.Star.{Star, subdivisions}
 use Rattle.model.specs.Refusals.{or_else}
 use Rattle.model.specs.Judging.{judge_lent, judge_star, judge_faces, judge_store, judge_room}
-use Rattle.model.specs.Mesh.{Mesh, store_length, no_edge, regular_mesh, mesh_of}
+use Rattle.model.specs.Mesh.{store_length, no_edge, regular_mesh, mesh_of}
 use Rattle.model.specs.Extraction.{Outcome, judge_extraction, outcome, extract}
 use Rattle.model.specs.Edges.{judge_edges, edge_number, judge_whole, edges_left, extract_whole}
 use Rattle.judge.specs.First.{or_else_assoc, or_else_passed, unless_passed}

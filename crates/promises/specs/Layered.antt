@@ -6,7 +6,6 @@ use Rattle.std.specs.Int.Count.{ones}
 use Rattle.model.specs.declared.Counts.{Counts}
 use Rattle.model.specs.declared.Refusal.{Refusal}
 use Rattle.model.specs.declared.Extraction.{Extraction}
-use Rattle.model.specs.declared.Extraction.TheVariants as Extraction
 use Rattle.model.specs.Star.{Star, subdivisions}
 use Rattle.model.specs.Refusals.{or_else}
 use Rattle.model.specs.Judging.{judge_star, judge_faces, judge_store, judge_room, judge_buffer}

@@ -8,7 +8,6 @@ use Rattle.model.specs.declared.PlaceKind.{PlaceKind}
 use Rattle.model.specs.declared.PlaceKind.TheVariants.{InBlock, Face}
 use Rattle.model.specs.declared.Reading.TheVariants.{Value}
 use Rattle.model.specs.declared.PointRead.{PointRead}
-use Rattle.model.specs.declared.PointRead.TheVariants as PointRead
 use Rattle.model.specs.declared.Refusal.TheVariants.{PointNeverSampled}
 use Rattle.model.specs.Samples.{place_of, sampled, reading_at, value_at}
 use Rattle.model.specs.Rotations.{face_point, neighbour_point}

@@ -1,13 +1,12 @@
 -- What the buyer was promised of the weld (document 02, [10]), for every input: what extraction with the further list answers and leaves, what the
 -- pass answers and leaves of any lists, and what it leaves of extraction's mesh. It speaks of the model's `extract_whole` and of weld's `weld`, to
 -- which the `ensures` of the calls say that the code is equal, in the words of weld's Definition. Definitions only.
-use Rattle.std.specs.Prelude.{ℕ, ◌+◌, ◌*◌, ◌≤◌, ◌<◌, ◌≡◌, true, List, [], ◌∷◌, ◌++◌, ◌↔◌, length, get_or, take}
+use Rattle.std.specs.Prelude.{ℕ, ◌*◌, ◌≤◌, ◌<◌, ◌≡◌, true, List, [], ◌∷◌, ◌++◌, ◌↔◌, length, get_or, take}
 use Rattle.std.specs.Float.{nan}
 use Rattle.laws.specs.Steps.{listed, each}
 use Rattle.model.specs.declared.Counts.{Counts}
 use Rattle.model.specs.declared.Refusal.{Refusal}
 use Rattle.model.specs.declared.Extraction.{Extraction}
-use Rattle.model.specs.declared.Extraction.TheVariants as Extraction
 use Rattle.model.specs.Star.{Star, subdivisions}
 use Rattle.model.specs.Judging.{judge_faces, judge_store, judge_room, judge_buffer}
 use Rattle.model.specs.Corners.{judge_named}
