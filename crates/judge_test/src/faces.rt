@@ -4,6 +4,7 @@
 use crate::given::{block, judged, put};
 use crate::tally::{Tally, passes, refuses};
 use model::Verdict;
+use std::io;
 
 // Every sample is outside the threshold but one of each list, or one alone where the other place is past its list.
 fn marked(in_centre: usize, in_neighbours: usize) -> Verdict {
@@ -14,22 +15,22 @@ fn marked(in_centre: usize, in_neighbours: usize) -> Verdict {
     judged(block(2), 33, 0.5, &centre, &neighbours)
 }
 
-fn one(t: Tally) -> Tally {
-    let t = passes(t, marked(81, 550));
-    let t = refuses(t, marked(4, 550), 8, 0, 1, 1);
-    let t = refuses(t, marked(2, 550), 8, 0, 0, 0);
-    let t = refuses(t, marked(23, 550), 8, 5, 0, 1);
-    let t = refuses(t, marked(81, 100), 8, 0, 2, 0);
-    refuses(t, marked(81, 345), 8, 5, 1, 2)
+fn one(rt: &impl Print, t: Tally) -> io::Result<Tally> {
+    let t = passes(rt, t, marked(81, 550))?;
+    let t = refuses(rt, t, marked(4, 550), 8, 0, 1, 1)?;
+    let t = refuses(rt, t, marked(2, 550), 8, 0, 0, 0)?;
+    let t = refuses(rt, t, marked(23, 550), 8, 5, 0, 1)?;
+    let t = refuses(rt, t, marked(81, 100), 8, 0, 2, 0)?;
+    refuses(rt, t, marked(81, 345), 8, 5, 1, 2)
 }
 
 // The first of two in the order side, u, v; a pair that agrees; a fine point that coincides with none; a point of no named side.
-fn two(t: Tally) -> Tally {
-    let t = refuses(t, marked(4, 100), 8, 0, 1, 1);
-    let t = refuses(t, marked(23, 100), 8, 0, 2, 0);
-    let t = passes(t, marked(6, 120));
-    let t = passes(t, marked(81, 105));
-    passes(t, marked(9, 550))
+fn two(rt: &impl Print, t: Tally) -> io::Result<Tally> {
+    let t = refuses(rt, t, marked(4, 100), 8, 0, 1, 1)?;
+    let t = refuses(rt, t, marked(23, 100), 8, 0, 2, 0)?;
+    let t = passes(rt, t, marked(6, 120))?;
+    let t = passes(rt, t, marked(81, 105))?;
+    passes(rt, t, marked(9, 550))
 }
 
 // One sample of the centre's LowX face beside zeros, at threshold 0.
@@ -40,14 +41,14 @@ fn at_zero(x: f32) -> Verdict {
     judged(block(2), 1, 0.0, &centre, &neighbours)
 }
 
-fn inside(t: Tally) -> Tally {
-    let t = passes(t, at_zero(-0.0));
-    let t = passes(t, at_zero(1.0));
-    refuses(t, at_zero(-1.0), 8, 0, 1, 1)
+fn inside(rt: &impl Print, t: Tally) -> io::Result<Tally> {
+    let t = passes(rt, t, at_zero(-0.0))?;
+    let t = passes(rt, t, at_zero(1.0))?;
+    refuses(rt, t, at_zero(-1.0), 8, 0, 1, 1)
 }
 
-pub fn run(t: Tally) -> Tally {
-    let t = one(t);
-    let t = two(t);
-    inside(t)
+pub fn run(rt: &impl Print, t: Tally) -> io::Result<Tally> {
+    let t = one(rt, t)?;
+    let t = two(rt, t)?;
+    inside(rt, t)
 }

@@ -8,6 +8,7 @@ use crate::tally::{Tally, noted};
 use model::{Header, Vector, Xyz};
 use points::block::regular_position;
 use points::fractions::fractions_of;
+use std::io;
 
 const LOW_X: u8 = 1;
 
@@ -28,33 +29,34 @@ fn position(n: usize, x: usize, y: usize, z: usize) -> Vector
 }
 
 // By 0.15 * (1 * (1/2)), toward the inside.
-fn at_two(t: Tally) -> Tally {
-    let t = noted(t, is_at(position(2, 0, 1, 1), 0.075, 0.5, 0.5));
-    noted(t, is_at(position(2, 0, 0, 1), 0.0, 0.0, 0.5))
+fn at_two(rt: &impl Print, t: Tally) -> io::Result<Tally> {
+    let t = noted(rt, t, is_at(position(2, 0, 1, 1), 0.075, 0.5, 0.5))?;
+    noted(rt, t, is_at(position(2, 0, 0, 1), 0.0, 0.0, 0.5))
 }
 
-fn stays(t: Tally, x: usize, y: usize, z: usize) -> Tally
+fn stays(rt: &impl Print, t: Tally, x: usize, y: usize, z: usize) -> io::Result<Tally>
     requires { (x ≤ 1) × (y ≤ 1) × (z ≤ 1) }
 {
     let p = position(1, x, y, z);
     noted(
+        rt,
         t,
         is_at(p, x as u16 as f32, y as u16 as f32, z as u16 as f32),
     )
 }
 
-fn at_one(t: Tally) -> Tally {
-    let t = stays(t, 0, 0, 0);
-    let t = stays(t, 0, 0, 1);
-    let t = stays(t, 0, 1, 0);
-    let t = stays(t, 0, 1, 1);
-    let t = stays(t, 1, 0, 0);
-    let t = stays(t, 1, 0, 1);
-    let t = stays(t, 1, 1, 0);
-    stays(t, 1, 1, 1)
+fn at_one(rt: &impl Print, t: Tally) -> io::Result<Tally> {
+    let t = stays(rt, t, 0, 0, 0)?;
+    let t = stays(rt, t, 0, 0, 1)?;
+    let t = stays(rt, t, 0, 1, 0)?;
+    let t = stays(rt, t, 0, 1, 1)?;
+    let t = stays(rt, t, 1, 0, 0)?;
+    let t = stays(rt, t, 1, 0, 1)?;
+    let t = stays(rt, t, 1, 1, 0)?;
+    stays(rt, t, 1, 1, 1)
 }
 
-pub fn run(t: Tally) -> Tally {
-    let t = at_two(t);
-    at_one(t)
+pub fn run(rt: &impl Print, t: Tally) -> io::Result<Tally> {
+    let t = at_two(rt, t)?;
+    at_one(rt, t)
 }

@@ -11,21 +11,19 @@ mod reads;
 mod samples;
 mod tally;
 
+use std::io;
 use tally::Tally;
 
-fn main() {
+fn main(rt: HostRuntime) -> io::Result<()> {
     let t = Tally {
         passed: 0,
         failed: 0,
     };
-    let t = ranges::run(t);
-    let t = lengths::run(t);
-    let t = samples::run(t);
-    let t = faces::run(t);
-    let t = reads::run(t);
-    let t = figures::run(t);
-    io::print_decimal(1, t.passed);
-    io::write_all(1, b" passed, ");
-    io::print_decimal(1, t.failed);
-    io::write_all(1, b" failed\n");
+    let t = ranges::run(&rt, t)?;
+    let t = lengths::run(&rt, t)?;
+    let t = samples::run(&rt, t)?;
+    let t = faces::run(&rt, t)?;
+    let t = reads::run(&rt, t)?;
+    let t = figures::run(&rt, t)?;
+    println!(rt; "{} passed, {} failed", t.passed, t.failed)
 }

@@ -2,6 +2,7 @@
 use crate::given::{block, judged_alone};
 use crate::tally::{Tally, passes, refuses};
 use model::{Block, Vector, Verdict};
+use std::io;
 
 const LIMIT: f32 = 1048576.0;
 
@@ -11,15 +12,15 @@ const LEAST_SIZE: f32 = 0.0009765625;
 
 const BELOW_LEAST: f32 = 0.00097656244;
 
-fn kinds(t: Tally) -> Tally {
-    let t = refuses(t, judged_alone(block(0), 0, 0.5), 1, 0, 0, 0);
-    let t = refuses(t, judged_alone(block(65), 0, 0.5), 1, 65, 0, 0);
-    let t = refuses(t, judged_alone(block(65), 64, 0.5), 1, 65, 0, 0);
-    let t = refuses(t, judged_alone(block(17), 0, 0.5), 4, 7776, 0, 0);
-    let t = refuses(t, judged_alone(block(64), 0, 0.5), 4, 299975, 0, 0);
-    let t = refuses(t, judged_alone(block(2), 64, 0.5), 2, 64, 0, 0);
-    let t = refuses(t, judged_alone(block(2), 255, 0.0 / 0.0), 2, 255, 0, 0);
-    passes(t, judged_alone(block(2), 0, 0.5))
+fn kinds(rt: &impl Print, t: Tally) -> io::Result<Tally> {
+    let t = refuses(rt, t, judged_alone(block(0), 0, 0.5), 1, 0, 0, 0)?;
+    let t = refuses(rt, t, judged_alone(block(65), 0, 0.5), 1, 65, 0, 0)?;
+    let t = refuses(rt, t, judged_alone(block(65), 64, 0.5), 1, 65, 0, 0)?;
+    let t = refuses(rt, t, judged_alone(block(17), 0, 0.5), 4, 7776, 0, 0)?;
+    let t = refuses(rt, t, judged_alone(block(64), 0, 0.5), 4, 299975, 0, 0)?;
+    let t = refuses(rt, t, judged_alone(block(2), 64, 0.5), 2, 64, 0, 0)?;
+    let t = refuses(rt, t, judged_alone(block(2), 255, 0.0 / 0.0), 2, 255, 0, 0)?;
+    passes(rt, t, judged_alone(block(2), 0, 0.5))
 }
 
 fn with_measures(x: f32, y: f32, z: f32, size: f32, threshold: f32) -> Verdict {
@@ -47,55 +48,55 @@ fn with_measure(which: usize, x: f32) -> Verdict {
 }
 
 // A NaN, the infinities, and the first number beyond the limit.
-fn bad_measure(t: Tally, which: usize) -> Tally {
-    let t = refuses(t, with_measure(which, 0.0 / 0.0), 3, which, 0, 0);
-    let t = refuses(t, with_measure(which, 1.0 / 0.0), 3, which, 0, 0);
-    let t = refuses(t, with_measure(which, -1.0 / 0.0), 3, which, 0, 0);
-    let t = refuses(t, with_measure(which, BEYOND), 3, which, 0, 0);
-    refuses(t, with_measure(which, -BEYOND), 3, which, 0, 0)
+fn bad_measure(rt: &impl Print, t: Tally, which: usize) -> io::Result<Tally> {
+    let t = refuses(rt, t, with_measure(which, 0.0 / 0.0), 3, which, 0, 0)?;
+    let t = refuses(rt, t, with_measure(which, 1.0 / 0.0), 3, which, 0, 0)?;
+    let t = refuses(rt, t, with_measure(which, -1.0 / 0.0), 3, which, 0, 0)?;
+    let t = refuses(rt, t, with_measure(which, BEYOND), 3, which, 0, 0)?;
+    refuses(rt, t, with_measure(which, -BEYOND), 3, which, 0, 0)
 }
 
 // The limit itself; for all but the size, below 0 too.
-fn signed_measure(t: Tally, which: usize) -> Tally {
-    let t = passes(t, with_measure(which, LIMIT));
-    let t = passes(t, with_measure(which, -LIMIT));
-    passes(t, with_measure(which, -0.0))
+fn signed_measure(rt: &impl Print, t: Tally, which: usize) -> io::Result<Tally> {
+    let t = passes(rt, t, with_measure(which, LIMIT))?;
+    let t = passes(rt, t, with_measure(which, -LIMIT))?;
+    passes(rt, t, with_measure(which, -0.0))
 }
 
-fn sizes(t: Tally) -> Tally {
-    let t = passes(t, with_measure(3, LIMIT));
-    let t = passes(t, with_measure(3, LEAST_SIZE));
-    let t = refuses(t, with_measure(3, BELOW_LEAST), 3, 3, 0, 0);
-    let t = refuses(t, with_measure(3, 0.0), 3, 3, 0, 0);
-    refuses(t, with_measure(3, -1.0), 3, 3, 0, 0)
+fn sizes(rt: &impl Print, t: Tally) -> io::Result<Tally> {
+    let t = passes(rt, t, with_measure(3, LIMIT))?;
+    let t = passes(rt, t, with_measure(3, LEAST_SIZE))?;
+    let t = refuses(rt, t, with_measure(3, BELOW_LEAST), 3, 3, 0, 0)?;
+    let t = refuses(rt, t, with_measure(3, 0.0), 3, 3, 0, 0)?;
+    refuses(rt, t, with_measure(3, -1.0), 3, 3, 0, 0)
 }
 
 // Of several the first is told.
-fn first_measure(t: Tally) -> Tally {
+fn first_measure(rt: &impl Print, t: Tally) -> io::Result<Tally> {
     let nan: f32 = 0.0 / 0.0;
-    let t = refuses(t, with_measures(0.0, nan, nan, 0.0, nan), 3, 1, 0, 0);
-    refuses(t, with_measures(0.0, 0.0, 0.0, 0.0, nan), 3, 3, 0, 0)
+    let t = refuses(rt, t, with_measures(0.0, nan, nan, 0.0, nan), 3, 1, 0, 0)?;
+    refuses(rt, t, with_measures(0.0, 0.0, 0.0, 0.0, nan), 3, 3, 0, 0)
 }
 
-fn bad_measures(t: Tally) -> Tally {
-    let t = bad_measure(t, 0);
-    let t = bad_measure(t, 1);
-    let t = bad_measure(t, 2);
-    let t = bad_measure(t, 3);
-    bad_measure(t, 4)
+fn bad_measures(rt: &impl Print, t: Tally) -> io::Result<Tally> {
+    let t = bad_measure(rt, t, 0)?;
+    let t = bad_measure(rt, t, 1)?;
+    let t = bad_measure(rt, t, 2)?;
+    let t = bad_measure(rt, t, 3)?;
+    bad_measure(rt, t, 4)
 }
 
-fn signed_measures(t: Tally) -> Tally {
-    let t = signed_measure(t, 0);
-    let t = signed_measure(t, 1);
-    let t = signed_measure(t, 2);
-    signed_measure(t, 4)
+fn signed_measures(rt: &impl Print, t: Tally) -> io::Result<Tally> {
+    let t = signed_measure(rt, t, 0)?;
+    let t = signed_measure(rt, t, 1)?;
+    let t = signed_measure(rt, t, 2)?;
+    signed_measure(rt, t, 4)
 }
 
-pub fn run(t: Tally) -> Tally {
-    let t = kinds(t);
-    let t = bad_measures(t);
-    let t = signed_measures(t);
-    let t = sizes(t);
-    first_measure(t)
+pub fn run(rt: &impl Print, t: Tally) -> io::Result<Tally> {
+    let t = kinds(rt, t)?;
+    let t = bad_measures(rt, t)?;
+    let t = signed_measures(rt, t)?;
+    let t = sizes(rt, t)?;
+    first_measure(rt, t)
 }

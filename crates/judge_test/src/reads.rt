@@ -7,6 +7,7 @@ ghost use Rattle.model.specs.Limits.{most_subdivisions};
 
 use crate::tally::{Tally, read_gives, read_refuses};
 use judge::point_read::read_point;
+use std::io;
 
 // x runs from -2 to 18, y and z from -2 to 29.
 const NUMBERS: usize = 21504;
@@ -106,7 +107,13 @@ fn lay_all(n: usize, samples: &mut [f32])
     }
 }
 
-fn read_back(t: Tally, n: usize, samples: &[f32], number: usize) -> Tally
+fn read_back(
+    rt: &impl Print,
+    t: Tally,
+    n: usize,
+    samples: &[f32],
+    number: usize,
+) -> io::Result<Tally>
     requires { (n ≤ most_subdivisions) × (number < 21504) }
 {
     let x = SIGNED[number / 1024];
@@ -115,55 +122,67 @@ fn read_back(t: Tally, n: usize, samples: &[f32], number: usize) -> Tally
     let read = read_point(n, samples, x, y, z);
     let from = part(n, number);
     if from == 0 {
-        return read_refuses(t, read, 15, outside_count(n, number));
+        return read_refuses(rt, t, read, 15, outside_count(n, number));
     }
-    read_gives(t, read, mark(number), from)
+    read_gives(rt, t, read, mark(number), from)
 }
 
-fn read_all(t: Tally, n: usize, samples: &[f32]) -> Tally
+fn read_all(rt: &impl Print, t: Tally, n: usize, samples: &[f32]) -> io::Result<Tally>
     requires { n ≤ most_subdivisions }
 {
     let mut t = t;
     for number in 0..NUMBERS {
-        t = read_back(t, n, samples, number);
+        t = read_back(rt, t, n, samples, number)?;
     }
-    t
+    Ok(t)
 }
 
 // 1 and 4 are judged before 15, and coordinates may be as far out as they go.
-fn refusals(t: Tally) -> Tally {
+fn refusals(rt: &impl Print, t: Tally) -> io::Result<Tally> {
     let samples = [0f32; 82];
-    let t = read_refuses(t, read_point(0, &samples[..81], -5, 0, 0), 1, 0);
-    let t = read_refuses(t, read_point(65, &samples[..81], 0, 0, 0), 1, 65);
-    let t = read_refuses(t, read_point(64, &samples[..81], 0, 0, 0), 4, 299975);
-    let t = read_refuses(t, read_point(2, &samples[..80], -5, 0, 0), 4, 81);
-    let t = read_refuses(t, read_point(2, &samples[..82], 0, 0, 0), 4, 81);
-    let t = read_refuses(t, read_point(2, &samples[..81], -1, -1, 0), 15, 2);
-    let t = read_refuses(t, read_point(2, &samples[..81], 2147483647, 0, 0), 15, 1);
-    read_refuses(t, read_point(2, &samples[..81], 0, 0, -2147483648), 15, 1)
+    let t = read_refuses(rt, t, read_point(0, &samples[..81], -5, 0, 0), 1, 0)?;
+    let t = read_refuses(rt, t, read_point(65, &samples[..81], 0, 0, 0), 1, 65)?;
+    let t = read_refuses(rt, t, read_point(64, &samples[..81], 0, 0, 0), 4, 299975)?;
+    let t = read_refuses(rt, t, read_point(2, &samples[..80], -5, 0, 0), 4, 81)?;
+    let t = read_refuses(rt, t, read_point(2, &samples[..82], 0, 0, 0), 4, 81)?;
+    let t = read_refuses(rt, t, read_point(2, &samples[..81], -1, -1, 0), 15, 2)?;
+    let t = read_refuses(
+        rt,
+        t,
+        read_point(2, &samples[..81], 2147483647, 0, 0),
+        15,
+        1,
+    )?;
+    read_refuses(
+        rt,
+        t,
+        read_point(2, &samples[..81], 0, 0, -2147483648),
+        15,
+        1,
+    )
 }
 
-fn smallest(t: Tally) -> Tally {
+fn smallest(rt: &impl Print, t: Tally) -> io::Result<Tally> {
     let mut samples = [0f32; 32];
     lay_all(1, &mut samples);
-    read_all(t, 1, &samples)
+    read_all(rt, t, 1, &samples)
 }
 
-fn small(t: Tally) -> Tally {
+fn small(rt: &impl Print, t: Tally) -> io::Result<Tally> {
     let mut samples = [0f32; 81];
     lay_all(2, &mut samples);
-    read_all(t, 2, &samples)
+    read_all(rt, t, 2, &samples)
 }
 
-fn large(t: Tally) -> Tally {
+fn large(rt: &impl Print, t: Tally) -> io::Result<Tally> {
     let mut samples = [0f32; 6647];
     lay_all(16, &mut samples);
-    read_all(t, 16, &samples)
+    read_all(rt, t, 16, &samples)
 }
 
-pub fn run(t: Tally) -> Tally {
-    let t = refusals(t);
-    let t = smallest(t);
-    let t = small(t);
-    large(t)
+pub fn run(rt: &impl Print, t: Tally) -> io::Result<Tally> {
+    let t = refusals(rt, t)?;
+    let t = smallest(rt, t)?;
+    let t = small(rt, t)?;
+    large(rt, t)
 }

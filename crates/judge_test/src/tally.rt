@@ -1,6 +1,7 @@
 // How many answers agreed and how many did not. One that did not is named by its number, counted from 0.
 use judge::numbers_of;
 use model::{PlaceKind, PointRead, Refusal, Verdict};
+use std::io;
 
 #[derive(Clone, Copy)]
 pub struct Tally {
@@ -8,24 +9,22 @@ pub struct Tally {
     pub failed: u64,
 }
 
-fn tell(number: u64) {
-    io::write_all(1, b"answer ");
-    io::print_decimal(1, number);
-    io::write_all(1, b" differs\n");
+fn tell(rt: &impl Print, number: u64) -> io::Result<()> {
+    println!(rt; "answer {number} differs")
 }
 
-pub fn noted(t: Tally, agrees: bool) -> Tally {
+pub fn noted(rt: &impl Print, t: Tally, agrees: bool) -> io::Result<Tally> {
     if agrees {
-        return Tally {
-            passed: std::num::wrapping_add_u64(t.passed, 1),
+        return Ok(Tally {
+            passed: t.passed.wrapping_add(1),
             failed: t.failed,
-        };
+        });
     }
-    tell(std::num::wrapping_add_u64(t.passed, t.failed));
-    Tally {
+    tell(rt, t.passed.wrapping_add(t.failed))?;
+    Ok(Tally {
         passed: t.passed,
-        failed: std::num::wrapping_add_u64(t.failed, 1),
-    }
+        failed: t.failed.wrapping_add(1),
+    })
 }
 
 fn is_refusal(refusal: Refusal, number: usize, first: usize, second: usize, third: usize) -> bool {
@@ -34,33 +33,40 @@ fn is_refusal(refusal: Refusal, number: usize, first: usize, second: usize, thir
 }
 
 // The verdict passes.
-pub fn passes(t: Tally, verdict: Verdict) -> Tally {
+pub fn passes(rt: &impl Print, t: Tally, verdict: Verdict) -> io::Result<Tally> {
     match verdict {
-        Verdict::Passed => noted(t, true),
-        Verdict::Refused(_) => noted(t, false),
+        Verdict::Passed => noted(rt, t, true),
+        Verdict::Refused(_) => noted(rt, t, false),
     }
 }
 
 // The verdict is the refusal with this number and these three.
 pub fn refuses(
+    rt: &impl Print,
     t: Tally,
     verdict: Verdict,
     number: usize,
     first: usize,
     second: usize,
     third: usize,
-) -> Tally {
+) -> io::Result<Tally> {
     match verdict {
-        Verdict::Passed => noted(t, false),
-        Verdict::Refused(r) => noted(t, is_refusal(r, number, first, second, third)),
+        Verdict::Passed => noted(rt, t, false),
+        Verdict::Refused(r) => noted(rt, t, is_refusal(r, number, first, second, third)),
     }
 }
 
 // A read refuses with this number and this first of its three.
-pub fn read_refuses(t: Tally, read: PointRead, number: usize, first: usize) -> Tally {
+pub fn read_refuses(
+    rt: &impl Print,
+    t: Tally,
+    read: PointRead,
+    number: usize,
+    first: usize,
+) -> io::Result<Tally> {
     match read {
-        PointRead::Value(_, _) => noted(t, false),
-        PointRead::Refused(r) => noted(t, is_refusal(r, number, first, 0, 0)),
+        PointRead::Value(_, _) => noted(rt, t, false),
+        PointRead::Refused(r) => noted(rt, t, is_refusal(r, number, first, 0, 0)),
     }
 }
 
@@ -73,9 +79,15 @@ fn is_part(kind: PlaceKind, part: usize) -> bool {
 }
 
 // A read answers this value, from this part of the samples.
-pub fn read_gives(t: Tally, read: PointRead, value: f32, part: usize) -> Tally {
+pub fn read_gives(
+    rt: &impl Print,
+    t: Tally,
+    read: PointRead,
+    value: f32,
+    part: usize,
+) -> io::Result<Tally> {
     match read {
-        PointRead::Value(v, kind) => noted(t, is_part(kind, part) && v == value),
-        PointRead::Refused(_) => noted(t, false),
+        PointRead::Value(v, kind) => noted(rt, t, is_part(kind, part) && v == value),
+        PointRead::Refused(_) => noted(rt, t, false),
     }
 }

@@ -3,37 +3,41 @@
 #![tactic(auto)]
 
 ghost use Rattle.std.specs.Prelude.{◌<◌};
+ghost use Rattle.std.specs.Str.{IsAscii};
 
-use libc::STDOUT_FILENO;
+use filling::read_full;
 use printing::print_listing;
+use std::io::Read;
+use std::rt::Files;
+use std::{fs, io};
 
-fn print_file(name: &[u8], fd: i32) {
+fn print_file(rt: &impl Print, name: &str, file: &mut impl Read) -> io::Result<()> {
     let mut input = [0u8; 65537];
-    let n = io::read_full(fd, &mut input);
-    libc::close(fd);
-    io::write_all(STDOUT_FILENO, name);
-    io::write_all(STDOUT_FILENO, b"\n");
-    print_listing(&input[..n]);
+    let n = read_full(file, &mut input)?;
+    println!(rt; "{name}")?;
+    print_listing(rt, &input[..n])
 }
 
 // A file that is not there is passed over.
-fn open_and_print(name: &[u8]) {
-    let fd = os::open_read(name);
-    if fd < 0 {
-        return;
+fn open_and_print(rt: &(impl Files + Print), name: &str) -> io::Result<()> {
+    if !fs::exists(rt, name)? {
+        return Ok(());
     }
-    print_file(name, fd);
+    let mut file = fs::open(rt, name)?;
+    print_file(rt, name, &mut file)
 }
 
 fn name_of(k: u8) -> [u8; 3]
     requires { k < 100 }
+    ensures { IsAscii result }
 {
     [b'r', b'0' + k / 10, b'0' + k % 10]
 }
 
-fn main() {
+fn main(rt: HostRuntime) -> io::Result<()> {
     for k in 0u8..100 {
         let name = name_of(k);
-        open_and_print(&name);
+        open_and_print(&rt, str::from_utf8(&name).unwrap())?;
     }
+    Ok(())
 }

@@ -6,9 +6,9 @@ ghost use Rattle.record.specs.Reading.{Held};
 
 use grid::transition_sides::sample_count;
 use grid::voxel_blocks::sample_length;
-use libc::STDOUT_FILENO;
 use model::{Counts, Extraction, Header, RecordRead, Refusal};
 use record::reader::read_record;
+use std::io;
 
 // What document 01 gives the program: the longest record, and the places of its buffers.
 pub const MOST_BYTES: usize = 65536;
@@ -21,99 +21,105 @@ const VERTICES: usize = 12000;
 
 const TRIANGLES: usize = 12000;
 
-fn print_number(n: usize) {
-    io::write_all(STDOUT_FILENO, b" ");
-    io::print_decimal(STDOUT_FILENO, n as u64);
+fn print_number(rt: &impl Print, n: usize) -> io::Result<()> {
+    print!(rt; " {n}")
 }
 
-fn print_bits(bits: u32) {
-    io::write_all(STDOUT_FILENO, b" ");
-    io::print_hex(STDOUT_FILENO, bits as u64, 8);
+fn print_bits(rt: &impl Print, bits: u32) -> io::Result<()> {
+    print!(rt; " {bits:08x}")
 }
 
 // No vertex of an accepted block holds a NaN, which has no bits of its own here.
-fn print_float(x: f32) {
+fn print_float(rt: &impl Print, x: f32) -> io::Result<()> {
     if x != x {
-        io::write_all(STDOUT_FILENO, b" nan");
-        return;
+        return print!(rt; " nan");
     }
-    print_bits(f32::to_bits(x));
+    print_bits(rt, f32::to_bits(x))
 }
 
-fn print_refusal(refusal: Refusal) {
+fn print_refusal(rt: &impl Print, refusal: Refusal) -> io::Result<()> {
     let numbers = judge::numbers_of(refusal);
-    io::write_all(STDOUT_FILENO, b"refused");
-    print_number(numbers.number);
-    print_number(numbers.first);
-    print_number(numbers.second);
-    print_number(numbers.third);
-    io::write_all(STDOUT_FILENO, b"\n");
+    print!(rt; "refused")?;
+    print_number(rt, numbers.number)?;
+    print_number(rt, numbers.first)?;
+    print_number(rt, numbers.second)?;
+    print_number(rt, numbers.third)?;
+    println!(rt)
 }
 
-fn print_counts(counts: Counts) {
-    io::write_all(STDOUT_FILENO, b"mesh");
-    print_number(counts.vertices);
-    print_number(counts.triangles);
-    io::write_all(STDOUT_FILENO, b"\n");
+fn print_counts(rt: &impl Print, counts: Counts) -> io::Result<()> {
+    print!(rt; "mesh")?;
+    print_number(rt, counts.vertices)?;
+    print_number(rt, counts.triangles)?;
+    println!(rt)
 }
 
 // One of the six numbers of a vertex: the first opens the line, the last ends it.
-fn print_vertex_number(which: usize, x: f32) {
+fn print_vertex_number(rt: &impl Print, which: usize, x: f32) -> io::Result<()> {
     if which == 0 {
-        io::write_all(STDOUT_FILENO, b"v");
+        print!(rt; "v")?;
     }
-    print_float(x);
+    print_float(rt, x)?;
     if which == 5 {
-        io::write_all(STDOUT_FILENO, b"\n");
+        println!(rt)?;
     }
+    Ok(())
 }
 
-fn print_vertices(vertices: &[f32], count: usize) {
+fn print_vertices(rt: &impl Print, vertices: &[f32], count: usize) -> io::Result<()> {
     let mut i = 0;
     while i < vertices.len() {
         if i / 6 >= count {
-            return;
+            return Ok(());
         }
-        print_vertex_number(i % 6, vertices[i]);
+        print_vertex_number(rt, i % 6, vertices[i])?;
         i += 1;
     }
+    Ok(())
 }
 
 // One of the three corners of a triangle: the first opens the line, the last ends it.
-fn print_corner(which: usize, index: u32) {
+fn print_corner(rt: &impl Print, which: usize, index: u32) -> io::Result<()> {
     if which == 0 {
-        io::write_all(STDOUT_FILENO, b"t");
+        print!(rt; "t")?;
     }
-    print_number(index as usize);
+    print_number(rt, index as usize)?;
     if which == 2 {
-        io::write_all(STDOUT_FILENO, b"\n");
+        println!(rt)?;
     }
+    Ok(())
 }
 
-fn print_triangles(triangles: &[u32], count: usize) {
+fn print_triangles(rt: &impl Print, triangles: &[u32], count: usize) -> io::Result<()> {
     let mut i = 0;
     while i < triangles.len() {
         if i / 3 >= count {
-            return;
+            return Ok(());
         }
-        print_corner(i % 3, triangles[i]);
+        print_corner(rt, i % 3, triangles[i])?;
         i += 1;
     }
+    Ok(())
 }
 
-fn print_answer(answer: Extraction, vertices: &[f32], triangles: &[u32]) {
+fn print_answer(
+    rt: &impl Print,
+    answer: Extraction,
+    vertices: &[f32],
+    triangles: &[u32],
+) -> io::Result<()> {
     match answer {
-        Extraction::Refused(refusal) => print_refusal(refusal),
+        Extraction::Refused(refusal) => print_refusal(rt, refusal),
         Extraction::Mesh(counts) => {
-            print_counts(counts);
-            print_vertices(vertices, counts.vertices);
-            print_triangles(triangles, counts.triangles);
+            print_counts(rt, counts)?;
+            print_vertices(rt, vertices, counts.vertices)?;
+            print_triangles(rt, triangles, counts.triangles)
         }
     }
 }
 
 // A block whose samples stand in the first places of a list, the centre's first.
-fn print_block(header: Header, samples: &[f32])
+fn print_block(rt: &impl Print, header: Header, samples: &[f32]) -> io::Result<()>
     requires { Held header (length samples.now) }
 {
     let n = header.block.subdivisions;
@@ -131,18 +137,17 @@ fn print_block(header: Header, samples: &[f32])
         &mut triangles,
     );
     let answer = report.answer;
-    print_answer(answer, &vertices, &triangles);
+    print_answer(rt, answer, &vertices, &triangles)
 }
 
-pub fn print_listing(bytes: &[u8]) {
+pub fn print_listing(rt: &impl Print, bytes: &[u8]) -> io::Result<()> {
     if bytes.len() > MOST_BYTES {
-        print_refusal(Refusal::RecordLength);
-        return;
+        return print_refusal(rt, Refusal::RecordLength);
     }
     let mut samples = [0f32; SAMPLES];
     let read = read_record(bytes, &mut samples);
     match read {
-        RecordRead::Refused(refusal) => print_refusal(refusal),
-        RecordRead::Block(header) => print_block(header, &samples),
+        RecordRead::Refused(refusal) => print_refusal(rt, refusal),
+        RecordRead::Block(header) => print_block(rt, header, &samples),
     }
 }

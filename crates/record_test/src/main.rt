@@ -6,6 +6,9 @@ mod reading;
 mod vectors;
 mod writing;
 
+use filling::read_full;
+use std::rt::Files;
+use std::{fs, io};
 use vectors::word;
 
 // What stands at a place of a file: a vector that agreed or did not, with the place after it; or none.
@@ -55,9 +58,9 @@ fn count(file: &[u8], written: bool) -> Tally {
         match next(file, at, written) {
             Step::Next(agreed, then) => {
                 if agreed {
-                    passed = std::num::wrapping_add_u64(passed, 1);
+                    passed = passed.wrapping_add(1);
                 } else {
-                    failed = std::num::wrapping_add_u64(failed, 1);
+                    failed = failed.wrapping_add(1);
                 }
                 at = then;
             }
@@ -69,47 +72,40 @@ fn count(file: &[u8], written: bool) -> Tally {
     Tally { passed, failed, at }
 }
 
-fn run(name: &[u8], file: &[u8], written: bool) {
+fn run(rt: &impl Print, name: &str, file: &[u8], written: bool) -> io::Result<()> {
     let t = count(file, written);
-    io::write_all(1, name);
-    io::write_all(1, b": ");
-    io::print_decimal(1, t.passed);
-    io::write_all(1, b" passed, ");
-    io::print_decimal(1, t.failed);
-    io::write_all(1, b" failed\n");
+    println!(rt; "{name}: {} passed, {} failed", t.passed, t.failed)?;
     if t.at != file.len() {
-        io::write_all(1, b"the file does not end with a vector\n");
+        println!(rt; "the file does not end with a vector")?;
     }
+    Ok(())
 }
 
 // A file that is not there is passed over; one of more than 131,071 bytes is refused.
-fn run_file(name: &[u8], written: bool) {
-    let fd = os::open_read(name);
-    if fd < 0 {
-        return;
+fn run_file(rt: &(impl Files + Print), name: &str, written: bool) -> io::Result<()> {
+    if !fs::exists(rt, name)? {
+        return Ok(());
     }
+    let mut input = fs::open(rt, name)?;
     let mut file = [0u8; 131072];
-    let n = io::read_full(fd, &mut file);
-    libc::close(fd);
+    let n = read_full(&mut input, &mut file)?;
     if n == 131072 {
-        io::write_all(1, name);
-        io::write_all(1, b": too long\n");
-        return;
+        return println!(rt; "{name}: too long");
     }
-    run(name, &file[..n], written);
+    run(rt, name, &file[..n], written)
 }
 
-fn main() {
-    run_file(b"read0", false);
-    run_file(b"read1", false);
-    run_file(b"read2", false);
-    run_file(b"read3", false);
-    run_file(b"read4", false);
-    run_file(b"read5", false);
-    run_file(b"read6", false);
-    run_file(b"faces0", false);
-    run_file(b"faces1", false);
-    run_file(b"write0", true);
-    run_file(b"write1", true);
-    run_file(b"write2", true);
+fn main(rt: HostRuntime) -> io::Result<()> {
+    run_file(&rt, "read0", false)?;
+    run_file(&rt, "read1", false)?;
+    run_file(&rt, "read2", false)?;
+    run_file(&rt, "read3", false)?;
+    run_file(&rt, "read4", false)?;
+    run_file(&rt, "read5", false)?;
+    run_file(&rt, "read6", false)?;
+    run_file(&rt, "faces0", false)?;
+    run_file(&rt, "faces1", false)?;
+    run_file(&rt, "write0", true)?;
+    run_file(&rt, "write1", true)?;
+    run_file(&rt, "write2", true)
 }

@@ -5,12 +5,16 @@
 #![tactic(auto)]
 
 ghost use Rattle.std.specs.Prelude.{◌<◌};
+ghost use Rattle.std.specs.Str.{IsAscii};
 
 mod agreement;
 mod calls;
 mod parts;
 
-use libc::STDOUT_FILENO;
+use filling::read_full;
+use std::io::Read;
+use std::rt::Files;
+use std::{fs, io};
 
 // Lines on failures.
 const MOST_LINES: u64 = 10;
@@ -21,30 +25,27 @@ struct Tally {
     failed: u64,
 }
 
-fn print_failure(name: &[u8], place: usize) {
-    io::write_all(STDOUT_FILENO, name);
-    io::write_all(STDOUT_FILENO, b": the vector at byte ");
-    io::print_decimal(STDOUT_FILENO, place as u64);
-    io::write_all(STDOUT_FILENO, b" failed\n");
+fn print_failure(rt: &impl Print, name: &str, place: usize) -> io::Result<()> {
+    println!(rt; "{name}: the vector at byte {place} failed")
 }
 
-fn counted(t: Tally, passes: bool, name: &[u8], place: usize) -> Tally {
+fn counted(rt: &impl Print, t: Tally, passes: bool, name: &str, place: usize) -> io::Result<Tally> {
     if passes {
-        return Tally {
-            passed: std::num::wrapping_add_u64(t.passed, 1),
+        return Ok(Tally {
+            passed: t.passed.wrapping_add(1),
             failed: t.failed,
-        };
+        });
     }
     if t.failed < MOST_LINES {
-        print_failure(name, place);
+        print_failure(rt, name, place)?;
     }
-    Tally {
+    Ok(Tally {
         passed: t.passed,
-        failed: std::num::wrapping_add_u64(t.failed, 1),
-    }
+        failed: t.failed.wrapping_add(1),
+    })
 }
 
-fn run_vectors(t: Tally, name: &[u8], vectors: &[u8]) -> Tally {
+fn run_vectors(rt: &impl Print, t: Tally, name: &str, vectors: &[u8]) -> io::Result<Tally> {
     let mut tally = t;
     let mut at = 0;
     while at < vectors.len() {
@@ -52,50 +53,53 @@ fn run_vectors(t: Tally, name: &[u8], vectors: &[u8]) -> Tally {
         let start = part.start;
         let end = part.end;
         let passes = calls::passes(&vectors[start..end]);
-        tally = counted(tally, passes, name, at);
+        tally = counted(rt, tally, passes, name, at)?;
         at = end;
     }
-    tally
+    Ok(tally)
 }
 
-fn run_open_file(t: Tally, name: &[u8], fd: i32, vectors: &mut [u8]) -> Tally {
-    let n = io::read_full(fd, vectors);
-    libc::close(fd);
-    run_vectors(t, name, &vectors[0..n])
+fn run_open_file(
+    rt: &impl Print,
+    t: Tally,
+    name: &str,
+    file: &mut impl Read,
+    vectors: &mut [u8],
+) -> io::Result<Tally> {
+    let n = read_full(file, vectors)?;
+    run_vectors(rt, t, name, &vectors[0..n])
 }
 
 // A file that is not there has no vectors; of one that is longer than the array the last one fails.
-fn run_file(t: Tally, name: &[u8]) -> Tally {
-    let fd = os::open_read(name);
-    if fd < 0 {
-        return t;
+fn run_file(rt: &(impl Files + Print), t: Tally, name: &str) -> io::Result<Tally> {
+    if !fs::exists(rt, name)? {
+        return Ok(t);
     }
+    let mut file = fs::open(rt, name)?;
     let mut vectors = [0u8; 64000];
-    run_open_file(t, name, fd, &mut vectors)
+    run_open_file(rt, t, name, &mut file, &mut vectors)
 }
 
 fn name_of(k: u8) -> [u8; 3]
     requires { k < 100 }
+    ensures { IsAscii result }
 {
     [b'v', b'0' + k / 10, b'0' + k % 10]
 }
 
-fn run_files() -> Tally {
+fn run_files(rt: &(impl Files + Print)) -> io::Result<Tally> {
     let mut tally = Tally {
         passed: 0,
         failed: 0,
     };
     for k in 0u8..100 {
         let name = name_of(k);
-        tally = run_file(tally, &name);
+        tally = run_file(rt, tally, str::from_utf8(&name).unwrap())?;
     }
-    tally
+    Ok(tally)
 }
 
-fn main() {
-    let tally = run_files();
-    io::print_decimal(STDOUT_FILENO, tally.passed);
-    io::write_all(STDOUT_FILENO, b" passed, ");
-    io::print_decimal(STDOUT_FILENO, tally.failed);
-    io::write_all(STDOUT_FILENO, b" failed\n");
+fn main(rt: HostRuntime) -> io::Result<()> {
+    let tally = run_files(&rt)?;
+    println!(rt; "{} passed, {} failed", tally.passed, tally.failed)
 }

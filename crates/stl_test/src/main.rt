@@ -5,35 +5,32 @@
 mod again;
 mod meshed;
 
-use check::same;
-use libc::STDOUT_FILENO;
+use filling::read_full;
+use std::rt::Files;
+use std::{fs, io};
 
 // The bytes of a record or a file at most.
 const BYTES: usize = 32768;
 
-fn print_number(words: &[u8], number: usize) {
-    io::write_all(STDOUT_FILENO, words);
-    io::print_decimal(STDOUT_FILENO, number as u64);
+fn print_number(rt: &impl Print, words: &str, number: usize) -> io::Result<()> {
+    print!(rt; "{words}{number}")
 }
 
-fn print_sameness(words: &[u8], agreed: bool) {
-    io::write_all(STDOUT_FILENO, words);
+fn print_sameness(rt: &impl Print, words: &str, agreed: bool) -> io::Result<()> {
     if agreed {
-        io::write_all(STDOUT_FILENO, b"as stored");
+        print!(rt; "{words}as stored")
     } else {
-        io::write_all(STDOUT_FILENO, b"NOT as stored");
+        print!(rt; "{words}NOT as stored")
     }
 }
 
 // A file that is not there has no bytes.
-fn load(name: &[u8], bytes: &mut [u8]) -> usize {
-    let fd = os::open_read(name);
-    if fd < 0 {
-        return 0;
+fn load(rt: &impl Files, name: &str, bytes: &mut [u8]) -> io::Result<usize> {
+    if !fs::exists(rt, name)? {
+        return Ok(0);
     }
-    let n = io::read_full(fd, bytes);
-    libc::close(fd);
-    n
+    let mut file = fs::open(rt, name)?;
+    read_full(&mut file, bytes)
 }
 
 // Whether the first so many bytes are the stored ones.
@@ -41,39 +38,44 @@ fn is_stored(bytes: &[u8], length: usize, stored: &[u8]) -> bool {
     if bytes.len() < length {
         return false;
     }
-    same(&bytes[0..length], stored)
+    &bytes[0..length] == stored
 }
 
-fn run_both(record: &[u8], stored: &[u8]) {
+fn run_both(rt: &impl Print, record: &[u8], stored: &[u8]) -> io::Result<()> {
     let mut bytes = [165u8; BYTES];
     let length = meshed::write_mesh(record, &mut bytes);
-    print_number(b": ", length);
-    print_sameness(b" bytes, ", is_stored(&bytes, length, stored));
+    print_number(rt, ": ", length)?;
+    print_sameness(rt, " bytes, ", is_stored(&bytes, length, stored))?;
     let mut back = [165u8; BYTES];
     let written = again::write_again(stored, &mut back);
-    print_number(b"; read and written again: ", written);
-    print_sameness(b" bytes, ", is_stored(&back, written, stored));
-    io::write_all(STDOUT_FILENO, b"\n");
+    print_number(rt, "; read and written again: ", written)?;
+    print_sameness(rt, " bytes, ", is_stored(&back, written, stored))?;
+    println!(rt)
 }
 
-fn run(name: &[u8], record_name: &[u8], stored_name: &[u8]) {
+fn run(
+    rt: &(impl Files + Print),
+    name: &str,
+    record_name: &str,
+    stored_name: &str,
+) -> io::Result<()> {
     let mut record = [0u8; BYTES];
     let mut stored = [0u8; BYTES];
-    let m = load(record_name, &mut record);
-    let n = load(stored_name, &mut stored);
-    io::write_all(STDOUT_FILENO, name);
+    let m = load(rt, record_name, &mut record)?;
+    let n = load(rt, stored_name, &mut stored)?;
+    print!(rt; "{name}")?;
     if m > record.len() {
-        return;
+        return Ok(());
     }
     if n > stored.len() {
-        return;
+        return Ok(());
     }
-    run_both(&record[0..m], &stored[0..n]);
+    run_both(rt, &record[0..m], &stored[0..n])
 }
 
-fn main() {
-    run(b"case-a", b"case-a.record", b"case-a.stl");
-    run(b"finer", b"finer.record", b"finer.stl");
-    run(b"six-finer", b"six-finer.record", b"six-finer.stl");
-    run(b"empty", b"empty.record", b"empty.stl");
+fn main(rt: HostRuntime) -> io::Result<()> {
+    run(&rt, "case-a", "case-a.record", "case-a.stl")?;
+    run(&rt, "finer", "finer.record", "finer.stl")?;
+    run(&rt, "six-finer", "six-finer.record", "six-finer.stl")?;
+    run(&rt, "empty", "empty.record", "empty.stl")
 }
