@@ -14,7 +14,8 @@ use Rattle.tables.specs.RulesSides.{balanced}
 use Rattle.model.specs.Star.{Star, subdivisions}
 use Rattle.model.specs.Points.{corner_point, regular_case}
 use Rattle.closed.specs.Clauses.{Edge, number, inside_at, run}
-use Rattle.laws.specs.Sums.{Each, each_as, each_map, each_only, weighed_append, weighed_map, weighed_same, cube, border, telescope_cube}
+use Rattle.laws.specs.Sums.{Each, each_as, each_map, each_only, weighed_append, weighed_map, weighed_same, cube, border}
+use Rattle.laws.proofs.Sums.{telescope_cube}
 use Rattle.closed.specs.Places.{same_edge}
 use Rattle.closed.specs.Cells.{case_small, case_bit, code_edge, same_point}
 use Rattle.closed.specs.Weighing.{side_small, sides_below, weight_by, weighed_back}

@@ -8,7 +8,8 @@ use Rattle.laws.specs.Steps.{total}
 use Rattle.laws.specs.Tests.{both, both_left, both_right, then, then_holds, below, all₂}
 use Rattle.laws.specs.Counting.{one, every, only, weighed}
 use Rattle.laws.specs.Sums.{Each, each_as, each_map, each_only, weighed_append, weighed_map, weighed_same, square}
-use Rattle.laws.specs.Squares.{square_three, rim, telescope_square}
+use Rattle.laws.specs.Squares.{square_three, rim}
+use Rattle.laws.proofs.Squares.{telescope_square}
 use Rattle.tables.specs.Codes.{point_a}
 use Rattle.tables.specs.Corners.{axis_of}
 use Rattle.tables.specs.Cases.{transition_code, transition_corner, transition_triangles, transition_turned, sent}

@@ -11,7 +11,7 @@ use Rattle.model.specs.Layers.{passed_over}
 use Rattle.model.specs.Layered.{layer_step, layered_mesh}
 use Rattle.model.specs.Reads.{Reads, reads_none, side_reads}
 use Rattle.model.specs.LayeredReads.{layer_reads}
-use Rattle.model.proofs.Reads.{layer_reads_lem, side_reads_lem}
+use Rattle.model.proofs.MeshReads.{layer_reads_lem, side_reads_lem}
 
 module _ (s : Star) (summary : List Float) where
   abbrev n : ℕ

@@ -1,2 +1,2 @@
-pub mod Reads
+pub mod MeshReads
 pub mod LayeredReads

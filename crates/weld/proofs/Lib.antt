@@ -1,2 +1,2 @@
 pub mod Pinned
-pub mod Corners
+pub mod WindowCorners

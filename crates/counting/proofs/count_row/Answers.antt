@@ -4,7 +4,7 @@ use Prim.Native.Nat.{◌+◌, ◌-◌, ◌*◌, ◌<◌}
 use mathlib.Core.Path.{◌≡◌, ◌∙◌}
 use Rattle.model.specs.Limits.{most_subdivisions}
 use Rattle.cases.specs.Sheets.{row_start}
-use Rattle.cases.specs.RowPlaces.{row_fits}
+use Rattle.cases.proofs.RowPlaces.{row_fits}
 use Rattle.counting.proofs.Growth.{few_none, few_more, few_of, plus_fits, grows_start, grows_on}
 use Rattle.counting.proofs.count_row.Goals as goal
 use Rattle.counting.proofs.count_row.Goals.{Start}

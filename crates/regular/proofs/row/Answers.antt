@@ -1,7 +1,7 @@
 -- `row` meets its contract: its four lines are those at the corners of the cells.
 use Prim.Native.Nat.{◌+◌}
 use native.Mathlib.Omega.{arith}
-use Rattle.cases.specs.RowPlaces.{row_fits}
+use Rattle.cases.proofs.RowPlaces.{row_fits}
 use Rattle.cases.specs.Rows.{row_as}
 use Rattle.cases.specs.Lines.{case_measured}
 use Rattle.regular.proofs.row.Goals as goal
