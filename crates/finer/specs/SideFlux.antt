@@ -17,7 +17,7 @@ use Rattle.tables.specs.Points.{point_u, point_v, point_face, transition_inside}
 use Rattle.tables.specs.RulesTransition.{transition_edges}
 use Rattle.tables.specs.Sides.{side, back}
 use Rattle.tables.specs.FinerSides.{transition_sides, transition_sides_lem, fine_edge, across, low_edge, high_edge, low_side, high_side, low_point, high_point, low_bits, high_bits, spread_low, shown_low, coarse_side, corner_bits, spread_corners, shown_coarse, fine_side, lows, highs, coarses, in_of, out_of, finer_in, finer_out}
-use Rattle.tables.specs.RulesFiner.{finer_balanced}
+use Rattle.tables.proofs.RulesFiner.{finer_balanced}
 use Rattle.model.specs.Star.{Star, subdivisions}
 use Rattle.model.specs.Points.{transition_case}
 use Rattle.closed.specs.Clauses.{run}
