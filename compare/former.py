@@ -3,7 +3,7 @@
 
     python3 compare/former.py PROGRAM COUNT [FIRST]
 
-PROGRAM is target/bin/listing of an earlier commit.  The records of COUNT seeds from FIRST (0) on that it can read, with at most 16
+PROGRAM is the listing program of an earlier commit, built with the toolchain of its time.  The records of COUNT seeds from FIRST (0) on that it can read, with at most 16
 subdivisions, must be listed as tools/reference.py lists them now; and records of 17 to 22 subdivisions, which fit its bytes, and
 small ones that say that they have 17, 33 or 64, must be refused with 1.
 """

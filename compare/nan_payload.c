@@ -2,8 +2,8 @@
  * What the proofs cannot say of an f32 buffer: that a place which a call leaves alone keeps its very bits where they are a NaN's, payload
  * and all. Every place holds 0x7fa5a5a5 before each call, a signalling NaN. From the repository's root:
  *
- *     gcc -std=c99 -O2 -Wall -Wextra -Iinclude compare/nan_payload.c target/staticlib/libsirveshan.a -o target/nan_payload
- *     target/nan_payload
+ *     gcc -std=c99 -O2 -Wall -Wextra -Iinclude compare/nan_payload.c crates/sirveshan/out/libsirveshan.a -o nan_payload
+ *     ./nan_payload
  */
 #include "sirveshan.h"
 

@@ -1,6 +1,6 @@
 /*
- * Sirveshan's calls from C: link libsirveshan.a (x86-64; `rt staticlib sirveshan` writes it to target/staticlib). What each call
- * answers and leaves is proved; this page says it in words.
+ * Sirveshan's calls from C: link libsirveshan.a (x86-64; `rt lib` in crates/sirveshan writes it to crates/sirveshan/out, for
+ * processors of x86-64-v2 on, with --cpu x86-64 for all). What each call answers and leaves is proved; this page says it in words.
  *
  * A mesh is the surface between the inside and the outside of a sampled block. A sample is inside when it is at or above the
  * threshold (>=), so -0 is inside for the threshold 0.

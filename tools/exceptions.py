@@ -9,11 +9,10 @@ Public is a `pub fn` of a library (src/lib.rt) that every `pub mod` on its way l
 
 Each is pinned: crates/C/proofs/Pinned.antt has
 
-    use Rattle·C·proofs.proofs.MODULE.NAME.Reads as ALIAS
-    pub NAME-pinned : .. ALIAS.Learnt .. ALIAS.Learnt .. → ..
+    use Rattle.C.proofs.MODULE.NAME.Reads as ALIAS
+    pub NAME_pinned : .. ALIAS.Learnt .. ALIAS.Learnt .. → ..
 
-with dashes for NAME's underscores (MODULE-NAME-pinned where two modules have one NAME; no MODULE for lib.rt): two outcomes that its
-statement allows are equal. What is not pinned stands in docs/EXCEPTIONS.md, in a table headed `| crate | functions | why not pinned |`.
+(MODULE_NAME_pinned where two modules have one NAME; no MODULE for lib.rt): two outcomes that its statement allows are equal. What is not pinned stands in docs/EXCEPTIONS.md, in a table headed `| crate | functions | why not pinned |`.
 
 Each that requires something of its caller stands there too, in a table headed `| crate | functions | require | called by |`, and no other does.
 A name stands in backquotes: `name` or `module::name`.
@@ -28,8 +27,8 @@ ROOT = os.path.dirname(os.path.dirname(os.path.abspath(__file__)))
 FUNCTION = re.compile(r'^\s*pub\s+(?:extern\s+"C"\s+)?fn\s+(\w+)')
 MODULE = re.compile(r"^\s*pub\s+mod\s+(\w+)\s*;")
 REEXPORT = re.compile(r"^\s*pub\s+use\b")
-IMPORT = re.compile(r"^use Rattle·(\w+)·proofs\.proofs\.([\w.]+)\.Reads as (\S+)\s*$")
-LEMMA = re.compile(r"^pub (\S+)-pinned\s*:")
+IMPORT = re.compile(r"^use Rattle\.(\w+)\.proofs\.([\w.]+)\.Reads as (\S+)\s*$")
+LEMMA = re.compile(r"^pub (\S+)_pinned\s*:")
 BACKQUOTED = re.compile(r"`([\w:]+)`")
 
 
@@ -54,7 +53,7 @@ class Function:
         return self.crate + "::" + "::".join(self.modules + [self.name])
 
     def lemmas(self):
-        return {"-".join(parts).replace("_", "-") for parts in ([self.name], self.modules[-1:] + [self.name])}
+        return {"_".join(parts) for parts in ([self.name], self.modules[-1:] + [self.name])}
 
 
 def requires(lines, start):
@@ -177,7 +176,7 @@ def check(root, listing=False):
     for crate, file in pinned.items():
         for name in file.lemmas:
             if (crate, name) not in used:
-                faults.append("%s: %s-pinned pins no public function of that name" % (crate, name))
+                faults.append("%s: %s_pinned pins no public function of that name" % (crate, name))
     return functions, faults
 
 
@@ -185,27 +184,27 @@ SOURCE = """mod inner;
 pub mod outer;
 // pub fn commented() {}
 pub fn free(x: u64) -> u64
-    ensures { λ r. ⌜ r ≡ x ⌝ }
+    ensures { result ≡ x }
 {
     x
 }
 """
 OUTER = """pub extern "C" fn bound_to(x: u64) -> u64
-    requires { ⌜ x < 8 ⌝ }
-    ensures { λ r. ⌜ r ≡ x ⌝ }
+    requires { x < 8 }
+    ensures { result ≡ x }
 {
     x
 }
 """
-PINNED = """use Rattle·small·proofs.proofs.free.Reads as free
-use Rattle·small·proofs.proofs.outer.bound_to.Reads as bound
+PINNED = """use Rattle.small.proofs.free.Reads as free
+use Rattle.small.proofs.outer.bound_to.Reads as bound
 
-pub free-pinned : (a : _) (r r′ : _) → free.Learnt a r → free.Learnt a r′
-    → r ≡ r′
-free-pinned a r r′ h k = pinned h k
+pub free_pinned : (a : _) (r r' : _) → free.Learnt a r → free.Learnt a r'
+    → r ≡ r'
+free_pinned a r r' h k = pinned h k
 
-pub bound-to-pinned : (a : _) (r r′ : _) → bound.Learnt a r → bound.Learnt a r′ → r ≡ r′
-bound-to-pinned a r r′ h k = pinned h k
+pub bound_to_pinned : (a : _) (r r' : _) → bound.Learnt a r → bound.Learnt a r' → r ≡ r'
+bound_to_pinned a r r' h k = pinned h k
 """
 TABLE = """| crate | functions | require | called by |
 |---|---|---|---|
@@ -222,15 +221,15 @@ def self_test():
     """Each trial: the files as they should be, with a part replaced; and words of the one fault, or none."""
     trials = [
         ({}, None),
-        ({"Pinned": ("pub free-pinned", "pub freed-pinned")}, ["free: neither", "freed-pinned pins no"]),
-        ({"Pinned": ("free.Learnt a r′", "free.Asked a")}, ["free: neither", "free-pinned pins no"]),
-        ({"Pinned": ("proofs.free.Reads", "proofs.other.Reads")}, ["free: neither", "free-pinned pins no"]),
-        ({"Pinned": ("pub free-pinned", "-- pub free-pinned")}, ["free: neither"]),
-        ({"outer": ("pub extern", "extern")}, ["bound_to is no public", "bound-to-pinned pins no"]),
-        ({"lib": ("pub mod outer", "mod outer")}, ["bound_to is no public", "bound-to-pinned pins no"]),
+        ({"Pinned": ("pub free_pinned", "pub freed_pinned")}, ["free: neither", "freed_pinned pins no"]),
+        ({"Pinned": ("free.Learnt a r'", "free.Asked a")}, ["free: neither", "free_pinned pins no"]),
+        ({"Pinned": ("proofs.free.Reads", "proofs.other.Reads")}, ["free: neither", "free_pinned pins no"]),
+        ({"Pinned": ("pub free_pinned", "-- pub free_pinned")}, ["free: neither"]),
+        ({"outer": ("pub extern", "extern")}, ["bound_to is no public", "bound_to_pinned pins no"]),
+        ({"lib": ("pub mod outer", "mod outer")}, ["bound_to is no public", "bound_to_pinned pins no"]),
         ({"lib": ("pub mod outer", "pub use outer::bound_to;\npub mod outer")}, ["`pub use`"]),
-        ({"outer": ("    requires { ⌜ x < 8 ⌝ }\n", "")}, ["bound_to: requires nothing"]),
-        ({"lib": ("    ensures", "    requires { ⌜ x < 8 ⌝ }\n    ensures")}, ["free: requires something"]),
+        ({"outer": ("    requires { x < 8 }\n", "")}, ["bound_to: requires nothing"]),
+        ({"lib": ("    ensures", "    requires { x < 8 }\n    ensures")}, ["free: requires something"]),
         ({"EXCEPTIONS": ("`bound_to`", "`bound_to`, `gone`")}, ["gone is no public"]),
         ({"EXCEPTIONS": ("`bound_to`", "`bound_to`, `outer::bound_to`")}, ["stands there twice"]),
         ({"EXCEPTIONS": ("| below 8 |", "| |")}, ["without a reason"]),

@@ -150,9 +150,9 @@ def written(files, refusals):
 
 
 def model_cases(text):
-    """Each case of the model's numbersOf: its name, its number, how many of its numbers are not 0."""
+    """Each case of the model's numbers_of: its name, its number, how many of its numbers are not 0."""
     cases = []
-    for name, bare, number, rest in re.findall(r"^numbersOf (?:\((\w+)[^)]*\)|(\w+)) = numbers (\d+) (.*)$", text, re.M):
+    for name, bare, number, rest in re.findall(r"^numbers_of (?:\((\w+)[^)]*\)|(\w+)) = numbers (\d+) (.*)$", text, re.M):
         atoms = re.findall(r"\([^)]*\)|\S+", rest)
         cases.append((name or bare, int(number), len([atom for atom in atoms if atom != "0"])))
     return cases
@@ -259,7 +259,7 @@ def self_test():
         (HEADER, "mask above 63", "mask above 64"),
         (HEADER, OPENS, "refusals"),
         (MODEL, "numbers 9 wanted 0 0", "numbers 14 wanted 0 0"),
-        (MODEL, "(at .u)", "0"),
+        (MODEL, " at.u ", " 0 "),
         (TYPES, "    Mask(usize),\n", ""),
         (JUDGE, "Refusal::Mask(", "Refusal::Marsk("),
         (READING, "Refusal(2, mask)", "Refusal(2)"),

@@ -90,8 +90,7 @@ def rows_text(kind):
     classes, cells, vertices = tables(kind)
     lines = [
         "-- The %s tables as rows. Written by tools/tables.py from tools/tables: change the numbers there." % kind,
-        "use mathlib.Core.List.{List, [], _∷_}",
-        "use Prim.Native.Nat.{ℕ}",
+        "use Rattle.std.specs.Prelude.{List, [], ◌∷◌, ℕ}",
         "",
         "-- the class of each case",
         "unfoldable pub classes : List ℕ",
@@ -102,8 +101,8 @@ def rows_text(kind):
         lines.append("    " + "".join("%s ∷ " % hexed(n, 2) for n in numbers[start : start + 16]).rstrip())
     lines.append("    []")
     for table, name, says in [
-        (cells, "cellRows", "for each class its counts byte, then its triangles' corners"),
-        (vertices, "vertexRows", "the vertex codes of each case"),
+        (cells, "cell_rows", "for each class its counts byte, then its triangles' corners"),
+        (vertices, "vertex_rows", "the vertex codes of each case"),
     ]:
         lines += ["", "-- " + says, "unfoldable pub %s : List (List ℕ)" % name, name + " ="]
         lines += ["    (%s) ∷" % list_text(row, table.digits) for row in table.padded()]

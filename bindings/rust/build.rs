@@ -1,5 +1,5 @@
 //! Links the proved static library, libsirveshan.a: the one in the folder that SIRVESHAN_LIB_DIR names, or the one that
-//! `rt staticlib sirveshan` writes at the project's root. Says what is missing, and how to get it, where it cannot.
+//! `rt lib` writes in crates/sirveshan. Says what is missing, and how to get it, where it cannot.
 
 use std::ffi::OsStr;
 use std::path::{Path, PathBuf};
@@ -13,7 +13,7 @@ fn main() {
     let chosen = std::env::var_os(FOLDER).filter(|folder| !folder.is_empty());
     let archive = match &chosen {
         Some(folder) => seen_from_caller(folder).join(ARCHIVE),
-        None => project().join("target/staticlib").join(ARCHIVE),
+        None => project().join("crates/sirveshan/out").join(ARCHIVE),
     };
     println!("cargo:rerun-if-changed={}", archive.display());
     if let Some(words) = what_is_missing(&archive, chosen.is_some()) {
@@ -47,7 +47,7 @@ fn what_is_missing(archive: &Path, chosen: bool) -> Option<String> {
         return Some(format!(
             "The proved library is for x86-64, and this build is for {target}. Either build for x86-64\n\
              (cargo --target x86_64-unknown-linux-gnu, run under an emulator), or make a library for this processor,\n\
-             `compare/native FOLDER` at the project's root, and set {FOLDER}=FOLDER. ./sirveshan does the second by itself."
+             `compare/native FOLDER PROCESSOR` at the project's root on an x86-64 machine, and set {FOLDER}=FOLDER here."
         ));
     }
     if archive.is_file() {
@@ -60,7 +60,7 @@ fn what_is_missing(archive: &Path, chosen: bool) -> Option<String> {
         )
     } else {
         format!(
-            "The proved library is not there: {}. Run `rt staticlib sirveshan` at the project's root\n\
+            "The proved library is not there: {}. Run `rt lib` in crates/sirveshan\n\
              (rt is the Rattle toolchain; the first call proves everything, some minutes),\n\
              or set {FOLDER} to the folder that has {ARCHIVE}.",
             archive.display()

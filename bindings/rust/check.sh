@@ -1,6 +1,6 @@
 #!/usr/bin/env bash
 # bindings/rust/check.sh: the crate's tests, its documentation and its form. SIRVESHAN_LIB_DIR names a folder with another libsirveshan.a.
-# On another processor than x86-64 tools/x86.sh finds what builds and runs them.
+# On another processor than x86-64 tools/x86.sh finds what builds and runs them, and that folder is needed.
 set -euo pipefail
 here=$(dirname "$(readlink -f "$0")")
 root=$(cd "$here/../.." && pwd)

@@ -42,7 +42,7 @@ use Rattle.algorithm.specs.Verdicts.{judged, edges_judged, room_judged, numbers_
 pub told : {o : Outcome} {report : Report} {store : List ℕ} {vertices : List Float} {triangles : List ℕ}
     → Leaves o report store vertices triangles
     → (report.answer ≡ o.answer) × ((store ≡ o.store) × ((vertices ≡ o.vertices) × ((triangles ≡ o.triangles) × (report.reads ≡ o.reads))))
-told l = (l.answer_is, (l.store-is, (l.vertices_are, (l.triangles_are, l.reads_are))))
+told l = (l.answer_is, (l.store_is, (l.vertices_are, (l.triangles_are, l.reads_are))))
 
 -- and the further list
 abbrev ToldWhole : WholeOutcome → Report → List ℕ → List Float → List ℕ → List ℕ → Type 0
@@ -53,7 +53,7 @@ ToldWhole o report store vertices triangles edges =
 
 pub told_whole : {o : Outcome} {report : Report} {store : List ℕ} {vertices : List Float} {triangles edges edges' : List ℕ}
     → Leaves o report store vertices triangles → edges ≡ edges' → ToldWhole (record { mesh = o; edges = edges' }) report store vertices triangles edges
-told_whole l e = (l.answer_is, (l.store-is, (l.vertices_are, (l.triangles_are, (l.reads_are, e)))))
+told_whole l e = (l.answer_is, (l.store_is, (l.vertices_are, (l.triangles_are, (l.reads_are, e)))))
 
 -- with no summary, extraction without one
 pub none_told : (numbered : Bool) (s : Star) (heldStore heldVertices heldTriangles heldEdges : ℕ)
@@ -231,7 +231,7 @@ module _ {l : Lent} {counts : Counts} {v : Verdict} (h : Roomed l counts v) wher
           rw (
             ← w.vertices_are,
             ← w.triangles_are,
-            ← w.store-is,
+            ← w.store_is,
             exact.vertices_fill,
             exact.triangles_fill,
             exact.fits.store_fits,

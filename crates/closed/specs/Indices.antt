@@ -224,7 +224,8 @@ module _ (s : Star) where
   row_some : (side u v : ℕ) → IsSideCell s side u v → Makes s side u v → (m : Mesh) → 0 < length (transition_row s side u m).made
   unfolding transition_row transition_cell
   row_some side u v c made =
-      step_some (λ (m : Mesh). length m.made) _ (λ k m. begins_grown (cell_added (transition_cell s side u k) m)) v (subdivisions s) c.v_in
+      step_some (λ (m : Mesh). length m.made) (λ v. cell_step (transition_cell s side u v))
+      (λ k m. begins_grown {first = m} {all = cell_step (transition_cell s side u k) m} (cell_added (transition_cell s side u k) m)) v (subdivisions s) c.v_in
       (cell_some (transition_cell s side u v) made.0 made.1 made.2)
 
   side_some : (side u v : ℕ) → IsSideCell s side u v → Makes s side u v → (m : Mesh) → 0 < length (transition_side s side m).made

@@ -6,6 +6,7 @@ use Prim.Native.Nat.{◌*◌, ◌≤◌}
 use lib.ListN.{length, take}
 use lib.Seq.{length-take-le}
 use Rattle.model.specs.declared.Verdict.TheVariants.{Passed}
+use Rattle.model.specs.Star.{star}
 use Rattle.writing.specs.Writing.{Exact}
 use Rattle.writing.specs.Lengths.{exact_still}
 use Rattle.algorithm.proofs.Answers.{lent_of, Roomed, no_list, no_room, has_room, numbers_there, parts, done}
@@ -49,13 +50,26 @@ long c = numbers_there c.args.numbered _ _ (roomed_at_in_default_room c).listed
 store_long : (c : After-store_length-places) → c.store_length-places.result ≤ length c.args.store.now
 store_long c = omega (arith, c.store_length-places.ensures, c.requires.subdivisions_in_bounds)
 
+-- the further list is long enough
+listed_at_places : (c : After-store_length-places) → c.judge_numbers-listed.result ≡ Passed
+listed_at_places c = cc
+
+passed_at_places : (c : After-store_length-places) → c.judge_room-room.result ≡ Passed
+passed_at_places c = cc
+
+-- what the judges have told then
+roomed_at_places : (r : After-store_length-places) → Roomed ((let a = r.args in
+    lent_of a.numbered a.header a.centre.now a.neighbours.now a.summary.now a.store.now a.vertices.now a.triangles.now a.edges.now)) r.count_mesh-counts.result r.judge_room-room.result
+roomed_at_places r =
+    record { counts_are = r.count_mesh-counts.ensures.1; listed = sym r.judge_numbers-listed.ensures ∙ listed_at_places r; room_is = r.judge_room-room.ensures }
+
 -- the parts that are lent are just enough
-exact :
-    let a = (entry told).args in
-    let counts = (counted told).count-mesh.result in
-    Exact (lent (entry told)).s (take (6 * counts.vertices) a.vertices.now) (take (3 * counts.triangles) a.triangles.now) (take c.store_length.result a.store.now)
-exact =
-    parts (roomed (at_room told)) (passed told) c.store_length.result c.store_length.ensures (counted told).count-mesh.ensures.0 (entry told).pre.subdivisions_in_bounds
+exact : (c : After-store_length-places) →
+    let a = c.args in
+    let counts = c.count_mesh-counts.result in
+    Exact (star a.header a.centre.now a.neighbours.now) (take (6 * counts.vertices) a.vertices.now) (take (3 * counts.triangles) a.triangles.now) (take c.store_length-places.result a.store.now)
+exact c =
+    parts (roomed_at_places c) (passed_at_places c) c.store_length-places.result c.store_length-places.ensures c.count_mesh-counts.ensures.0 c.requires.subdivisions_in_bounds
 
 -- the further list is long enough
 listed_at_after_numbers_asked_numbers : (c : After-numbers_asked-numbers) → c.judge_numbers-listed.result ≡ Passed
@@ -77,12 +91,15 @@ numbers-long c = omega (arith, c.numbers_asked-numbers.ensures, long_at_after_nu
 
 pub returns-in-Refused : goal.returns-in-Refused
 returns-in-Refused c =
-    rw c.refused.ensures (no_list ((let a = c.args in
-    lent_of a.numbered a.header a.centre.now a.neighbours.now a.summary.now a.store.now a.vertices.now a.triangles.now a.edges.now)) c.count_mesh-counts.ensures.1 c.judge_numbers-listed.ensures _ (cc))
+    let a = c.args in
+    let l = lent_of a.numbered a.header a.centre.now a.neighbours.now a.summary.now a.store.now a.vertices.now a.triangles.now a.edges.now in
+    let t = no_list l c.count_mesh-counts.ensures.1 c.judge_numbers-listed.ensures _ (cc) in
+    rw c.refused.ensures (record { leaves = t.0; edges = t.1 })
 
 pub returns-in-Refused-room : goal.returns-in-Refused-room
 returns-in-Refused-room c =
-    rw c.refused-in-Refused-room.ensures (no_room (roomed (goal.at.returns-in-Refused-room c).After-judge_room-room) _ (cc))
+    let t = no_room (roomed (goal.at.returns-in-Refused-room c).After-judge_room-room) _ (cc) in
+    rw c.refused-in-Refused-room.ensures (record { leaves = t.0; edges = t.1 })
 
 pub slice_bounds-write_mesh-end : goal.slice_bounds-write_mesh-end
 slice_bounds-write_mesh-end c = store_long (goal.at.slice_bounds-write_mesh-end c).After-store_length-places
@@ -122,11 +139,12 @@ write_mesh-reads-requires c =
 pub returns : goal.returns
 returns c =
     let count_is = c.numbers_asked-numbers.ensures in
-    rw count_is
-    (done (roomed (goal.at.returns c).After-judge_room-room) (passed (goal.at.returns c).In_default-room) c.store_length-places.result c.store_length-places.ensures _ _ _ _ _
+    let t =
+    done (roomed (goal.at.returns c).After-judge_room-room) (passed (goal.at.returns c).In_default-room) c.store_length-places.result c.store_length-places.ensures _ _ _ _ _
     (exact_still {edges₀ = c.args.edges.now} {edges = c.args.edges.now}
     (record { vertices_same = c.write_mesh-reads.auto.vertices; triangles_same = c.write_mesh-reads.auto.triangles; store_same = c.write_mesh-reads.auto.store; edges_same = refl })
     (exact (goal.at.returns c).After-store_length-places))
     c.write_mesh-reads.ensures.written c.write_mesh-reads.ensures.reads
     (c.write_mesh-reads.auto.edges ∙ length-take-le _ _ (numbers-long (goal.at.returns c).After-numbers_asked-numbers) ∙ count_is)
-    c.write_mesh-reads.ensures.edges)
+    c.write_mesh-reads.ensures.edges in
+    rw count_is (record { leaves = t.0; edges = t.1 })

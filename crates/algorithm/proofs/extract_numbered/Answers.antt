@@ -13,8 +13,10 @@ judged-passed c = cc
 
 pub returns-in-Refused : goal.returns-in-Refused
 returns-in-Refused c =
-    rw c.refused.ensures (refused ((let a = c.args in
-    lent_of a.numbered a.header a.centre.now a.neighbours.now a.summary.now a.store.now a.vertices.now a.triangles.now a.edges.now)) c.args.layered _ (cc))
+    let a = c.args in
+    let l = lent_of a.numbered a.header a.centre.now a.neighbours.now a.summary.now a.store.now a.vertices.now a.triangles.now a.edges.now in
+    let t = refused l a.layered _ (cc) in
+    rw c.refused.ensures (record { leaves = t.0; edges = t.1 })
 
 pub extract_mesh-requires : goal.extract_mesh-requires
 extract_mesh-requires c =
@@ -27,5 +29,7 @@ extract_mesh-requires c =
 
 pub returns : goal.returns
 returns c =
-    rw (passed ((let a = c.args in
-    lent_of a.numbered a.header a.centre.now a.neighbours.now a.summary.now a.store.now a.vertices.now a.triangles.now a.edges.now)) c.args.layered (judged-passed (goal.at.returns c).In_default)) c.extract_mesh.ensures
+    let a = c.args in
+    let l = lent_of a.numbered a.header a.centre.now a.neighbours.now a.summary.now a.store.now a.vertices.now a.triangles.now a.edges.now in
+    rw (passed l a.layered (judged-passed (goal.at.returns c).In_default))
+    (record { leaves = c.extract_mesh.ensures.leaves; edges = c.extract_mesh.ensures.edges })

@@ -14,6 +14,7 @@ use Rattle.walk.specs.Order.{Held}
 use Rattle.walk.specs.Numbers.{held_sheeted}
 use Rattle.walk.specs.Walk.{sides_skip}
 use Rattle.counting.proofs.Growth.{few_none, few_more, few_of, plus_fits, grows_none, grows_more, grows_as}
+use Rattle.model.specs.Mesh.{transition_side}
 use Rattle.counting.proofs.count_named_sides.Goals as goal
 use Rattle.counting.proofs.count_named_sides.Goals.{After-face_cases}
 
@@ -55,8 +56,11 @@ face_cases-requires c =
     let l = c.loop-side in
     let there = c.requires in record { neighbour_there = record { few = there.few; sides = there.sides; side_is = c.loop-side-test.true; is_named = l.invariant.1 c.loop-side-test.true; neighbours_are = there.neighbours_are }; le_subdivisions = (there.some, (l.invariant.2.cases_long, l.invariant.2.marks_long)) }
 
+pub slice_bounds-count_sheet-end-in-loop-side-4 : goal.slice_bounds-count_sheet-end-in-loop-side-4
+slice_bounds-count_sheet-end-in-loop-side-4 c = sym (still-long (goal.at.slice_bounds-count_sheet-end-in-loop-side-4 c).After-face_cases).0
+
 pub slice_bounds-count_sheet-end-in-loop-side-5 : goal.slice_bounds-count_sheet-end-in-loop-side-5
-slice_bounds-count_sheet-end-in-loop-side-5 c = sym (still-long (goal.at.slice_bounds-count_sheet-end-in-loop-side-5 c).After-face_cases).0
+slice_bounds-count_sheet-end-in-loop-side-5 c = sym (still-long (goal.at.slice_bounds-count_sheet-end-in-loop-side-5 c).After-face_cases).1
 
 pub count_sheet-more-requires : goal.count_sheet-more-requires
 count_sheet-more-requires c =
@@ -88,7 +92,7 @@ loop-side-preserved c =
             cases_long = (still-long (goal.at.loop-side-preserved c).After-face_cases).0;
             marks_long = (still-long (goal.at.loop-side-preserved c).After-face_cases).1;
             few = few_of _ (omega (arith, next.from_le)) (few_more l.invariant.2.few c.count_sheet-more.ensures.few);
-            grows = λ centre. grows_as (λ m. sym (sides_skip _ m _ _ next)) (grows_more _ l.side (l.invariant.2.grows centre) (c.count_sheet-more.ensures.grows _ refl (omega (arith, c.loop-side-test.true), named_here) (held (goal.at.loop-side-preserved c).After-face_cases centre)));
+            grows = λ centre. grows_as (λ m. sym (sides_skip _ m _ _ next)) (grows_more (transition_side (star c.args.header centre c.args.neighbours.now)) l.side (l.invariant.2.grows centre) (c.count_sheet-more.ensures.grows _ refl (omega (arith, c.loop-side-test.true), named_here) (held (goal.at.loop-side-preserved c).After-face_cases centre)));
           }),
     )
 

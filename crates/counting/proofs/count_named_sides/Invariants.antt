@@ -15,9 +15,9 @@ use Rattle.counting.proofs.count_named_sides.Given as goal
 
 abbrev pub invariant-loop-side : goal.invariant-loop-side
 invariant-loop-side l =
-    (side ≤ side_count)
-    × (side < side_count → named l.mask side ≡ true)
-    × Come (sheet_places * side) (λ (centre : List Float). iterate (transition_side (star l.header centre l.neighbours)) side) l.marks l.counts l.side
+    (l.side ≤ side_count)
+    × (l.side < side_count → named l.mask l.side ≡ true)
+    × Come (sheet_places * l.side) (λ (centre : List Float). iterate (transition_side (star l.header centre l.neighbours)) l.side) l.cases l.marks l.counts
 
 abbrev pub decreases-loop-side : goal.decreases-loop-side
-decreases-loop-side l = side_count - side
+decreases-loop-side l = side_count - l.side

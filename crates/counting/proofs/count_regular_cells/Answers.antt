@@ -13,6 +13,7 @@ use Rattle.walk.specs.Order.{Held}
 use Rattle.walk.specs.Numbers.{held_sheeted}
 use Rattle.walk.specs.Walk.{layers_skip}
 use Rattle.counting.proofs.Growth.{few_none, few_more, few_of, plus_fits, grows_none, grows_made, grows_more}
+use Rattle.model.specs.Mesh.{regular_layer}
 use Rattle.counting.proofs.count_regular_cells.Goals as goal
 use Rattle.counting.proofs.count_regular_cells.Goals.{After-layer_cases}
 
@@ -25,7 +26,7 @@ still-long c =
 -- the sheet and its marks hold the layer, whatever the neighbours are
 held : (c : After-layer_cases) → (ns : List Float) → let l = c.loop-x in
     let a = c.args in
-    Held (star a.header a.centre.now ns) (Layer l.x) a.header.block.subdivisions c.layer_cases.new.pairs [] c.layer_cases.new.cases
+    Held (star a.header a.centre.now ns) (Layer l.x) a.header.block.subdivisions c.layer_cases.new.cases [] c.layer_cases.new.marks
 held c ns = record { numbers = c.layer_cases.ensures.cases ns; marked = c.layer_cases.ensures.marks ns }
 
 pub next_layer-x-requires : goal.next_layer-x-requires
@@ -78,6 +79,9 @@ layer_cases-requires c =
 pub slice_bounds-count_sheet-end-in-loop-x-3 : goal.slice_bounds-count_sheet-end-in-loop-x-3
 slice_bounds-count_sheet-end-in-loop-x-3 c = sym (still-long (goal.at.slice_bounds-count_sheet-end-in-loop-x-3 c).After-layer_cases).1.0
 
+pub slice_bounds-count_sheet-end-in-loop-x-5 : goal.slice_bounds-count_sheet-end-in-loop-x-5
+slice_bounds-count_sheet-end-in-loop-x-5 c = sym (still-long (goal.at.slice_bounds-count_sheet-end-in-loop-x-5 c).After-layer_cases).1.1
+
 pub count_sheet-more-requires : goal.count_sheet-more-requires
 count_sheet-more-requires c =
     let long = (still-long (goal.at.count_sheet-more-requires c).After-layer_cases).1 in record { tables = record { classes_are = c.regular_cell_class-classes.ensures; cells_are = c.regular_cell_data-cells.ensures; codes_are = c.regular_vertex_data-codes.ensures }; sheeted = held_sheeted (star c.args.header c.args.centre.now []) (Layer c.loop-x.x) (held (goal.at.count_sheet-more-requires c).After-layer_cases []) c.requires.subdivisions_le_most_subdivisions.0 long.0 long.1 }
@@ -114,7 +118,7 @@ loop-x-preserved c =
             grows =
                 λ ns.
                 grows_made (layers_skip (star c.args.header c.args.centre.now ns) c.args.summary.now c.requires.trusted (l.x + 1) _ next)
-                (grows_more _ l.x (l.invariant.3.grows ns) (c.count_sheet-more.ensures.grows _ refl (omega (arith, c.loop-x-test.true)) (held (goal.at.loop-x-preserved c).After-layer_cases ns)));
+                (grows_more (regular_layer (star c.args.header c.args.centre.now ns)) l.x (l.invariant.3.grows ns) (c.count_sheet-more.ensures.grows _ refl (omega (arith, c.loop-x-test.true)) (held (goal.at.loop-x-preserved c).After-layer_cases ns)));
           }),
     )
 

@@ -14,10 +14,10 @@ use Rattle.counting.proofs.count_regular_cells.Given as goal
 
 abbrev pub invariant-loop-x : goal.invariant-loop-x
 invariant-loop-x l =
-    (l.paired ≤ l.n)
-    × (length l.cases ≡ sheet_places)
-    × Upper l.n (point_bit (star l.header l.centre []) paired) l.cases
-    × Come (sheet_places * l.paired) (λ (ns : List Float). iterate (regular_layer (star l.header l.centre ns)) l.paired) l.marks l.counts l.x
+    (l.x ≤ l.n)
+    × (length l.pairs ≡ sheet_places)
+    × Upper l.n (point_bit (star l.header l.centre []) l.paired) l.pairs
+    × Come (sheet_places * l.x) (λ (ns : List Float). iterate (regular_layer (star l.header l.centre ns)) l.x) l.cases l.marks l.counts
 
 abbrev pub decreases-loop-x : goal.decreases-loop-x
-decreases-loop-x l = l.n - l.paired
+decreases-loop-x l = l.n - l.x

@@ -4,6 +4,8 @@ use native.Mathlib.Omega.{arith}
 use Prim.Native.Nat.{◌+◌, ◌-◌, ◌*◌, ◌≤◌}
 use Rattle.model.specs.Limits.{most_subdivisions}
 use Rattle.cases.specs.RowPlaces.{rows_fit}
+use Rattle.cells.specs.SheetCells.{sheet_cell}
+use Rattle.walk.specs.Order.{row_to}
 use Rattle.counting.proofs.Growth.{few_none, few_more, few_of, plus_fits, grows_none, grows_more, sheet_grows}
 use Rattle.counting.proofs.count_sheet.Goals as goal
 use Rattle.counting.proofs.count_sheet.Goals.{At-loop-u}
@@ -32,7 +34,7 @@ loop-u-preserved c =
     (
       omega (arith, c.loop-u-test.true),
       rw c.plus-counts.ensures
-          (few_of _ (omega arith) (few_more l.invariant.1.0 c.count_row-more.ensures.few), λ s held. grows_more _ l.u (l.invariant.1.1 s held) (c.count_row-more.ensures.grows s held)),
+          (few_of _ (omega arith) (few_more l.invariant.1.0 c.count_row-more.ensures.few), λ s held. grows_more (λ u. row_to (sheet_cell s c.args.sheet u) c.args.n) l.u (l.invariant.1.1 s held) (c.count_row-more.ensures.grows s held)),
     )
 
 pub returns : goal.returns

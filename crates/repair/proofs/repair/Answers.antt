@@ -30,7 +30,7 @@ list_changes-count-requires c =
     let a = c.args in
     let lent = delivery a.centre.now a.neighbours.now in
     let r = repairable a.header lent a.filler (length a.changes.now) (sym c.judge_repair-verdict.ensures ∙ c.in_default.is) in
-    (r.shaped, rw c.bits_of.ensures r.room)
+    record { shaped = r.shaped; neighbours_in_bounds = rw c.bits_of.ensures r.room }
 
 -- nothing is refused, and the list is written
 module _ (c : After-list_changes-count) where

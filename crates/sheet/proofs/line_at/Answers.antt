@@ -41,7 +41,7 @@ returns c =
     let all = is_whole_lem ((drop c.args.at (c.args.run.now))) (omega (arith, c.if-rest-lt4.false, ap length (rest-is (goal.at.returns c).Start)))
     (omega (arith, c.if-rest-size.false, ap length (rest-is (goal.at.returns c).Start), word-is (goal.at.returns c).After-word_at)) in
     let whole = whole_answer ((drop c.args.at (c.args.run.now))) all in
-    let found = c.Line-of.ensures in (
+    let found = c.line_of.ensures in (
       found.0,
       (
         found.1 ∙ ap₂ (λ (k : ℕ) (l : List ℕ). line_of (take k l)) (ap (λ (w : ℕ). 4 + w) (word-is (goal.at.returns c).After-word_at)) (rest-is (goal.at.returns c).Start) ∙ whole.0,

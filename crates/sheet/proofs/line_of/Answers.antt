@@ -19,8 +19,7 @@ pub returns-in-Refused : goal.returns-in-Refused
 unfolding line_of judge_line
 returns-in-Refused c =
     let bytes = c.args.src.now in
-    let refused = c.whole-1.given in
-    let whole : judge_record bytes ≡ Refused refused.0.0 = sym c.judge_record-whole.ensures ∙ refused.1 in
+    let whole : judge_record bytes ≡ Refused c.in-Refused.r = sym c.judge_record-whole.ensures ∙ c.in-Refused.is in
     (tt, rw whole)
 
 pub header_of-header-requires : goal.header_of-header-requires
@@ -32,8 +31,7 @@ judge_faces-faces-requires c = (well (goal.at.judge_faces-faces-requires c).In_d
 pub returns-in-Refused-faces : goal.returns-in-Refused-faces
 unfolding line_of judge_line
 returns-in-Refused-faces c =
-    let refused = c.faces-1.given in
-    let faces : judge_faces (star_of (c.args.src.now)) ≡ Refused refused.0.0 = sym c.judge_faces-faces.ensures ∙ refused.1 in
+    let faces : judge_faces (star_of (c.args.src.now)) ≡ Refused c.in-Refused-faces.r = sym c.judge_faces-faces.ensures ∙ c.in-Refused-faces.is in
     (tt, rw (passed (goal.at.returns-in-Refused-faces c).In_default, faces))
 
 pub figures_of-requires : goal.figures_of-requires

@@ -5,4 +5,4 @@ pub returns-in-Block : goal.returns-in-Block
 returns-in-Block c = rw c.in-Block.is
 
 pub returns-in-Refused : goal.returns-in-Refused
-returns-in-Refused c = rw (c.in-Refused.is, c.Numbers-of.ensures)
+returns-in-Refused c = rw (c.in-Refused.is, c.numbers_of.ensures)

@@ -8,4 +8,4 @@ pub returns-in-End : goal.returns-in-End
 returns-in-End c = rw c.in-End.is
 
 pub returns-in-Refused : goal.returns-in-Refused
-returns-in-Refused c = rw (c.in-Refused.is, c.Numbers-of.ensures)
+returns-in-Refused c = rw (c.in-Refused.is, c.numbers_of.ensures)

@@ -5,4 +5,4 @@ pub returns-in-Changes : goal.returns-in-Changes
 returns-in-Changes c = rw c.in-Changes.is
 
 pub returns-in-Refused : goal.returns-in-Refused
-returns-in-Refused c = rw (c.in-Refused.is, c.Numbers-of.ensures)
+returns-in-Refused c = rw (c.in-Refused.is, c.numbers_of.ensures)

@@ -5,4 +5,4 @@ pub returns-in-Samples : goal.returns-in-Samples
 returns-in-Samples c = rw c.in-Samples.is
 
 pub returns-in-Refused : goal.returns-in-Refused
-returns-in-Refused c = rw (c.in-Refused.is, c.Numbers-of.ensures)
+returns-in-Refused c = rw (c.in-Refused.is, c.numbers_of.ensures)

@@ -5,4 +5,4 @@ pub returns-in-Total : goal.returns-in-Total
 returns-in-Total c = rw c.in-Total.is
 
 pub returns-in-Refused : goal.returns-in-Refused
-returns-in-Refused c = rw (c.in-Refused.is, c.Numbers-of.ensures)
+returns-in-Refused c = rw (c.in-Refused.is, c.numbers_of.ensures)

@@ -5,4 +5,4 @@ pub returns-in-Triangles : goal.returns-in-Triangles
 returns-in-Triangles c = rw c.in-Triangles.is
 
 pub returns-in-Refused : goal.returns-in-Refused
-returns-in-Refused c = rw (c.in-Refused.is, c.Numbers-of.ensures)
+returns-in-Refused c = rw (c.in-Refused.is, c.numbers_of.ensures)

@@ -5,4 +5,4 @@ pub returns-in-Mesh : goal.returns-in-Mesh
 returns-in-Mesh c = rw c.in-Mesh.is
 
 pub returns-in-Refused : goal.returns-in-Refused
-returns-in-Refused c = rw (c.in-Refused.is, c.Numbers-of.ensures)
+returns-in-Refused c = rw (c.in-Refused.is, c.numbers_of.ensures)

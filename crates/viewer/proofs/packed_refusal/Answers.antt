@@ -8,8 +8,8 @@ use Rattle.viewer.specs.Packed.{number_small}
 use Rattle.viewer.proofs.packed_refusal.Goals as goal
 use Rattle.viewer.proofs.packed_refusal.Goals.{After-numbers_of}
 
-number : (c : After-numbers_of) → c.Numbers-of.result.number ≡ (numbers_of c.args.refusal).number
-number c = ap (λ (n : Numbers). n.number) c.Numbers-of.ensures
+number : (c : After-numbers_of) → c.numbers_of.result.number ≡ (numbers_of c.args.refusal).number
+number c = ap (λ (n : Numbers). n.number) c.numbers_of.ensures
 
 pub overflow_add-result : goal.overflow_add-result
 overflow_add-result c = omega (arith, number c, number_small c.args.refusal)

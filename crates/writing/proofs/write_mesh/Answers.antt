@@ -19,9 +19,9 @@ same_at_after_write_transition_cells_all : (c : After-write_transition_cells-all
 same_at_after_write_transition_cells_all c =
     record { vertices_same = c.write_regular_cells-regular.auto.vertices; triangles_same = c.write_regular_cells-regular.auto.triangles; store_same = c.write_regular_cells-regular.auto.store ∙ c.clear.auto.store; edges_same = c.write_regular_cells-regular.auto.edges }
 
-same-still : (t : After-write_transition_cells-all) → let a = t.args in SameLengths a.vertices.now c.write_regular_cells-regular.new.vertices a.triangles.now c.write_regular_cells-regular.new.triangles a.store.now c.write_regular_cells-regular.new.store a.edges.now c.write_regular_cells-regular.new.edges
+same-still : (t : After-write_transition_cells-all) → let a = t.args in SameLengths a.vertices.now t.write_transition_cells-all.new.vertices a.triangles.now t.write_transition_cells-all.new.triangles a.store.now t.write_transition_cells-all.new.store a.edges.now t.write_transition_cells-all.new.edges
 same-still t =
-    same_then (same_at_after_write_transition_cells_all t) (record { vertices_same = c.write_regular_cells-regular.auto.vertices; triangles_same = c.write_regular_cells-regular.auto.triangles; store_same = c.write_regular_cells-regular.auto.store; edges_same = c.write_regular_cells-regular.auto.edges })
+    same_then (same_at_after_write_transition_cells_all t) (record { vertices_same = t.write_transition_cells-all.auto.vertices; triangles_same = t.write_transition_cells-all.auto.triangles; store_same = t.write_transition_cells-all.auto.store; edges_same = t.write_transition_cells-all.auto.edges })
 
 pub write_regular_cells-regular-requires : goal.write_regular_cells-regular-requires
 write_regular_cells-regular-requires c =
@@ -33,7 +33,7 @@ write_transition_cells-all-requires c =
 
 pub overflow_add-result : goal.overflow_add-result
 overflow_add-result c =
-    omega (arith, c.write_transition_cells-all.ensures.reads.few, c.write_transition_cells-all.ensures.holds_2.read_so_far, c.write_transition_cells-all.ensures.holds_2.vertex_count, c.requires.exact.fits.vertices_fit.short)
+    omega (arith, c.write_transition_cells-all.ensures.reads.few, c.write_transition_cells-all.ensures.holds_2.read_so_far, c.write_transition_cells-all.ensures.holds_2.vertex_count_lem, c.requires.exact.fits.vertices_fit.short)
 
 pub shape_of-store : goal.shape_of-store
 shape_of-store c = (same-still (goal.at.shape_of-store c).After-write_transition_cells-all).store_same

@@ -67,8 +67,11 @@ pub overflow_add-reads : goal.overflow_add-reads
 overflow_add-reads c =
     omega (arith, c.loop-side.invariant.2.read_to.few, c.face_cases-reads.ensures.reads.1, c.loop-side-test.true)
 
+pub slice_bounds-write_sheet-end-in-loop-side-4 : goal.slice_bounds-write_sheet-end-in-loop-side-4
+slice_bounds-write_sheet-end-in-loop-side-4 c = sym (still-long (goal.at.slice_bounds-write_sheet-end-in-loop-side-4 c).After-face_cases-reads).0
+
 pub slice_bounds-write_sheet-end-in-loop-side-5 : goal.slice_bounds-write_sheet-end-in-loop-side-5
-slice_bounds-write_sheet-end-in-loop-side-5 c = sym (still-long (goal.at.slice_bounds-write_sheet-end-in-loop-side-5 c).After-face_cases-reads).0
+slice_bounds-write_sheet-end-in-loop-side-5 c = sym (still-long (goal.at.slice_bounds-write_sheet-end-in-loop-side-5 c).After-face_cases-reads).1
 
 pub write_sheet-counts-requires : goal.write_sheet-counts-requires
 write_sheet-counts-requires c =

@@ -13,11 +13,11 @@ use Rattle.writing.proofs.write_named_sides.Given as goal
 
 abbrev pub invariant-loop-side : goal.invariant-loop-side
 invariant-loop-side l =
-    (side ≤ side_count)
-    × (side < side_count → named l.mask side ≡ true)
-    × Come (transition_to (star l.header l.centre l.neighbours) side 0 0) (l.initial.reads + total (side_reads (star l.header l.centre l.neighbours)) side) (most_subdivisions + side)
-    l.initial.vertices l.triangles l.initial.triangles l.edges l.initial.store l.vertices l.initial.edges l.cases l.marks l.counts l.reads l.side
+    (l.side ≤ side_count)
+    × (l.side < side_count → named l.mask l.side ≡ true)
+    × Come (transition_to (star l.header l.centre l.neighbours) l.side 0 0) (l.initial.reads + total (side_reads (star l.header l.centre l.neighbours)) l.side) (most_subdivisions + l.side)
+    l.initial.vertices l.vertices l.initial.triangles l.triangles l.initial.store l.store l.initial.edges l.edges l.cases l.marks l.counts l.reads
 
 abbrev pub decreases-loop-side : goal.decreases-loop-side
 decreases-loop-side l =
-    side_count - side
+    side_count - l.side

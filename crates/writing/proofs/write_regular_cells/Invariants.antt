@@ -13,10 +13,10 @@ use Rattle.writing.proofs.write_regular_cells.Given as goal
 
 abbrev pub invariant-loop-x : goal.invariant-loop-x
 invariant-loop-x l =
-    (x ≤ l.n)
-    × (x < l.n → passed_over l.header.threshold l.summary x ≡ false)
-    × Come (regular_to (star l.header l.centre l.neighbours) x 0 0) (total (layer_reads (star l.header l.centre l.neighbours) l.summary) x) x
-    l.initial.vertices l.triangles l.initial.triangles l.edges l.initial.store l.vertices l.initial.edges l.cases l.marks l.counts l.reads l.x
+    (l.x ≤ l.n)
+    × (l.x < l.n → passed_over l.header.threshold l.summary l.x ≡ false)
+    × Come (regular_to (star l.header l.centre l.neighbours) l.x 0 0) (total (layer_reads (star l.header l.centre l.neighbours) l.summary) l.x) l.x
+    l.initial.vertices l.vertices l.initial.triangles l.triangles l.initial.store l.store l.initial.edges l.edges l.cases l.marks l.counts l.reads
 
 abbrev pub decreases-loop-x : goal.decreases-loop-x
-decreases-loop-x l = l.n - x
+decreases-loop-x l = l.n - l.x

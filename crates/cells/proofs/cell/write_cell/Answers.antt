@@ -28,8 +28,7 @@ put_triangles-made-requires c =
 pub overflow_add-reads : goal.overflow_add-reads
 unfolding fill_to
 overflow_add-reads c =
-    let p = c.requires.1.1.1 in
-    omega (arith, p.ready.short, p.1.1, c.fill_cell-filled.ensures.reads_are)
+    omega (arith, c.requires.room.short, c.requires.room_2.1, c.fill_cell-filled.ensures.reads_are)
 
 pub returns : goal.returns
 unfolding fill_to triangle_of row_triangle

@@ -40,10 +40,9 @@ turned-requires c =
 pub write_cell-requires : goal.write_cell-requires
 write_cell-requires c =
     let a = c.args in
-    let room = c.requires.1.1.1.1 in
     let cell = c.cell_at.ensures in
     let codes_are = c.case_codes.ensures in
-    let row_is = c.case_cell.ensures in record { ready = rw cell c.requires.ready; coded = (sheet_coded a.sheet a.case _ _ (small (goal.at.write_cell-requires c).Start) codes_are row_is a.u a.v _ cell, sheet_followed a.sheet a.case _ (small (goal.at.write_cell-requires c).Start) row_is); store_len = c.requires.store_len; room = vertex_room (same (goal.at.write_cell-requires c).After-turned) a.counts.vertices a.vertices.now a.store.now room.0; room_2 = (triangle_room (same (goal.at.write_cell-requires c).After-turned) a.counts.triangles a.triangles.now room.1.0, room.1.1) }
+    let row_is = c.case_cell.ensures in record { ready = rw cell c.requires.ready; coded = (sheet_coded a.sheet a.case _ _ (small (goal.at.write_cell-requires c).Start) codes_are row_is a.u a.v _ cell, sheet_followed a.sheet a.case _ (small (goal.at.write_cell-requires c).Start) row_is); store_len = c.requires.store_len; room = vertex_room (same (goal.at.write_cell-requires c).After-turned) a.counts.vertices a.vertices.now a.store.now c.requires.room; room_2 = (triangle_room (same (goal.at.write_cell-requires c).After-turned) a.counts.triangles a.triangles.now c.requires.room_2.0, c.requires.room_2.1) }
 
 pub returns : goal.returns
 returns c =

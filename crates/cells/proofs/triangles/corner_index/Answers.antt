@@ -7,11 +7,11 @@ use Rattle.cells.proofs.triangles.corner_index.Goals as goal
 
 pub offset_bounds-index-at : goal.offset_bounds-index-at
 offset_bounds-index-at c =
-    omega (arith, c.requires.followed.corner_in c.args.j c.requires.j_bound)
+    omega (arith, c.requires.followed.corner_in_lem c.args.j c.requires.j_bound)
 
 pub bounds-index-at : goal.bounds-index-at
 bounds-index-at c =
-    omega (arith, c.requires.followed.corner_in c.args.j c.requires.j_bound)
+    omega (arith, c.requires.followed.corner_in_lem c.args.j c.requires.j_bound)
 
 pub returns : goal.returns
 returns c = ap (λ (k : ℕ). get_or c.args.index.now k 0) c.wide-at.ensures.0

@@ -11,16 +11,7 @@ use Rattle.model.specs.Layers.{best_of, less, more, extent_of}
 use Rattle.layers.specs.Held.{samples_from}
 use Rattle.layers.specs.Best.{Number, not_less, not_more, upward, downward, best_is, best_known}
 use Rattle.layers.proofs.judging.is_extent.Goals as goal
-
-module _ (f : ℕ → Float) (v : Float) where
-  abbrev noneLess : ℕ → Bool
-  noneLess = all_below (λ k. not_more v (f k))
-
-  abbrev noneMore : ℕ → Bool
-  noneMore = all_below (λ k. not_less v (f k))
-
-  abbrev allApart : ℕ → Bool
-  allApart = all_below (λ k. ne v (f k))
+use Rattle.layers.proofs.judging.is_extent.Invariants.{no_less, no_more, all_apart}
 
 pub loop-k-init : goal.loop-k-init
 loop-k-init c = (omega arith, refl, refl, refl, refl)
@@ -60,5 +51,5 @@ returns c =
     let least = best_known less not_more upward f n a.told.least (best_of less f n) (best_is less not_more upward f n c.requires.1.0 numbers) in
     let greatest = best_known more not_less downward f n a.told.greatest (best_of more f n) (best_is more not_less downward f n c.requires.1.0 numbers) in
     ap₂ ◌&&◌
-    (ap₂ (λ (x y : Bool). x && not y) (turn.invariant.1 ∙ ap (noneLess f a.told.least) end) (turn.invariant.3 ∙ ap (allApart f a.told.least) end) ∙ least)
-    (ap₂ (λ (x y : Bool). x && not y) (turn.invariant.2 ∙ ap (noneMore f a.told.greatest) end) (turn.invariant.4 ∙ ap (allApart f a.told.greatest) end) ∙ greatest)
+    (ap₂ (λ (x y : Bool). x && not y) (turn.invariant.1 ∙ ap (no_less f a.told.least) end) (turn.invariant.3 ∙ ap (all_apart f a.told.least) end) ∙ least)
+    (ap₂ (λ (x y : Bool). x && not y) (turn.invariant.2 ∙ ap (no_more f a.told.greatest) end) (turn.invariant.4 ∙ ap (all_apart f a.told.greatest) end) ∙ greatest)

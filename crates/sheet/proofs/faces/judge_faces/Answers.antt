@@ -33,10 +33,9 @@ judge_side-face-requires c =
 
 pub returns-in-Refused : goal.returns-in-Refused
 returns-in-Refused c =
-    let refused = c.face-1.given in
     sym
     (sym (faces_are c.args.src.now c.args.header c.requires.1)
-    ∙ refused_at c.args.header.mask (side_judged c.args.src.now) c.loop-side.invariant c.loop-side-test.true (sym (told (goal.at.returns-in-Refused c).After-judge_side-face) ∙ refused.1))
+    ∙ refused_at c.args.header.mask (side_judged c.args.src.now) c.loop-side.invariant c.loop-side-test.true (sym (told (goal.at.returns-in-Refused c).After-judge_side-face) ∙ c.in-Refused.is))
 
 pub overflow_add-side : goal.overflow_add-side
 overflow_add-side c =

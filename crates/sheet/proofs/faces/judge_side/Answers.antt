@@ -42,10 +42,9 @@ judge_row-row-requires c =
 
 pub returns-in-Refused : goal.returns-in-Refused
 returns-in-Refused c =
-    let refused = c.row-1.given in
     sym
-    (hit (row (goal.at.returns-in-Refused c).Start) (c.loop-u.u) (c.args.header.block.subdivisions + 1) refused.0.0 c.loop-u.invariant.1
-    (sym (told (goal.at.returns-in-Refused c).After-judge_row-row) ∙ refused.1) c.loop-u-test.true)
+    (hit (row (goal.at.returns-in-Refused c).Start) (c.loop-u.u) (c.args.header.block.subdivisions + 1) c.in-Refused.r c.loop-u.invariant.1
+    (sym (told (goal.at.returns-in-Refused c).After-judge_row-row) ∙ c.in-Refused.is) c.loop-u-test.true)
 
 pub loop-u-preserved : goal.loop-u-preserved
 loop-u-preserved c =

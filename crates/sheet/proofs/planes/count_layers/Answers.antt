@@ -21,17 +21,8 @@ use Rattle.cases.specs.RowPlaces.{layer_fits}
 use Rattle.sheet.specs.Planes.{plane_places, planes_to, LayerCounts, layer_counts, plane_same}
 use Rattle.sheet.specs.Sizes.{most_planes, Small, small_plus, small_of, small_fits}
 use Rattle.sheet.proofs.planes.count_layers.Goals as goal
+use Rattle.sheet.proofs.planes.count_layers.Invariants.{SoFar}
 use Rattle.sheet.proofs.planes.count_layers.Goals.{After-cases_between, After-count_sheet-counts, After-fill_plane, After-fill_plane-in-loop-x, After-move_down, Start}
-
-record SoFar (src : List ℕ) (n : ℕ) (cases marks : List ℕ) (low high : List Float) (figures : Figures) (x : ℕ) : Type 0 where
-  within : x ≤ n
-  cases_long : length cases ≡ sheet_places
-  marks_long : length marks ≡ sheet_places
-  low-long : length low ≡ plane_places
-  high-long : length high ≡ plane_places
-  plane : Plane (star_of src) x high
-  small : Small (x + 1) figures
-  added : figures ≡ planes_to (star_of src) x
 
 zeros : length {A = Float} (replicate plane_places (of_bits binary32 0)) ≡ plane_places
 zeros = length-replicate {A = Float} plane_places (of_bits binary32 0)
@@ -199,13 +190,13 @@ cases_between-requires c =
     record { n_le_most_subdivisions = (n-few (goal.at.cases_between-requires c).Start, (so_far.cases_long, so_far.marks_long)); n_in_bounds = (omega (arith, room, low-long (goal.at.cases_between-requires c).After-move_down), omega (arith, room, high-long (goal.at.cases_between-requires c).After-fill_plane-in-loop-x)) }
 
 pub slice_bounds-count_sheet-end : goal.slice_bounds-count_sheet-end
-slice_bounds-count_sheet-end c = search (rules, c.regular_cell_class-classes.ok)
+slice_bounds-count_sheet-end c = search (rules, c.regular_cell_class-classes.type_inv)
 
 pub slice_bounds-count_sheet-end-in-loop-x : goal.slice_bounds-count_sheet-end-in-loop-x
-slice_bounds-count_sheet-end-in-loop-x c = search (rules, c.regular_cell_data-cells.ok)
+slice_bounds-count_sheet-end-in-loop-x c = search (rules, c.regular_cell_data-cells.type_inv)
 
 pub slice_bounds-count_sheet-end-in-loop-x-2 : goal.slice_bounds-count_sheet-end-in-loop-x-2
-slice_bounds-count_sheet-end-in-loop-x-2 c = search (rules, c.regular_vertex_data-codes.ok)
+slice_bounds-count_sheet-end-in-loop-x-2 c = search (rules, c.regular_vertex_data-codes.type_inv)
 
 pub slice_bounds-count_sheet-end-in-loop-x-3 : goal.slice_bounds-count_sheet-end-in-loop-x-3
 slice_bounds-count_sheet-end-in-loop-x-3 c = sym (cases_long (goal.at.slice_bounds-count_sheet-end-in-loop-x-3 c).After-cases_between)

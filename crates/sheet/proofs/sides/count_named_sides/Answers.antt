@@ -65,8 +65,11 @@ face_cases-requires c =
     } in
     record { accepted = (c.requires.0, (c.requires.1, is)); cases_len = l.invariant.1.0 }
 
+pub slice_bounds-count_sheet-end-in-loop-side-4 : goal.slice_bounds-count_sheet-end-in-loop-side-4
+slice_bounds-count_sheet-end-in-loop-side-4 c = sym (still-long (goal.at.slice_bounds-count_sheet-end-in-loop-side-4 c).After-face_cases).0
+
 pub slice_bounds-count_sheet-end-in-loop-side-5 : goal.slice_bounds-count_sheet-end-in-loop-side-5
-slice_bounds-count_sheet-end-in-loop-side-5 c = sym (still-long (goal.at.slice_bounds-count_sheet-end-in-loop-side-5 c).After-face_cases).0
+slice_bounds-count_sheet-end-in-loop-side-5 c = sym (still-long (goal.at.slice_bounds-count_sheet-end-in-loop-side-5 c).After-face_cases).1
 
 pub count_sheet-more-requires : goal.count_sheet-more-requires
 count_sheet-more-requires c =

@@ -13,8 +13,8 @@ use Rattle.sheet.proofs.sides.count_named_sides.Given as goal
 
 abbrev pub invariant-loop-side : goal.invariant-loop-side
 invariant-loop-side l =
-    ((side ≤ side_count) × (side < side_count → named l.mask side ≡ true))
-    × (((length l.marks ≡ sheet_places) × (length l.counts ≡ sheet_places)) × (Few (sheet_places * side) l.side × SideCounts (star_of l.src) side l.side))
+    ((l.side ≤ side_count) × (l.side < side_count → named l.mask l.side ≡ true))
+    × (((length l.cases ≡ sheet_places) × (length l.marks ≡ sheet_places)) × (Few (sheet_places * l.side) l.counts × SideCounts (star_of l.src) l.side l.counts))
 
 abbrev pub decreases-loop-side : goal.decreases-loop-side
-decreases-loop-side l = side_count - side
+decreases-loop-side l = side_count - l.side

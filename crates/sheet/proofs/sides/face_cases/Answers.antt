@@ -12,15 +12,8 @@ use Rattle.cases.specs.Marks.{all_transition, mark_of}
 use Rattle.cases.specs.RowPlaces.{no_row}
 use Rattle.sheet.specs.Fine.{three_lines, lines_walked, face_cases}
 use Rattle.sheet.proofs.sides.face_cases.Goals as goal
+use Rattle.sheet.proofs.sides.face_cases.Invariants.{SoFar}
 use Rattle.sheet.proofs.sides.face_cases.Goals.{After-fill_lines}
-
-record SoFar (src : List ℕ) (side n : ℕ) (cases marks : List ℕ) (samples : List Float) (u : ℕ) : Type 0 where
-  within : u ≤ n
-  cases_long : length cases ≡ sheet_places
-  marks_long : length marks ≡ sheet_places
-  samples-long : length samples ≡ three_lines
-  numbers : Sheet (transition_case (star_of src) side) n u cases
-  marked : Sheet (λ j k. mark_of all_transition (transition_case (star_of src) side j k)) n u marks
 
 -- the three lines have their places still
 still-long : (c : After-fill_lines) → length c.fill_lines.new.samples ≡ three_lines
