@@ -17,10 +17,13 @@ row_between-requires c =
 pub returns : goal.returns
 returns c =
     let a = c.args in
-    record { row_put = λ s x is low high.
+    record {
+      row_put = λ s x is low high.
           let n_is = is.subdivisions_are in
           row_as
           (case_measured s a.n a.threshold x a.y _ _ _ _ is (c.line-a.ensures.line s x n_is low)
           (c.line-b.ensures.line s (x + 1) n_is high) (c.line-c.ensures.line s x n_is low)
           (c.line-d.ensures.line s (x + 1) n_is high))
-          c.row_between.ensures.row_put; reads = c.row_between.ensures.reads }
+          c.row_between.ensures.row_put;
+      reads = c.row_between.ensures.reads;
+    }
