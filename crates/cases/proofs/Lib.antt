@@ -1,2 +1,3 @@
 mod Marking
 pub mod Pinned
+pub mod RowPlaces

@@ -23,10 +23,6 @@ row_before n j y k h l =
     let e : (n + 1) * (j + 1) ≤ (n + 1) * y = mul-le-mul_left (n + 1) (omega arith) in
     omega arith
 
--- a row of a sheet ends before the rows of the largest block do
-pub row_fits : (n j : ℕ) → n ≤ most_subdivisions → j < n → row_start n j + n < most_subdivisions * (most_subdivisions + 1)
-row_fits n j few h = omega (arith, rows_fit n few, row_before n j n n h (omega arith))
-
 -- a sheet of no row is any list
 pub no_row : (case : ℕ → ℕ → ℕ) (n : ℕ) (cases : List ℕ) → Sheet case n 0 cases
 no_row case n cases = record { case_at = λ j k h l. absurd (let x : ⊥ = omega arith in x) }

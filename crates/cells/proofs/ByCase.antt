@@ -11,9 +11,10 @@ use Rattle.tables.specs.Cases.{vertices_of, triangles_of, corner_of}
 use Rattle.tables.specs.Cases.{regular_codes, regular_code, regular_vertices, regular_triangles, regular_corner}
 use Rattle.tables.specs.Cases.{regular_cell as regularRow, transition_cell as transition_row}
 use Rattle.tables.specs.Cases.{transition_codes, transition_code, transition_vertices, transition_triangles, transition_corner}
-use Rattle.tables.specs.RulesCorners.{CellRight, regular_cell_right, regular_class_small, transition_cell_right, transition_class_small}
-use Rattle.tables.specs.RulesSlots.{regular_code_right}
-use Rattle.tables.specs.RulesBorder.{transition_code_right}
+use Rattle.tables.specs.RulesCorners.{CellRight}
+use Rattle.tables.proofs.RulesCorners.{regular_cell_right, regular_class_small, transition_cell_right, transition_class_small}
+use Rattle.tables.proofs.RulesSlots.{regular_code_right}
+use Rattle.tables.proofs.RulesBorder.{transition_code_right}
 use Rattle.model.specs.Star.{Star}
 use Rattle.model.specs.Mesh.{Cell, fill_to, regular_cell, transition_cell}
 use Rattle.codes.specs.declared.CellIndex.{CellIndex}

@@ -10,7 +10,7 @@ use native.Mathlib.Omega.{arith}
 use Rattle.std.proofs.Math.ListN.{length, length-append}
 use Rattle.laws.specs.Steps.{iterate, listed}
 use Rattle.laws.specs.Iterated.{iterate_upto}
-use Rattle.tables.specs.RulesCorners.{transition_cell_right}
+use Rattle.tables.proofs.RulesCorners.{transition_cell_right}
 use Rattle.model.specs.Limits.{side_count}
 use Rattle.model.specs.Sides.{named}
 use Rattle.model.specs.Star.{Star, subdivisions}

@@ -6,7 +6,7 @@ use Rattle.std.proofs.Math.Nat.{zero-mul}
 use Rattle.std.proofs.Math.ListN.{length-replicate}
 use Rattle.tables.specs.Codes.{is_new}
 use Rattle.tables.specs.Cases.{regular_triangles, regular_corner}
-use Rattle.tables.specs.RulesCorners.{regular_cell_right}
+use Rattle.tables.proofs.RulesCorners.{regular_cell_right}
 use Rattle.tables.specs.RulesSlots.{regular_slot}
 use Rattle.model.specs.declared.Triangle.{Triangle}
 use Rattle.model.specs.Star.{Star, subdivisions}

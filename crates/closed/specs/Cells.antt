@@ -14,8 +14,9 @@ use Rattle.tables.specs.Corners.{bit, axis_of, regular_used, regular_edges}
 use Rattle.laws.specs.Tests.{eq→eqb, both, both_left, both_right, then, then_holds, below, all₂}
 use Rattle.laws.specs.Counting.{pick, one, has, every, every_item, with_each, each_two, two_items}
 use Rattle.tables.specs.Listed.{crossing, differ}
-use Rattle.tables.specs.RulesEdges.{regular_lists}
-use Rattle.tables.specs.RulesSlots.{RegularCode, regular_new_code, regular_used_right, regular_code_right}
+use Rattle.tables.proofs.RulesEdges.{regular_lists}
+use Rattle.tables.specs.RulesSlots.{RegularCode, regular_new_code, regular_used_right}
+use Rattle.tables.proofs.RulesSlots.{regular_code_right}
 use Rattle.model.specs.declared.Xyz.{Xyz}
 use Rattle.laws.specs.Steps.{total}
 use Rattle.model.specs.Samples.{sample_of}

@@ -10,11 +10,12 @@ use Rattle.tables.specs.Corners.{bit, corner_x, corner_y, corner_z, axis_of, reg
 use Rattle.laws.specs.Tests.{both, both_left, both_right, then, then_holds, below, all, all₂}
 use Rattle.laws.specs.Counting.{one, every, every_item, weighed}
 use Rattle.tables.specs.Sides.{back, regular_sides, regular_sides_lem, far_ends, near_edge, near_side, far_edge, far_side, near_corner, near_bits, far_bits, spread, shown, nears, fars, inflow, outflow}
-use Rattle.tables.specs.RulesSides.{balanced}
+use Rattle.tables.proofs.RulesSides.{balanced}
 use Rattle.model.specs.Star.{Star, subdivisions}
 use Rattle.model.specs.Points.{corner_point, regular_case}
 use Rattle.closed.specs.Clauses.{Edge, number, inside_at, run}
-use Rattle.laws.specs.Sums.{Each, each_as, each_map, each_only, weighed_append, weighed_map, weighed_same, cube, border, telescope_cube}
+use Rattle.laws.specs.Sums.{Each, each_as, each_map, each_only, weighed_append, weighed_map, weighed_same, cube, border}
+use Rattle.laws.proofs.Sums.{telescope_cube}
 use Rattle.closed.specs.Places.{same_edge}
 use Rattle.closed.specs.Cells.{case_small, case_bit, code_edge, same_point}
 use Rattle.closed.specs.Weighing.{side_small, sides_below, weight_by, weighed_back}

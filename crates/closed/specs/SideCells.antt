@@ -16,8 +16,10 @@ use Rattle.tables.specs.Cases.{transition_code, transition_vertices}
 use Rattle.tables.specs.Corners.{bit}
 use Rattle.tables.specs.Listed.{crossing, differ}
 use Rattle.tables.specs.Points.{contribution_of, fine_of, point_u, point_v, transition_inside}
-use Rattle.tables.specs.RulesTransition.{transition_used, transition_lists}
-use Rattle.tables.specs.RulesBorder.{transition_new_code, kept, transition_used_right}
+use Rattle.tables.specs.RulesTransition.{transition_used}
+use Rattle.tables.proofs.RulesTransition.{transition_lists}
+use Rattle.tables.specs.RulesBorder.{transition_new_code, kept}
+use Rattle.tables.proofs.RulesBorder.{transition_used_right}
 use Rattle.model.specs.Samples.{sample_of}
 use Rattle.model.specs.Rotations.{face_point}
 use Rattle.model.specs.Formulas.{inside, inside_bit}

@@ -13,7 +13,8 @@ use Rattle.tables.specs.Codes.{point_a, edge_of}
 use Rattle.tables.specs.Corners.{axis_of}
 use Rattle.tables.specs.Cases.{transition_code, transition_corner, transition_triangles, transition_turned, sent}
 use Rattle.tables.specs.Points.{point_u, point_v, point_face}
-use Rattle.tables.specs.RulesTransition.{transition_edges, transition_lists}
+use Rattle.tables.specs.RulesTransition.{transition_edges}
+use Rattle.tables.proofs.RulesTransition.{transition_lists}
 use Rattle.tables.specs.Sides.{side, sides_of}
 use Rattle.tables.specs.FinerSides.{transition_sides, transition_sides_lem, across, low_edge, low_side, shown_low, coarse_edge, coarse_side, shown_coarse, common_border, on_fine, fine_side}
 use Rattle.model.specs.Limits.{side_count}

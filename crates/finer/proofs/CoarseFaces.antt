@@ -10,7 +10,7 @@ use Rattle.tables.specs.Corners.{bit}
 use Rattle.tables.specs.Points.{point_u, point_v}
 use Rattle.tables.specs.Sides.{back, near_corner, shown}
 use Rattle.tables.specs.FinerSides.{coarse_edge, coarse_side, shown_coarse, laid_on, undone, laid_side, laid_bits}
-use Rattle.tables.specs.RulesFiner.{coarse_laid}
+use Rattle.tables.proofs.RulesFiner.{coarse_laid}
 use Rattle.model.specs.declared.Xyz.{Xyz}
 use Rattle.model.specs.Star.{Star, subdivisions}
 use Rattle.closed.specs.Clauses.{number, inside_at, run}

@@ -7,7 +7,8 @@ use native.Mathlib.Omega.{arith}
 use Rattle.laws.specs.Tests.{both, both_left, both_right, then, then_holds, below, all₂}
 use Rattle.laws.specs.Counting.{every, only, weighed}
 use Rattle.laws.specs.Sums.{Each, each_as, each_map, each_only, weighed_append, weighed_map, weighed_same, square}
-use Rattle.laws.specs.Squares.{square_three, rim, telescope_square}
+use Rattle.laws.specs.Squares.{square_three, rim}
+use Rattle.laws.proofs.Squares.{telescope_square}
 use Rattle.tables.specs.Codes.{point_a}
 use Rattle.tables.specs.Corners.{axis_of}
 use Rattle.tables.specs.Cases.{transition_code, transition_corner, transition_triangles, transition_turned, sent}
@@ -15,7 +16,7 @@ use Rattle.tables.specs.Points.{point_u, point_v, point_face, transition_inside}
 use Rattle.tables.specs.RulesTransition.{transition_edges}
 use Rattle.tables.specs.Sides.{side, back}
 use Rattle.tables.specs.FinerSides.{transition_sides, transition_sides_lem, fine_edge, across, low_edge, high_edge, low_side, high_side, low_point, high_point, low_bits, high_bits, spread_low, shown_low, coarse_side, corner_bits, spread_corners, shown_coarse, fine_side, lows, highs, coarses, in_of, out_of, finer_in, finer_out}
-use Rattle.tables.specs.RulesFiner.{finer_balanced}
+use Rattle.tables.proofs.RulesFiner.{finer_balanced}
 use Rattle.model.specs.Star.{Star, subdivisions}
 use Rattle.model.specs.Points.{transition_case}
 use Rattle.closed.specs.Clauses.{run}

@@ -6,7 +6,8 @@ use borrow.Author.Tests.{eqb-true}
 use Rattle.laws.specs.Counting.{has}
 use Rattle.tables.specs.Codes.{step_x, step_y, is_new, reuse_index}
 use Rattle.tables.specs.RulesTransition.{transition_used}
-use Rattle.tables.specs.RulesBorder.{transition_new_code, TransitionCode, transition_used_right}
+use Rattle.tables.specs.RulesBorder.{transition_new_code, TransitionCode}
+use Rattle.tables.proofs.RulesBorder.{transition_used_right}
 use Rattle.model.specs.Star.{Star, subdivisions}
 use Rattle.model.specs.Mesh.{store_length, transition_place, transition_leaves, transition_use, transition_cell}
 use Rattle.closed.specs.Places.{pair_one, pair_in, pair_less}

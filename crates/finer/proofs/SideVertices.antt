@@ -10,7 +10,8 @@ use Rattle.tables.specs.Corners.{axis_of}
 use Rattle.tables.specs.Points.{point_u, point_v, point_face, cell_point, along_u, along_v, face_of}
 use Rattle.tables.specs.declared.aux_tables.CellPoint.{CellPoint}
 use Rattle.tables.specs.declared.aux_tables.CellPoint.TheVariants.{Fine, Coarse}
-use Rattle.tables.specs.RulesTransition.{transition_used, transition_edges, transition_lists}
+use Rattle.tables.specs.RulesTransition.{transition_used, transition_edges}
+use Rattle.tables.proofs.RulesTransition.{transition_lists}
 use Rattle.tables.specs.FinerSides.{fine_edge, coarse_edge}
 use Rattle.model.specs.Rotations.{face_point}
 use Rattle.model.specs.Formulas.{vertex_between}

@@ -9,8 +9,8 @@ use Rattle.std.proofs.Math.Decide.{dec_lt}
 use Rattle.std.proofs.Math.ListN.{length, length-append, get_or-append}
 use Rattle.tables.specs.Codes.{is_new, edge_of}
 use Rattle.tables.specs.Cases.{transition_corner, transition_triangles, transition_turned, sent}
-use Rattle.tables.specs.RulesCorners.{transition_cell_right}
-use Rattle.tables.specs.RulesTransition.{transition_lists}
+use Rattle.tables.proofs.RulesCorners.{transition_cell_right}
+use Rattle.tables.proofs.RulesTransition.{transition_lists}
 use Rattle.tables.specs.RulesBorder.{transition_new_code}
 use Rattle.model.specs.declared.Triangle.{Triangle}
 use Rattle.model.specs.Limits.{side_count}

@@ -8,7 +8,8 @@ use Rattle.tables.specs.Codes.{point_a, point_b, step_x, step_y, is_new, reuse_i
 use Rattle.tables.specs.Corners.{axis_of}
 use Rattle.tables.specs.Points.{point_u, point_v, point_face}
 use Rattle.tables.specs.RulesTransition.{transition_used, transition_edges}
-use Rattle.tables.specs.RulesBorder.{transition_new_code, kept, transition_used_right}
+use Rattle.tables.specs.RulesBorder.{transition_new_code, kept}
+use Rattle.tables.proofs.RulesBorder.{transition_used_right}
 use Rattle.tables.specs.FinerSides.{fine_edge, coarse_edge}
 use Rattle.model.specs.Star.{Star}
 use Rattle.closed.specs.Clauses.{number}

@@ -1,14 +1,14 @@
--- Sums over a square of cells: how one comes down to the square's rim, and the square turned over. Knows nothing of meshes.
+-- Sums over a square of cells, its rim, and the square turned over. Knows nothing of meshes.
 use Rattle.std.specs.Prelude.{◌≡◌, refl, ℕ, zero, suc, ◌+◌, ◌-◌, ◌<◌}
 use Rattle.std.proofs.Common.{sym, ap, arith}
 use Rattle.laws.specs.Steps.{total}
-use Rattle.laws.specs.Sums.{total_same, total_none, telescope, square}
+use Rattle.laws.specs.Sums.{total_same, total_none, square}
 
 pub total_two : (f a : ℕ → ℕ) (n : ℕ) → total (λ k. f k + a k) n ≡ total f n + total a n
 total_two f a zero = refl
 total_two f a (suc n) = omega (arith, total_two f a n)
 
-total_three : (f a b : ℕ → ℕ) (n : ℕ) → total (λ k. f k + (a k + b k)) n ≡ total f n + (total a n + total b n)
+pub total_three : (f a b : ℕ → ℕ) (n : ℕ) → total (λ k. f k + (a k + b k)) n ≡ total f n + (total a n + total b n)
 total_three f a b n = omega (arith, total_two f (λ k. a k + b k) n, total_two a b n)
 
 pub square_same : (f g : ℕ → ℕ → ℕ) (n : ℕ) → ((u v : ℕ) → u < n → v < n → f u v ≡ g u v) → square f n ≡ square g n
@@ -27,33 +27,6 @@ square_three f a b n =
 -- what a says of the high rims of the square and b of its low rims, where a d u v is of the border at (u, v) across direction d
 abbrev pub rim : (a b : ℕ → ℕ → ℕ → ℕ) → ℕ → ℕ
 rim a b n = total (a 0 n) n + total (b 0 0) n + (total (λ u. a 1 u n) n + total (λ u. b 1 u 0) n)
-
--- f and g differ in each cell by what a and b say of its four borders: over the square, by what they say of the rim
-module _ (f g : ℕ → ℕ → ℕ) (a b : ℕ → ℕ → ℕ → ℕ) (n : ℕ)
-    (cell : (u v : ℕ) → u < n → v < n
-    → f u v + (a 0 (suc u) v + b 0 u v) + (a 1 u (suc v) + b 1 u v)
-    ≡ g u v + (b 0 (suc u) v + a 0 u v) + (b 1 u (suc v) + a 1 u v)) where
-  in_row : (u : ℕ) → u < n
-      → total (f u) n + (total (a 0 (suc u)) n + total (b 0 u) n) + (a 1 u n + b 1 u 0)
-      ≡ total (g u) n + (total (b 0 (suc u)) n + total (a 0 u) n) + (b 1 u n + a 1 u 0)
-  in_row u hu =
-      omega (
-        arith,
-        telescope (λ v. f u v + (a 0 (suc u) v + b 0 u v)) (λ v. g u v + (b 0 (suc u) v + a 0 u v)) (a 1 u) (b 1 u) n
-            (λ v hv. omega (arith, cell u v hu hv)),
-        total_three (f u) (a 0 (suc u)) (b 0 u) n,
-        total_three (g u) (b 0 (suc u)) (a 0 u) n,
-      )
-
-  pub telescope_square : square f n + rim a b n ≡ square g n + rim b a n
-  telescope_square =
-      omega (
-        arith,
-        telescope (λ u. total (f u) n + (a 1 u n + b 1 u 0)) (λ u. total (g u) n + (b 1 u n + a 1 u 0))
-            (λ u. total (a 0 u) n) (λ u. total (b 0 u) n) n (λ u hu. omega (arith, in_row u hu)),
-        total_three (λ u. total (f u) n) (λ u. a 1 u n) (λ u. b 1 u 0) n,
-        total_three (λ u. total (g u) n) (λ u. b 1 u n) (λ u. a 1 u 0) n,
-      )
 
 -- ---- turned round, and turned over
 

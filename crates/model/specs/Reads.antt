@@ -1,15 +1,9 @@
--- Document 02, [7]: what the reads of a mesh come to. Each cell's case number adds the samples that it reads, and each vertex that was made fourteen;
--- of a sheet of cells, and of the whole mesh, that is a product.
+-- Document 02, [7]: what the reads of a mesh come to. Each cell's case number adds the samples that it reads, and each vertex that was made fourteen.
 use Rattle.std.specs.Prelude.{ℕ, ◌+◌, ◌*◌, ◌≡◌, refl, cond, length}
-use Rattle.std.proofs.Common.{arith, ap, ◌∙◌, length-append}
-use Rattle.laws.specs.Steps.{total}
-use Rattle.laws.specs.Sums.{total_same, square_equal, cube_equal}
-use Rattle.model.specs.Limits.{side_count}
+use Rattle.std.proofs.Common.{arith, length-append}
 use Rattle.model.specs.Sides.{named}
 use Rattle.model.specs.Star.{Star, subdivisions}
-use Rattle.model.specs.Mesh.{Cell, Mesh, vertex_reads, regular_reads, transition_reads, empty_mesh, cell_step, regular_cell, regular_layer, transition_cell, transition_side, mesh_of}
-use Rattle.model.specs.OverCells.{over_side}
-use Rattle.model.specs.Adding.{Adds, layer_adds, side_adds, mesh_adds}
+use Rattle.model.specs.Mesh.{Cell, Mesh, vertex_reads, transition_reads, empty_mesh, cell_step}
 
 -- so many reads for case numbers, and those of the vertices that were made
 abbrev pub Reads : ℕ → Mesh → Type 0
@@ -19,7 +13,7 @@ pub reads_none : (n : ℕ) → Reads 0 (empty_mesh n)
 unfolding empty_mesh
 reads_none n = refl
 
-cell_reads : (c : Cell) (cases : ℕ) (m : Mesh) → Reads cases m → Reads (cases + c.samples) (cell_step c m)
+pub cell_reads : (c : Cell) (cases : ℕ) (m : Mesh) → Reads cases m → Reads (cases + c.samples) (cell_step c m)
 unfolding cell_step
 cell_reads c cases m h = rw length-append (omega (arith, h))
 
@@ -27,40 +21,6 @@ module _ (s : Star) where
   abbrev n : ℕ
   n = subdivisions s
 
-  abbrev each_regular : ℕ → ℕ → ℕ → ℕ
-  each_regular x y z = regular_reads
-
-  abbrev each_transition : ℕ → ℕ → ℕ → ℕ
-  each_transition side u v = transition_reads
-
-  regular_cell_lem : (x y z : ℕ) → Adds Reads (cell_step (regular_cell s x y z)) regular_reads
-  unfolding regular_cell
-  regular_cell_lem x y z = cell_reads (regular_cell s x y z)
-
-  transition_cell_lem : (side u v : ℕ) → Adds Reads (cell_step (transition_cell s side u v)) transition_reads
-  unfolding transition_cell
-  transition_cell_lem side u v = cell_reads (transition_cell s side u v)
-
-  -- a layer of regular cells
-  pub layer_reads_lem : (x cases : ℕ) (m : Mesh) → Reads cases m → Reads (cases + regular_reads * n * n) (regular_layer s x m)
-  layer_reads_lem x cases m h =
-      omega (arith, layer_adds Reads s each_regular each_transition regular_cell_lem transition_cell_lem x cases m h, square_equal regular_reads n)
-
   -- the transition cells of a side, if it is named
   abbrev pub side_reads : ℕ → ℕ
   side_reads side = cond (named s.mask side) (transition_reads * n * n) 0
-
-  over_side_lem : (side : ℕ) → over_side s each_transition side ≡ side_reads side
-  over_side_lem side = ap (λ (k : ℕ). cond (named s.mask side) k 0) (square_equal transition_reads n ∙ omega arith)
-
-  pub side_reads_lem : (side cases : ℕ) (m : Mesh) → Reads cases m → Reads (cases + side_reads side) (transition_side s side m)
-  side_reads_lem side cases m h = rw (← over_side_lem side) (side_adds Reads s each_regular each_transition regular_cell_lem transition_cell_lem side cases m h)
-
-  pub mesh_reads : Reads (regular_reads * n * n * n + total side_reads side_count) (mesh_of s)
-  mesh_reads =
-      omega (
-        arith,
-        mesh_adds Reads s each_regular each_transition regular_cell_lem transition_cell_lem (reads_none n),
-        cube_equal regular_reads n,
-        total_same (over_side s each_transition) side_reads side_count (λ side h. over_side_lem side),
-      )

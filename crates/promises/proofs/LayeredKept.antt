@@ -21,7 +21,8 @@ use Rattle.model.specs.Extraction.{outcome}
 use Rattle.model.specs.Edges.{judge_edges, WholeOutcome, judge_whole, edges_left, extract_whole}
 use Rattle.model.specs.Layers.{summary_length, layer_extent, entry_of, marked, agree, one_sided, layer_stands, judge_layers, judge_summary}
 use Rattle.model.specs.Layered.{layers_over, layered_mesh}
-use Rattle.model.specs.LayeredReads.{layered_reads, layers_spared}
+use Rattle.model.specs.LayeredReads.{layers_spared}
+use Rattle.model.proofs.LayeredReads.{layered_reads}
 use Rattle.judge.specs.First.{or_else_assoc, or_else_passed, both_passed}
 use Rattle.judge.specs.Passing.{star_shaped}
 use Rattle.layers.specs.Setting.{all_stand}

@@ -16,7 +16,7 @@ use Rattle.model.specs.Limits.{most_subdivisions, most_mask, side_count}
 use Rattle.model.specs.Star.{Star, subdivisions}
 use Rattle.model.specs.Judging.{judge_star}
 use Rattle.model.specs.Mesh.{Mesh, transition_reads, mesh_of}
-use Rattle.model.specs.Reads.{mesh_reads}
+use Rattle.model.proofs.MeshReads.{mesh_reads}
 use Rattle.model.specs.Extraction.{Outcome, judge_extraction, outcome, extract}
 use Rattle.grid.specs.Shape.{Shaped}
 use Rattle.judge.specs.First.{both_passed}

@@ -10,7 +10,7 @@ use Rattle.laws.specs.Steps.{total}
 use Rattle.laws.specs.Sums.{how_many_lem, square, cube, square_equal, cube_equal}
 use Rattle.laws.specs.Tests.{both, below, all}
 use Rattle.laws.specs.Counting.{how_many}
-use Rattle.tables.specs.RulesCorners.{regular_cell_right, transition_cell_right}
+use Rattle.tables.proofs.RulesCorners.{regular_cell_right, transition_cell_right}
 use Rattle.tables.specs.RulesMade.{low, most_regular, most_transition, regular_made_most, transition_made_most}
 use Rattle.model.specs.Limits.{most_mask, side_count}
 use Rattle.model.specs.Sides.{named}

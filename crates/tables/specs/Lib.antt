@@ -1,5 +1,5 @@
--- The tables of tools/tables (not yet compared with the published file), what later definitions read of them, and rules T1 to T6 of document 01 and the
--- law at the finer face (document 02, [14]) with their proofs.
+-- The tables of tools/tables (not yet compared with the published file), what later definitions read of them, and the words of rules T1 to T6 of document
+-- 01 and of the law at the finer face (document 02, [14]). The rules and the law are proved in proofs/, what else is said of a case here.
 
 -- what is read: the fields of a code, the tables by case number and position, a cell's points, corners and edges
 pub mod Codes

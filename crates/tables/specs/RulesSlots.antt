@@ -8,7 +8,6 @@ use Rattle.laws.specs.Tests.{both, both_left, both_right, then, then_holds, belo
 use Rattle.laws.specs.Counting.{one, how_many, has, every, every_item}
 use Rattle.tables.specs.RegularRows as regular
 use Rattle.tables.specs.Cases.{regular_class, regular_cell, regular_codes, regular_code, regular_vertices}
-use Rattle.tables.specs.RulesEdges.{regular_lists}
 
 -- the new code of each reuse index, 1 to 3: its edge is the one that a cell stores at that index
 unfoldable pub regular_new_code : ℕ → ℕ
@@ -89,9 +88,6 @@ regular_codes_right = tt
 -- each of the twelve, and so each used code of each case
 pub regular_used_right : (code : ℕ) → T (has code regular_used) → RegularCode code
 regular_used_right code h = code_told code (every_item code_test regular_used regular_codes_right code h)
-
-pub regular_code_right : (case i : ℕ) → case < 256 → i < regular_vertices case → RegularCode (regular_code case i)
-regular_code_right case i hc hi = regular_used_right (regular_code case i) (regular_lists.is_used case i hc hi)
 
 -- the new codes are new, each with its index
 pub record RegularSlot (r : ℕ) : Type 0 where

@@ -10,8 +10,8 @@ use Rattle.tables.specs.Codes.{point_a, point_b}
 use Rattle.tables.specs.Cases.{regular_code, regular_vertices, transition_code, transition_vertices}
 use Rattle.tables.specs.Points.{cell_point, along_u, along_v, point_u, point_v, transition_inside}
 use Rattle.tables.specs.Listed.{differ}
-use Rattle.tables.specs.RulesTransition.{transition_lists}
-use Rattle.tables.specs.RulesBorder.{transition_code_right}
+use Rattle.tables.proofs.RulesTransition.{transition_lists}
+use Rattle.tables.proofs.RulesBorder.{transition_code_right}
 use Rattle.tables.specs.declared.aux_tables.CellPoint.{CellPoint}
 use Rattle.tables.specs.declared.aux_tables.CellPoint.TheVariants.{Fine, Coarse}
 use Rattle.model.specs.declared.Xyz.{Xyz}

@@ -1,1 +1,2 @@
 pub mod Pinned
+pub mod WindowCorners

@@ -1,9 +1,8 @@
--- Document 02, [10]: the corners once some vertices are welded, and a window of vertices more. Assumes nothing.
+-- Document 02, [10]: the corners once some vertices are welded. Assumes nothing.
 use Rattle.std.specs.Prelude.{ℕ, zero, suc, ◌+◌, ◌-◌, ◌≤◌, ◌<◌, ◌≡◌, refl, Bool, true, false, cond, List, [], ◌∷◌, map, ltb, Float, length, get_or}
 use Rattle.std.proofs.Common.{zero-le, suc-le-suc, arith, sym, ap, ap₂, ◌∙◌, lt-ltb, le-ltb, ltb-true, ltb-false}
-use Rattle.std.proofs.lemmas.Simd.{map-map}
 use Rattle.weld.specs.Definition.{new_index, edges_at, vertices_at}
-use Rattle.weld.specs.Leaves.{Tabled, Window, corner_by, up_to, AllWelded}
+use Rattle.weld.specs.Leaves.{Tabled, corner_by, up_to, AllWelded}
 use Rattle.weld.specs.Kept.{new_first}
 
 -- two that agree at each item, and one that leaves each item
@@ -16,7 +15,7 @@ map_leaves f [] h = refl
 map_leaves f (x ∷ l) h = ap₂ (λ (a : ℕ) (b : List ℕ). a ∷ b) (h zero (omega arith)) (map_leaves f l (λ p below. h (suc p) (suc-le-suc below)))
 
 -- a corner that names a vertex of the window gets its new index, and one that was renumbered before stays: it is below the window
-window_corner : (edges table : List ℕ) (start end c : ℕ) → start ≤ end → Tabled edges start end table
+pub window_corner : (edges table : List ℕ) (start end c : ℕ) → start ≤ end → Tabled edges start end table
     → corner_by table start end (up_to edges start c) ≡ up_to edges end c
 unfolding Tabled
 window_corner edges table start end c l t = go (ltb c start) refl (ltb c end) refl
@@ -41,19 +40,6 @@ welded_none vertices triangles edges =
       lists = record { count_is = refl; vertices_are = refl; edges_are = refl };
       triangles_are = sym (map_leaves (up_to edges 0) triangles (λ p below. rw (le-ltb (get_or triangles p 0) 0 zero-le)));
     }
-
-module _ (start end : ℕ) (vertices₀ : List Float) (triangles₀ edges₀ : List ℕ) (k : ℕ) (vertices : List Float) (triangles edges : List ℕ)
-    (l : start ≤ end) (same_edges : length edges ≡ length edges₀) (same-vertices : length vertices ≡ length vertices₀)
-    (w : AllWelded start vertices₀ triangles₀ edges₀ k vertices triangles edges) where
-  pub all_welded_more : (k2 : ℕ) (vertices2 : List Float) (triangles2 edges2 seen2 table : List ℕ) → Window start end k vertices edges k2 vertices2 edges2 seen2 table
-      → triangles2 ≡ map (corner_by table start end) triangles → AllWelded end vertices₀ triangles₀ edges₀ k2 vertices2 triangles2 edges2
-  all_welded_more k2 vertices2 triangles2 edges2 seen2 table h e =
-      let tabled = h.tabled edges₀ vertices₀ (sym same_edges) (sym same-vertices) w.lists in
-      record {
-        lists = h.lists edges₀ vertices₀ (sym same_edges) (sym same-vertices) w.lists;
-        triangles_are = e ∙ ap (map (corner_by table start end)) w.triangles_are ∙ map-map (corner_by table start end) (up_to edges₀ start) triangles₀
-            ∙ (λ i. map (λ c. window_corner edges₀ table start end c l tabled i) triangles₀);
-      }
 
 -- corners that are all below m
 pub all_renumbered : (edges : List ℕ) (m : ℕ) (l : List ℕ) → ((p : ℕ) → p < length l → get_or l p 0 < m) → map (up_to edges m) l ≡ map (new_index edges) l

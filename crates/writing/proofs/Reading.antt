@@ -17,7 +17,8 @@ use Rattle.model.specs.Mesh.{regular_reads, transition_reads, mesh_of}
 use Rattle.model.specs.Reads.{side_reads}
 use Rattle.model.specs.Layers.{passed_over}
 use Rattle.model.specs.Layered.{layered_mesh}
-use Rattle.model.specs.LayeredReads.{layer_reads, layered_reads}
+use Rattle.model.specs.LayeredReads.{layer_reads}
+use Rattle.model.proofs.LayeredReads.{layered_reads}
 use Rattle.grid.specs.SideLaws.{NextSide}
 use Rattle.cases.specs.Sheets.{most_sheet_reads}
 use Rattle.cells.specs.declared.Progress.{Progress}

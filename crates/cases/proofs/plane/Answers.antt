@@ -26,8 +26,11 @@ pub returns : goal.returns
 returns c =
     let a = c.args in
     let start = c.in_block-start.result in
-    let end = start + (a.n + 1) * (a.n + 1) in record { result_len = simp (length-take, length-drop) (omega (arith, ends-in (goal.at.returns c).After-in_block-start)); plane = λ s n_is centre_is.
+    let end = start + (a.n + 1) * (a.n + 1) in record {
+      result_len = simp (length-take, length-drop) (omega (arith, ends-in (goal.at.returns c).After-in_block-start));
+      plane = λ s n_is centre_is.
           subst (λ (samples : List Float). Plane s a.x (take (end - start) (drop start samples))) centre_is
           (part_is_plane s a.x start end (omega (arith, n_is, c.requires.1.0))
           (c.in_block-start.ensures.0 ∙ ap (λ (n : ℕ). in_block n a.x 0 0) (sym n_is))
-          (ap (λ (n : ℕ). start + (n + 1) * (n + 1)) (sym n_is)) (omega (arith, ends-in (goal.at.returns c).After-in_block-start, ap length centre_is))) }
+          (ap (λ (n : ℕ). start + (n + 1) * (n + 1)) (sym n_is)) (omega (arith, ends-in (goal.at.returns c).After-in_block-start, ap length centre_is)));
+    }

@@ -105,8 +105,7 @@ loop-x-smaller c = omega (arith, c.loop-x-test.true, c.next_layer-x-in-loop-x.en
 pub loop-x-preserved : goal.loop-x-preserved
 loop-x-preserved c =
     let l = c.loop-x in
-    let next = c.next_layer-x-in-loop-x.ensures in
-    (
+    let next = c.next_layer-x-in-loop-x.ensures in (
       next.within,
       (still-long (goal.at.loop-x-preserved c).After-layer_cases).0,
       c.layer_cases.ensures.pairs,

@@ -4,7 +4,7 @@ use Prim.Native.Nat.{◌+◌, ◌-◌, ◌*◌, ◌<◌}
 use mathlib.Core.Path.{◌≡◌, ◌∙◌}
 use Rattle.model.specs.Limits.{most_subdivisions}
 use Rattle.cases.specs.Sheets.{row_start}
-use Rattle.cases.specs.RowPlaces.{row_fits}
+use Rattle.cases.proofs.RowPlaces.{row_fits}
 use Rattle.counting.proofs.Growth.{few_none, few_more, few_of, plus_fits, grows_start, grows_on}
 use Rattle.counting.proofs.count_row.Goals as goal
 use Rattle.counting.proofs.count_row.Goals.{Start}
@@ -51,8 +51,7 @@ loop-v-smaller c = omega (arith, c.next_marked-v-in-loop-v.ensures.ordered, c.lo
 pub loop-v-preserved : goal.loop-v-preserved
 loop-v-preserved c =
     let l = c.loop-v in
-    let next = c.next_marked-v-in-loop-v.ensures in
-    (
+    let next = c.next_marked-v-in-loop-v.ensures in (
       next.within,
       rw c.plus-counts.ensures (
         few_of _ (omega (arith, next.ordered)) (few_more l.invariant.1.0 c.count_sheet_cell-more.ensures.few),

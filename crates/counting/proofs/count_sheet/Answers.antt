@@ -30,8 +30,7 @@ plus-counts-requires c =
 
 pub loop-u-preserved : goal.loop-u-preserved
 loop-u-preserved c =
-    let l = c.loop-u in
-    (
+    let l = c.loop-u in (
       omega (arith, c.loop-u-test.true),
       rw c.plus-counts.ensures
           (few_of _ (omega arith) (few_more l.invariant.1.0 c.count_row-more.ensures.few), λ s held. grows_more (λ u. row_to (sheet_cell s c.args.sheet u) c.args.n) l.u (l.invariant.1.1 s held) (c.count_row-more.ensures.grows s held)),

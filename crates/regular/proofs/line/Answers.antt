@@ -32,6 +32,9 @@ pub returns : goal.returns
 returns c =
     let a = c.args in
     let start = (a.n + 1) * a.y in
-    let fits : start + a.n + 1 ≤ length a.plane.now = omega (arith, ends-in (goal.at.returns c).Start, c.requires.1.1) in record { result_len = simp (length-take, length-drop) (omega arith); line = λ s x n_is p.
+    let fits : start + a.n + 1 ≤ length a.plane.now = omega (arith, ends-in (goal.at.returns c).Start, c.requires.1.1) in record {
+      result_len = simp (length-take, length-drop) (omega arith);
+      line = λ s x n_is p.
           subst (λ (n : ℕ). Line n s.centre x a.y (take (start + a.n + 1 - start) (drop start a.plane.now))) n_is
-          (part_is_line s x a.y start (start + a.n + 1) a.plane.now p (omega (arith, c.requires.1.0)) (ap (λ (n : ℕ). (n + 1) * a.y) (sym n_is)) (omega arith) fits) }
+          (part_is_line s x a.y start (start + a.n + 1) a.plane.now p (omega (arith, c.requires.1.0)) (ap (λ (n : ℕ). (n + 1) * a.y) (sym n_is)) (omega arith) fits);
+    }

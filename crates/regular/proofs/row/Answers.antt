@@ -1,7 +1,7 @@
 -- `row` meets its contract: its four lines are those at the corners of the cells.
 use Prim.Native.Nat.{◌+◌}
 use native.Mathlib.Omega.{arith}
-use Rattle.cases.specs.RowPlaces.{row_fits}
+use Rattle.cases.proofs.RowPlaces.{row_fits}
 use Rattle.cases.specs.Rows.{row_as}
 use Rattle.cases.specs.Lines.{case_measured}
 use Rattle.regular.proofs.row.Goals as goal
@@ -17,10 +17,13 @@ row_between-requires c =
 pub returns : goal.returns
 returns c =
     let a = c.args in
-    record { row_put = λ s x is low high.
+    record {
+      row_put = λ s x is low high.
           let n_is = is.subdivisions_are in
           row_as
           (case_measured s a.n a.threshold x a.y _ _ _ _ is (c.line-a.ensures.line s x n_is low)
           (c.line-b.ensures.line s (x + 1) n_is high) (c.line-c.ensures.line s x n_is low)
           (c.line-d.ensures.line s (x + 1) n_is high))
-          c.row_between.ensures.row_put; reads = c.row_between.ensures.reads }
+          c.row_between.ensures.row_put;
+      reads = c.row_between.ensures.reads;
+    }

@@ -14,8 +14,7 @@ overflow_add-reads c = omega arith
 
 pub loop-y-preserved : goal.loop-y-preserved
 loop-y-preserved c =
-    let l = c.loop-y in
-    (
+    let l = c.loop-y in (
       omega arith,
       c.row-reads.auto.cases ∙ l.invariant.1,
       λ s x is p q. one_more_row _ _ l.y l.cases _ (c.row-reads.ensures.row_put s x is p q) (l.invariant.2 s x is p q),

@@ -1,7 +1,7 @@
 -- The part of the lent array is the row of cell data of the case's class. Assumes nothing.
 use native.Mathlib.Omega.{arith}
 use Rattle.tables.specs.Arrays.{regular_data_length, regular_cell_at}
-use Rattle.tables.specs.RulesCorners.{regular_class_small}
+use Rattle.tables.proofs.RulesCorners.{regular_class_small}
 use Rattle.tables.proofs.regular_case_cell.Goals as goal
 
 pub row_of_cells-requires : goal.row_of_cells-requires

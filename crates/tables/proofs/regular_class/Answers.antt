@@ -2,7 +2,7 @@
 use mathlib.Core.Path.{◌∙◌}
 use native.Mathlib.Omega.{arith}
 use Rattle.tables.specs.Arrays.{regular_class_length, regular_class_at}
-use Rattle.tables.specs.RulesCorners.{regular_class_small}
+use Rattle.tables.proofs.RulesCorners.{regular_class_small}
 use Rattle.tables.proofs.regular_class.Goals as goal
 
 pub bounds-classes-case : goal.bounds-classes-case

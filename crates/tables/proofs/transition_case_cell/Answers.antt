@@ -1,7 +1,7 @@
 -- The part of the lent array is the row of cell data of the case's class. Assumes nothing.
 use native.Mathlib.Omega.{arith}
 use Rattle.tables.specs.Arrays.{transition_data_length, transition_cell_at}
-use Rattle.tables.specs.RulesCorners.{transition_class_small}
+use Rattle.tables.proofs.RulesCorners.{transition_class_small}
 use Rattle.tables.proofs.transition_case_cell.Goals as goal
 
 pub row_of_cells-requires : goal.row_of_cells-requires

@@ -3,7 +3,7 @@ use mathlib.Core.Path.{◌∙◌, ap}
 use Prim.Native.Nat.{ℕ, ◌%◌}
 use native.Mathlib.Omega.{arith}
 use Rattle.tables.specs.Arrays.{transition_class_length, transition_class_at}
-use Rattle.tables.specs.RulesCorners.{transition_class_small}
+use Rattle.tables.proofs.RulesCorners.{transition_class_small}
 use Rattle.tables.proofs.transition_class.Goals as goal
 
 pub bounds-classes-case : goal.bounds-classes-case

@@ -48,8 +48,13 @@ bounds-codes-k c = omega (arith, c.requires.row_coded)
 
 pub put_code-put-requires : goal.put_code-put-requires
 put_code-put-requires c =
-    let l = c.loop-k in record { ready = c.requires.ready; usable = c.requires.row_coded.1.1.usable l.k (inside (goal.at.put_code-put-requires c).In-loop-k); store_len = ap length l.invariant.1.store_is ∙ length_fill_store ((let a = c.args in
-              cell_of (star a.header a.centre.now a.neighbours.now) a.at a.codes.now a.row.now false)) c.args.base c.args.store.now l.k ∙ c.requires.store_len; room = ready (goal.at.put_code-put-requires c).In-loop-k }
+    let l = c.loop-k in record {
+      ready = c.requires.ready;
+      usable = c.requires.row_coded.1.1.usable l.k (inside (goal.at.put_code-put-requires c).In-loop-k);
+      store_len = ap length l.invariant.1.store_is ∙ length_fill_store ((let a = c.args in
+          cell_of (star a.header a.centre.now a.neighbours.now) a.at a.codes.now a.row.now false)) c.args.base c.args.store.now l.k ∙ c.requires.store_len;
+      room = ready (goal.at.put_code-put-requires c).In-loop-k;
+    }
 
 pub offset_bounds-cell-k : goal.offset_bounds-cell-k
 offset_bounds-cell-k c = omega (arith, few (goal.at.offset_bounds-cell-k c).In-loop-k)

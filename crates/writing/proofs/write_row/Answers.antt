@@ -5,7 +5,7 @@ use native.Mathlib.Omega.{arith}
 use Rattle.model.specs.Limits.{most_subdivisions}
 use Rattle.model.specs.Star.{star}
 use Rattle.cases.specs.Sheets.{row_start}
-use Rattle.cases.specs.RowPlaces.{row_fits}
+use Rattle.cases.proofs.RowPlaces.{row_fits}
 use Rattle.cells.specs.SheetCells.{sheet_cell}
 use Rattle.walk.specs.Order.{row_to, row_before}
 use Rattle.writing.specs.Lengths.{same_then, fits_still}

@@ -26,15 +26,14 @@ pub loop-u-smaller : goal.loop-u-smaller
 loop-u-smaller c = omega (arith, c.loop-u-test.true)
 
 pub loop-u-preserved : goal.loop-u-preserved
-loop-u-preserved c =
-    (
-      omega (arith, c.loop-u-test.true),
-      (
-        same_then c.loop-u.invariant.1.0
-            record { vertices_same = omega (arith, c.write_row-counts.auto); triangles_same = omega (arith, c.write_row-counts.auto); store_same = omega (arith, c.write_row-counts.auto); edges_same = omega (arith, c.write_row-counts.auto) },
-        c.write_row-counts.ensures,
-      ),
-    )
+loop-u-preserved c = (
+  omega (arith, c.loop-u-test.true),
+  (
+    same_then c.loop-u.invariant.1.0
+        record { vertices_same = omega (arith, c.write_row-counts.auto); triangles_same = omega (arith, c.write_row-counts.auto); store_same = omega (arith, c.write_row-counts.auto); edges_same = omega (arith, c.write_row-counts.auto) },
+    c.write_row-counts.ensures,
+  ),
+)
 
 pub shape_of-store : goal.shape_of-store
 shape_of-store c = c.loop-u.invariant.1.0.store_same

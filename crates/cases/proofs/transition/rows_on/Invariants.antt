@@ -13,7 +13,7 @@ use Rattle.cases.specs.declared.transition.Lines.{Lines}
 use Rattle.cases.specs.Sheets.{row_start, sheet_places, Sheet}
 use Rattle.cases.specs.Marks.{all_transition, mark_of}
 use Rattle.cases.specs.Faces.{nine_inside, OnWalk}
-use Rattle.cases.specs.RowPlaces.{row_fits}
+use Rattle.cases.proofs.RowPlaces.{row_fits}
 use Rattle.cases.specs.Rows.{row_as, one_more_row}
 use Rattle.cases.proofs.transition.rows_on.Given as goal
 

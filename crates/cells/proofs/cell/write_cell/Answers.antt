@@ -35,5 +35,8 @@ unfolding fill_to triangle_of row_triangle
 returns c =
     let a = c.args in
     let s = star a.header a.centre.now a.neighbours.now in
-    let cell = cell_of s a.at a.codes.now a.row.now a.turned in record { cell_put = cell_put cell a.counts.vertices a.counts.triangles a.vertices.now a.triangles.now a.store.now _ _ _ _ _ _ _ _ _ c.requires.room_2.1
-          c.fill_cell-filled.ensures c.put_triangles-made.ensures.value c.put_triangles-made.ensures.triangles_after; edges = c.put_edges.ensures s a.turned a.store.now refl }
+    let cell = cell_of s a.at a.codes.now a.row.now a.turned in record {
+      cell_put = cell_put cell a.counts.vertices a.counts.triangles a.vertices.now a.triangles.now a.store.now _ _ _ _ _ _ _ _ _ c.requires.room_2.1
+          c.fill_cell-filled.ensures c.put_triangles-made.ensures.value c.put_triangles-made.ensures.triangles_after;
+      edges = c.put_edges.ensures s a.turned a.store.now refl;
+    }

@@ -24,6 +24,7 @@ returns c =
       omega arith,
       λ s e.
           elim c.if-next-edges.branch [
-            then-next-edges w ↦ rw (w.edges-is, w.edge_number.ensures s e) (edge_set (use_at s a.at a.code) a.next a.edges.now (made s))
-          | else-next-edges w ↦ rw w.edges-is (edge_out (use_at s a.at a.code) a.next a.edges.now (made s) w.if-next-edges.false) ],
+            | then-next-edges w ↦ rw (w.edges-is, w.edge_number.ensures s e) (edge_set (use_at s a.at a.code) a.next a.edges.now (made s))
+            | else-next-edges w ↦ rw w.edges-is (edge_out (use_at s a.at a.code) a.next a.edges.now (made s) w.if-next-edges.false)
+          ],
     )

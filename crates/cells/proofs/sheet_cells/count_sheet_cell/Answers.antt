@@ -23,9 +23,12 @@ triangle_count-requires c = omega (arith, (row-followed (goal.at.triangle_count-
 pub returns-then-is_away_from_low : goal.returns-then-is_away_from_low
 returns-then-is_away_from_low c =
     let a = c.args in
-    let few = (row-followed (goal.at.returns-then-is_away_from_low c).After-case_cell-row).few_triangles in record { few = record { vertices = omega (arith, c.count_made_inside.ensures.1); triangles = omega (arith, c.triangle_count.ensures) }; adds = λ s is.
+    let few = (row-followed (goal.at.returns-then-is_away_from_low c).After-case_cell-row).few_triangles in record {
+      few = record { vertices = omega (arith, c.count_made_inside.ensures.1); triangles = omega (arith, c.triangle_count.ensures) };
+      adds = λ s is.
           away_adds a.sheet a.u a.v a.case (rw c.cell_at-at.ensures at (sym c.is_away_from_low.ensures ∙ c.if-is_away_from_low.true)) c.requires.case_bound s is _ _
-          c.count_made_inside.ensures.0 (rw (← c.case_cell-row.ensures) c.triangle_count.ensures) }
+          c.count_made_inside.ensures.0 (rw (← c.case_cell-row.ensures) c.triangle_count.ensures);
+    }
 
 pub count_cell-requires : goal.count_cell-requires
 count_cell-requires c = (
@@ -35,7 +38,10 @@ count_cell-requires c = (
 
 pub returns : goal.returns
 returns c =
-    let a = c.args in record { few = c.count_cell.ensures.few; adds = λ s is.
+    let a = c.args in record {
+      few = c.count_cell.ensures.few;
+      adds = λ s is.
           adds_as
           (sheet_is a.sheet a.case _ _ _ c.case_codes.ensures c.case_cell-row.ensures refl s a.u a.v is _ c.cell_at-at.ensures)
-          (c.count_cell.ensures.adds s (turned_of a.sheet a.case)) }
+          (c.count_cell.ensures.adds s (turned_of a.sheet a.case));
+    }

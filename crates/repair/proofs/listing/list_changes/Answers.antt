@@ -17,7 +17,9 @@ list_bad-bad-requires c = let a = c.args in (
 )
 
 pub list_mismatches-requires : goal.list_mismatches-requires
-list_mismatches-requires c = let a = c.args in record { shaped = c.requires.shaped; neighbours_in_bounds = omega (
+list_mismatches-requires c = let a = c.args in record {
+  shaped = c.requires.shaped;
+  neighbours_in_bounds = omega (
     arith,
     c.requires.neighbours_in_bounds,
     c.list_bad-of_centre.ensures.next_is,
@@ -25,7 +27,8 @@ list_mismatches-requires c = let a = c.args in record { shaped = c.requires.shap
     c.list_bad-bad.ensures.next_is,
     length_put c.list_bad-bad.ensures,
     changes_long a.header a.filler ((delivery c.args.centre.now c.args.neighbours.now)),
-  ) }
+  );
+}
 
 pub returns : goal.returns
 returns c = let a = c.args in

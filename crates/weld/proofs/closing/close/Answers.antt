@@ -81,8 +81,7 @@ pub loop-i-preserved : goal.loop-i-preserved
 loop-i-preserved c =
     let a = c.args in
     let l = c.loop-i in
-    let as_long = l.invariant.1.0 in
-    (
+    let as_long = l.invariant.1.0 in (
       (omega (arith, l.invariant.0.0), omega (arith, c.loop-i-test.true)),
       (
         record {

@@ -5,7 +5,8 @@ use mathlib.Core.Path.{◌≡◌, refl, ◌∙◌}
 use native.Mathlib.Omega.{arith}
 use Rattle.weld.specs.Leaves.{Room, Tables, AsLong}
 use Rattle.weld.specs.Seen.{noted_none}
-use Rattle.weld.specs.Corners.{welded_none, all_welded_more}
+use Rattle.weld.specs.Corners.{welded_none}
+use Rattle.weld.proofs.WindowCorners.{all_welded_more}
 use Rattle.weld.proofs.pass.windows.Goals as goal
 use Rattle.weld.proofs.pass.windows.Goals.{After-close-k, After-window_end-end, In-loop-start}
 

@@ -1,0 +1,2 @@
+pub mod MeshReads
+pub mod LayeredReads
