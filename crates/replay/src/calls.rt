@@ -11,7 +11,7 @@
 // blocks whose records are too long for an array: 16 and 17 subdivisions with six finer neighbours, and 33 and 64 alone.
 ghost use Rattle.std.specs.Prelude.{◌≤◌, length};
 
-use crate::agreement::{MARK, answer_agrees, floats_agree};
+use crate::agreeing::{MARK, answer_agrees, floats_agree};
 use crate::parts::{number, part, word};
 use model::{Block, Extraction, Header, Numbers, RecordRead, Report, Vector};
 use record::fields::HEADER_LENGTH;

@@ -7,7 +7,7 @@
 ghost use Rattle.std.specs.Prelude.{◌<◌};
 ghost use Rattle.std.specs.Str.{IsAscii};
 
-mod agreement;
+mod agreeing;
 mod calls;
 mod parts;
 

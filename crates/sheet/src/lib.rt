@@ -9,9 +9,9 @@ ghost use Rattle.sheet.specs.Definition as Definition;
 ghost use Rattle.sheet.specs.Definition.{figures_of, line_of, adds, most_run, row_of, sheet_line, sheet_total};
 ghost use Rattle.sheet.specs.Sizes.{most_layers, Small, SmallLine, Fits};
 
+mod counted_points;
 mod faces;
 mod planes;
-mod points;
 mod sides;
 
 use faces::judge_faces;

@@ -11,7 +11,7 @@ ghost use Rattle.sheet.specs.Planes.{plane_places, plane_figures, step_figures, 
 ghost use Rattle.sheet.specs.Sizes.{most_planes, Small};
 ghost use Rattle.cells.specs.Puts.{Few};
 
-use crate::points::{crossings, insides};
+use crate::counted_points::{crossings, insides};
 use crate::{Edges, Figures, plus};
 use cases::SHEET;
 use cells::SheetIndex;

@@ -1,4 +1,4 @@
--- `points::insides` meets its contract. The loop's invariant: what is found is the sum over the samples passed.
+-- `counted_points::insides` meets its contract. The loop's invariant: what is found is the sum over the samples passed.
 use Prim.Native.Nat.{ℕ, ◌+◌, ◌-◌}
 use mathlib.Core.Path.{◌≡◌, refl, ap₂}
 use mathlib.Core.List.{List}
@@ -7,7 +7,7 @@ use native.Mathlib.Omega.{arith}
 use lib.Ieee.{Float, nan}
 use lib.ListN.{get_or}
 use Rattle.model.specs.Formulas.{inside_bit}
-use Rattle.sheet.proofs.points.insides.Goals as goal
+use Rattle.sheet.proofs.counted_points.insides.Goals as goal
 
 abbrev bit : Float → List Float → ℕ → ℕ
 bit threshold samples k = inside_bit threshold (get_or samples k nan)

@@ -1,9 +1,9 @@
--- `points::crossings` meets its contract. The loop's invariant: what is found is the sum over the edges passed.
+-- `counted_points::crossings` meets its contract. The loop's invariant: what is found is the sum over the edges passed.
 use Prim.Native.Nat.{◌+◌, ◌-◌}
 use mathlib.Core.Path.{◌≡◌, refl, ap₂}
 use native.Mathlib.Numerals.{add-one}
 use native.Mathlib.Omega.{arith}
-use Rattle.sheet.proofs.points.crossings.Goals as goal
+use Rattle.sheet.proofs.counted_points.crossings.Goals as goal
 
 pub loop-k-init : goal.loop-k-init
 loop-k-init c = (omega arith, (refl, omega arith))

@@ -1,4 +1,4 @@
--- `points::insides` meets its contract. The loop's invariant: what is found is the sum over the samples passed.
+-- `counted_points::insides` meets its contract. The loop's invariant: what is found is the sum over the samples passed.
 use Prim.Native.Nat.{ℕ, ◌-◌, ◌≤◌}
 use mathlib.Core.Path.{◌≡◌}
 use mathlib.Core.List.{List}
@@ -6,7 +6,7 @@ use lib.Ieee.{Float, nan}
 use lib.ListN.{get_or}
 use Rattle.laws.specs.Steps.{total}
 use Rattle.model.specs.Formulas.{inside_bit}
-use Rattle.sheet.proofs.points.insides.Given as goal
+use Rattle.sheet.proofs.counted_points.insides.Given as goal
 
 abbrev bit : Float → List Float → ℕ → ℕ
 bit threshold samples k = inside_bit threshold (get_or samples k nan)

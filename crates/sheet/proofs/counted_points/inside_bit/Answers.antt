@@ -1,6 +1,6 @@
--- `points::inside_bit` meets its contract by what `inside` ensures.
+-- `counted_points::inside_bit` meets its contract by what `inside` ensures.
 use native.Mathlib.Omega.{arith}
-use Rattle.sheet.proofs.points.inside_bit.Goals as goal
+use Rattle.sheet.proofs.counted_points.inside_bit.Goals as goal
 
 pub returns-then-inside : goal.returns-then-inside
 returns-then-inside c = (rw (← c.inside.ensures, c.if-inside.true), omega arith)
