@@ -74,8 +74,8 @@ pub faces_agree_lem : (s : Star) → judge_faces s ≡ Passed → AllAgree s
 unfolding judge_faces
 faces_agree_lem s passed side u v hs is_named hu hv =
     let n = subdivisions s in
-    let at_Side = each_passed (λ side. cond (named s.mask side) (face_side s side (n + 1)) Passed) side_count side passed hs in
-    let all_rows : face_side s side (n + 1) ≡ Passed = rw is_named at at_Side in
+    let at_side = each_passed (λ side. cond (named s.mask side) (face_side s side (n + 1)) Passed) side_count side passed hs in
+    let all_rows : face_side s side (n + 1) ≡ Passed = rw is_named at at_side in
     let at_row = each_passed (λ u. face_row s side u (n + 1)) (n + 1) u all_rows (omega arith) in
     let at-spot = each_passed (face_spot s side u) (n + 1) v at_row (omega arith) in
     unless_passed (faces_agree s side u v) (FaceMismatch (record { side = side; u = u; v = v })) at-spot

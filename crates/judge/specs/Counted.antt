@@ -54,10 +54,10 @@ pub list_usable : (samples : List Float) → all_usable samples (length samples)
 list_usable samples h = sym (usable_pass 0 samples (length samples) h) ∙ from_zero samples
 
 module _ (centre neighbours : List Float) where
-  pub one-after-the-other :
+  pub one_after_the_other :
       judge_samples (centre ++ neighbours) ≡ or_else (judge_from 0 centre) (judge_from (length centre) neighbours)
   unfolding judge_samples
-  one-after-the-other =
+  one_after_the_other =
       let both = centre ++ neighbours in
       let in_centre = first_same (sample_usable both) (usable_from 0 centre) (length centre) (λ i h. rw (get_or-append, zero-add)) in
       let after =
@@ -73,4 +73,4 @@ module _ (centre neighbours : List Float) where
       let parts = (and-eq-true_iff a b).0 h in
       let passed = usable_pass 0 centre (length centre) (sym in_centre ∙ parts.0) in
       let rest = usable_pass (length centre) neighbours (length neighbours) (sym after ∙ parts.1) in
-      rw (one-after-the-other, passed, rest)
+      rw (one_after_the_other, passed, rest)

@@ -8,7 +8,7 @@ use Rattle.model.specs.declared.Refusal.TheVariants.{BadSample}
 use Rattle.model.specs.declared.Verdict.TheVariants.{Passed}
 use Rattle.model.specs.Judging.{usable, judge_samples}
 use Rattle.judge.specs.First.{both_passed, unless_passed, each_passed, passed_over_lem}
-use Rattle.judge.specs.Counted.{usable_from, judge_from, one-after-the-other}
+use Rattle.judge.specs.Counted.{usable_from, judge_from, one_after_the_other}
 use Rattle.repair.specs.Definition.{Delivery, value_of}
 
 -- every sample can be used
@@ -33,10 +33,10 @@ module _ (d : Delivery) where
 
   pub lists_pass : AllUsable d.centre → AllUsable d.neighbours → judge_samples samples ≡ Passed
   lists_pass a b =
-      one-after-the-other (map value_of d.centre) (map value_of d.neighbours)
+      one_after_the_other (map value_of d.centre) (map value_of d.neighbours)
       ∙ rw (list_passes 0 d.centre a) (list_passes (length (map value_of d.centre)) d.neighbours b)
 
   pub lists_usable : judge_samples samples ≡ Passed → AllUsable d.centre × AllUsable d.neighbours
   lists_usable passed =
-      let both = both_passed _ _ (sym (one-after-the-other (map value_of d.centre) (map value_of d.neighbours)) ∙ passed) in
+      let both = both_passed _ _ (sym (one_after_the_other (map value_of d.centre) (map value_of d.neighbours)) ∙ passed) in
       (list_usable 0 d.centre both.0, list_usable (length (map value_of d.centre)) d.neighbours both.1)

@@ -1,6 +1,6 @@
 // The Transvoxel tables of tools/tables: set down from knowledge of the published ones, and not yet compared with that file
 // (docs/DIFFERENCES.md). One function hands out each array, to be called once, high up, and lent down from there; a row of a lent
-// array, by case number, is lent on. Rules T1 to T6 over the tables stand in specs/.
+// array, by case number, is lent on. Rules T1 to T6 over the tables stand in specs/ and proofs/.
 #![tactic(auto)]
 
 ghost use Rattle.std.specs.Prelude.{◌≡◌, ◌+◌, ◌*◌, ◌%◌, ◌<◌, ◌≤◌, length, take, drop};

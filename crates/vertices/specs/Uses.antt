@@ -99,13 +99,13 @@ module _ (s : Star) (at : CellIndex) (code next r : ℕ) (vertices : List Float)
     (makes : Bool) (makes-is : makes ≡ makes_at at code) (r-is : r ≡ reuse_index code) where
   module _ (vertices' : List Float) (v : Vertex) (new : Bool) (v_is : v ≡ (use_at s at code).made.vertex)
       (put : (edge : ℕ) → vertices' ≡ lay_vertices vertices next (record { vertex = v; edge = edge } ∷ []))
-      (New-is : new ≡ eqb (is_new code) 1) (m : makes ≡ true) where
+      (new_is : new ≡ eqb (is_new code) 1) (m : makes ≡ true) where
     pub code_stored : (p : ℕ) → p ≡ place_at (subdivisions s) at r → new ≡ true
         → CodePut (use_at s at code) next vertices store next (next + 1) vertex_reads vertices' (set store p next)
     code_stored p p-is e =
         let t = use_at s at code in
-        let stores : t.stores ≡ true = use_stores s at code ∙ sym New-is ∙ e in
-        let fresh : eqb (is_new code) 1 ≡ true = sym New-is ∙ e in
+        let stores : t.stores ≡ true = use_stores s at code ∙ sym new_is ∙ e in
+        let fresh : eqb (is_new code) 1 ≡ true = sym new_is ∙ e in
         let place : t.place ≡ place_at (subdivisions s) at (reuse_index code) = rw fresh at (use_place s at code) in
         use_made t next vertices store (use_makes s at code ∙ sym makes-is ∙ m) vertices' (set store p next)
         (rw v_is at (put t.made.edge)) (rw stores (cc))
@@ -113,7 +113,7 @@ module _ (s : Star) (at : CellIndex) (code next r : ℕ) (vertices : List Float)
     pub code_loose : new ≡ false → CodePut (use_at s at code) next vertices store next (next + 1) vertex_reads vertices' store
     code_loose e =
         let t = use_at s at code in
-        let stores : t.stores ≡ false = use_stores s at code ∙ sym New-is ∙ e in
+        let stores : t.stores ≡ false = use_stores s at code ∙ sym new_is ∙ e in
         use_made t next vertices store (use_makes s at code ∙ sym makes-is ∙ m) vertices' store
         (rw v_is at (put t.made.edge)) (rw stores)
 

@@ -4,7 +4,7 @@ use mathlib.Core.Path.{◌≡◌}
 use contract.Lifetimes.{Lfts}
 use Rattle.model.specs.Pinned.{pinned}
 use Rattle.words.proofs.big.word_at.Reads as big-word-at
-use Rattle.words.proofs.big.float_at.Reads as Float-at
+use Rattle.words.proofs.big.float_at.Reads as float-at
 use Rattle.words.proofs.big.put_word.Reads as big-put-word
 use Rattle.words.proofs.little.word_at.Reads as little-word-at
 use Rattle.words.proofs.little.put_word.Reads as little-put-word
@@ -16,7 +16,7 @@ use Rattle.words.proofs.floats.float_known.Reads as float_known
 pub big_word_at_pinned : (κs : Lfts 1) (a : _) (r r' : _) (e e' : _) → big-word-at.Learnt κs a r e → big-word-at.Learnt κs a r' e' → r ≡ r'
 big_word_at_pinned κs a r r' e e' h k = pinned h k
 
-pub float_at_pinned : (κs : Lfts 1) (a : _) (r r' : _) (e e' : _) → Float-at.Learnt κs a r e → Float-at.Learnt κs a r' e' → r ≡ r'
+pub float_at_pinned : (κs : Lfts 1) (a : _) (r r' : _) (e e' : _) → float-at.Learnt κs a r e → float-at.Learnt κs a r' e' → r ≡ r'
 float_at_pinned κs a r r' e e' h k = pinned h k
 
 pub big_put_word_pinned : (κs : Lfts 1) (a : _) (r r' : _) (e e' : _) → big-put-word.Learnt κs a r e → big-put-word.Learnt κs a r' e' → e.0.now ≡ e'.0.now

@@ -1,5 +1,5 @@
 -- `judge::samples::judge_samples` meets its contract: the two lists are judged one after the other, and pass if all can be used.
-use Rattle.judge.specs.Counted.{both_usable, one-after-the-other}
+use Rattle.judge.specs.Counted.{both_usable, one_after_the_other}
 use Rattle.judge.proofs.samples.judge_samples.Goals as goal
 
 pub returns-then-all_usable : goal.returns-then-all_usable
@@ -9,4 +9,4 @@ returns-then-all_usable c =
     c.if-all_usable.true
 
 pub returns : goal.returns
-returns c = rw (one-after-the-other, c.or_else.ensures, c.first_bad.ensures, c.first_bad-2.ensures)
+returns c = rw (one_after_the_other, c.or_else.ensures, c.first_bad.ensures, c.first_bad-2.ensures)
