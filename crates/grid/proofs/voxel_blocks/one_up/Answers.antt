@@ -8,11 +8,11 @@ use lib.Dec.{T}
 use lib.IntN.{ℤ, pos, negsuc, nat_abs}
 use lib.Signed.{lt_z, non_neg}
 use mir.Syntax.{w32}
-use mir.Val.{Fits, to_z, of_z}
+use mir.Val.{Fits}
 use mir.Facts.{to_z-of_z, Fits-nat_abs}
 use Rattle.model.specs.Samples.{one_up}
 use Rattle.grid.proofs.voxel_blocks.one_up.Goals as goal
-use Rattle.grid.proofs.voxel_blocks.one_up.Goals.{Else-c-lt0, Start}
+use Rattle.grid.proofs.voxel_blocks.one_up.Goals.{Else-c-lt0}
 
 module _ (n : ℕ) where
   farther : (z : ℤ) → lt_z z (negsuc 0) ≡ true → n + 3 ≡ one_up n z
@@ -36,34 +36,27 @@ not_below : (z : ℤ) → lt_z z (pos 0) ≡ false → T (non_neg z)
 not_below (pos c) h = tt
 not_below (negsuc c) h = subst T h tt
 
--- the number that the bits hold
-is : (c : Start) → to_z w32 (of_z w32 c.args.c) ≡ c.args.c
-is c = to_z-of_z {w = w32} c.ranges.c
-
--- the number that the bits hold
-is_at_else_c_lt0 : (c : Else-c-lt0) → to_z w32 (of_z w32 c.args.c) ≡ c.args.c
-is_at_else_c_lt0 c = to_z-of_z {w = w32} c.ranges.c
-
+-- past both tests the number is not below 0
 up : (c : Else-c-lt0) → T (non_neg c.args.c)
-up c = not_below c.args.c (rw (is_at_else_c_lt0 c) at c.if-c-lt0.false)
+up c = not_below c.args.c (rw (to_z-of_z {w = w32} c.ranges.c) at c.if-c-lt0.false)
 
 pub returns-then-c-ltminus1 : goal.returns-then-c-ltminus1
-returns-then-c-ltminus1 c = farther c.args.n c.args.c (rw (is (goal.at.returns-then-c-ltminus1 c).Start) at c.if-c-ltminus1.true)
+returns-then-c-ltminus1 c = farther c.args.n c.args.c (rw (to_z-of_z {w = w32} c.ranges.c) at c.if-c-ltminus1.true)
 
 pub returns-then-c-lt0 : goal.returns-then-c-lt0
 returns-then-c-lt0 c =
-    one_below c.args.n c.args.c (rw (is (goal.at.returns-then-c-lt0 c).Start) at c.if-c-ltminus1.false) (rw (is (goal.at.returns-then-c-lt0 c).Start) at c.if-c-lt0.true)
+    one_below c.args.n c.args.c (rw (to_z-of_z {w = w32} c.ranges.c) at c.if-c-ltminus1.false) (rw (to_z-of_z {w = w32} c.ranges.c) at c.if-c-lt0.true)
 
 pub overflow_cast-result : goal.overflow_cast-result
-overflow_cast-result c = rw (is (goal.at.overflow_cast-result c).Start) (up c, Fits-nat_abs tt c.ranges.c)
+overflow_cast-result c = rw (to_z-of_z {w = w32} c.ranges.c) (up c, Fits-nat_abs tt c.ranges.c)
 
 pub overflow_cast-result-2 : goal.overflow_cast-result-2
-overflow_cast-result-2 c = rw (is (goal.at.overflow_cast-result-2 c).Start) (Fits-nat_abs tt c.ranges.c)
+overflow_cast-result-2 c = rw (to_z-of_z {w = w32} c.ranges.c) (Fits-nat_abs tt c.ranges.c)
 
 pub overflow_add-result-2 : goal.overflow_add-result-2
 overflow_add-result-2 c =
     let size : Fits w32 (nat_abs c.args.c) = Fits-nat_abs tt c.ranges.c in
-    rw (is (goal.at.overflow_add-result-2 c).Start) (omega arith)
+    rw (to_z-of_z {w = w32} c.ranges.c) (omega arith)
 
 pub returns : goal.returns
-returns c = rw (is (goal.at.returns c).Start) (from_zero c.args.n c.args.c (up c))
+returns c = rw (to_z-of_z {w = w32} c.ranges.c) (from_zero c.args.n c.args.c (up c))
