@@ -11,26 +11,25 @@ use Rattle.sheet.specs.Runs.{whole_answer, cut_answer, cut_before, cut_within, i
 use Rattle.sheet.proofs.line_at.Goals as goal
 use Rattle.sheet.proofs.line_at.Goals.{After-word_at, Start}
 
-rest-is : (e : Start) → take (length (e.args.run.now) - e.args.at) ((drop e.args.at (e.args.run.now))) ≡ ((drop e.args.at (e.args.run.now)))
-rest-is e = take_all (length (e.args.run.now) - e.args.at) ((drop e.args.at (e.args.run.now))) (omega (arith, length-drop e.args.at (e.args.run.now)))
+rest-is : (run : List ℕ) (at : ℕ) → take (length run - at) (drop at run) ≡ drop at run
+rest-is run at = take_all (length run - at) (drop at run) (omega (arith, length-drop at run))
 
-rest-long : (e : Start) → length (e.args.run.now) ≡ e.args.at + length ((drop e.args.at (e.args.run.now)))
-rest-long e = omega (arith, length-drop e.args.at (e.args.run.now), e.requires.0)
+rest-long : (e : Start) → length e.args.run.now ≡ e.args.at + length (drop e.args.at e.args.run.now)
+rest-long e = omega (arith, length-drop e.args.at e.args.run.now, e.requires.0)
 
-rest-is_at_after_word_at : (e : After-word_at) → take (length (e.args.run.now) - e.args.at) ((drop e.args.at (e.args.run.now))) ≡ ((drop e.args.at (e.args.run.now)))
-rest-is_at_after_word_at e = take_all (length (e.args.run.now) - e.args.at) ((drop e.args.at (e.args.run.now))) (omega (arith, length-drop e.args.at (e.args.run.now)))
-
-word-is : (c : After-word_at) → c.word_at.result ≡ word_at ((drop c.args.at (c.args.run.now))) 0
-word-is c = c.word_at.ensures ∙ ap (λ (l : List ℕ). word_at l 0) (rest-is_at_after_word_at c)
+word-is : (c : After-word_at) → c.word_at.result ≡ word_at (drop c.args.at c.args.run.now) 0
+word-is c = c.word_at.ensures ∙ ap (λ (l : List ℕ). word_at l 0) (rest-is c.args.run.now c.args.at)
 
 pub returns-then-rest-lt4 : goal.returns-then-rest-lt4
 returns-then-rest-lt4 c =
-    let cut = cut_answer ((drop c.args.at (c.args.run.now))) (cut_before ((drop c.args.at (c.args.run.now))) (omega (arith, c.if-rest-lt4.true, ap length (rest-is (goal.at.returns-then-rest-lt4 c).Start)))) in
+    let rest = drop c.args.at c.args.run.now in
+    let cut = cut_answer rest (cut_before rest (omega (arith, c.if-rest-lt4.true, ap length (rest-is c.args.run.now c.args.at)))) in
     (tt, (cut.0, omega (arith, cut.1, rest-long (goal.at.returns-then-rest-lt4 c).Start)))
 
 pub returns-then-rest-size : goal.returns-then-rest-size
 returns-then-rest-size c =
-    let cut = cut_answer ((drop c.args.at (c.args.run.now))) (cut_within ((drop c.args.at (c.args.run.now))) (omega (arith, c.if-rest-size.true, ap length (rest-is (goal.at.returns-then-rest-size c).Start), word-is (goal.at.returns-then-rest-size c).After-word_at))) in
+    let rest = drop c.args.at c.args.run.now in
+    let cut = cut_answer rest (cut_within rest (omega (arith, c.if-rest-size.true, ap length (rest-is c.args.run.now c.args.at), word-is (goal.at.returns-then-rest-size c).After-word_at))) in
     (tt, (cut.0, omega (arith, cut.1, rest-long (goal.at.returns-then-rest-size c).Start)))
 
 pub slice_bounds-line_of-end : goal.slice_bounds-line_of-end
@@ -38,13 +37,14 @@ slice_bounds-line_of-end c = sym (length-take-le _ _ c.if-rest-size.false)
 
 pub returns : goal.returns
 returns c =
-    let all = is_whole_lem ((drop c.args.at (c.args.run.now))) (omega (arith, c.if-rest-lt4.false, ap length (rest-is (goal.at.returns c).Start)))
-    (omega (arith, c.if-rest-size.false, ap length (rest-is (goal.at.returns c).Start), word-is (goal.at.returns c).After-word_at)) in
-    let whole = whole_answer ((drop c.args.at (c.args.run.now))) all in
+    let rest = drop c.args.at c.args.run.now in
+    let all = is_whole_lem rest (omega (arith, c.if-rest-lt4.false, ap length (rest-is c.args.run.now c.args.at)))
+    (omega (arith, c.if-rest-size.false, ap length (rest-is c.args.run.now c.args.at), word-is (goal.at.returns c).After-word_at)) in
+    let whole = whole_answer rest all in
     let found = c.line_of.ensures in (
       found.0,
       (
-        found.1 ∙ ap₂ (λ (k : ℕ) (l : List ℕ). line_of (take k l)) (ap (λ (w : ℕ). 4 + w) (word-is (goal.at.returns c).After-word_at)) (rest-is (goal.at.returns c).Start) ∙ whole.0,
+        found.1 ∙ ap₂ (λ (k : ℕ) (l : List ℕ). line_of (take k l)) (ap (λ (w : ℕ). 4 + w) (word-is (goal.at.returns c).After-word_at)) (rest-is c.args.run.now c.args.at) ∙ whole.0,
         omega (arith, whole.1, word-is (goal.at.returns c).After-word_at),
       ),
     )

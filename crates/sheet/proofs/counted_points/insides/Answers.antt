@@ -9,9 +9,6 @@ use lib.ListN.{get_or}
 use Rattle.model.specs.Formulas.{inside_bit}
 use Rattle.sheet.proofs.counted_points.insides.Goals as goal
 
-abbrev bit : Float → List Float → ℕ → ℕ
-bit threshold samples k = inside_bit threshold (get_or samples k nan)
-
 pub loop-k-init : goal.loop-k-init
 loop-k-init c = (omega arith, (refl, omega arith))
 

@@ -10,7 +10,7 @@ use lib.Ieee.{Float, of_bits, binary32}
 use lib.ListN.{length, replicate, length-replicate}
 use Rattle.model.specs.declared.Header.{Header}
 use Rattle.model.specs.Limits.{most_subdivisions}
-use Rattle.model.specs.Record.{star_of}
+use Rattle.model.specs.Record.{header_of, star_of}
 use Rattle.cases.specs.Sheets.{sheet_places, Measured, Plane}
 use Rattle.cells.specs.declared.SheetIndex.TheVariants.{Layer}
 use Rattle.walk.specs.Order.{Held}
@@ -28,92 +28,54 @@ use Rattle.sheet.proofs.planes.count_layers.Goals.{After-cases_between, After-co
 zeros : length {A = Float} (replicate plane_places (of_bits binary32 0)) ≡ plane_places
 zeros = length-replicate {A = Float} plane_places (of_bits binary32 0)
 
-is : (e : Start) → Measured ((star_of e.args.src.now)) (e.args.header.block.subdivisions) e.args.header.threshold
-is e =
-    record {
-      subdivisions_are = ap (λ (h : Header). h.block.subdivisions) (sym e.requires.1);
-      threshold_is = ap (λ (h : Header). h.threshold) (sym e.requires.1);
-    }
+-- the header that is told is the record's own
+is_measured : (src : List ℕ) (header : Header) → header ≡ header_of src → Measured (star_of src) header.block.subdivisions header.threshold
+is_measured src header told =
+    record { subdivisions_are = ap (λ (h : Header). h.block.subdivisions) (sym told); threshold_is = ap (λ (h : Header). h.threshold) (sym told) }
 
-n-few : (e : Start) → (e.args.header.block.subdivisions) ≤ most_subdivisions
-n-few e = omega (arith, e.requires.0.few, (is e).subdivisions_are)
+n-few : (e : Start) → e.args.header.block.subdivisions ≤ most_subdivisions
+n-few e = omega (arith, e.requires.0.few, (is_measured e.args.src.now e.args.header e.requires.1).subdivisions_are)
 
-few : (e : Start) → ((e.args.header.block.subdivisions) + 1) * ((e.args.header.block.subdivisions) + 1) ≤ plane_places
-few e = layer_fits (e.args.header.block.subdivisions) (n-few e)
+few : (e : Start) → (e.args.header.block.subdivisions + 1) * (e.args.header.block.subdivisions + 1) ≤ plane_places
+few e = layer_fits e.args.header.block.subdivisions (n-few e)
 
 first-long : (c : After-fill_plane) → length c.fill_plane.new.plane ≡ plane_places
 first-long c = c.fill_plane.auto.plane ∙ zeros
 
-low-long : (c : After-move_down) → length (c.move_down.new.low) ≡ plane_places
+low-long : (c : After-move_down) → length c.move_down.new.low ≡ plane_places
 low-long c = c.move_down.auto.low ∙ c.loop-x.invariant.low-long
 
-is_at_after_move_down : (e : After-move_down) → Measured ((star_of e.args.src.now)) (e.args.header.block.subdivisions) e.args.header.threshold
-is_at_after_move_down e =
-    record {
-      subdivisions_are = ap (λ (h : Header). h.block.subdivisions) (sym e.requires.1);
-      threshold_is = ap (λ (h : Header). h.threshold) (sym e.requires.1);
-    }
-
-low-plane : (c : After-move_down) → Plane ((star_of c.args.src.now)) (c.loop-x.x) (c.move_down.new.low)
+low-plane : (c : After-move_down) → Plane (star_of c.args.src.now) c.loop-x.x c.move_down.new.low
 low-plane c =
-    plane_same ((star_of c.args.src.now)) (c.loop-x.x) c.loop-x.high (c.move_down.new.low) c.loop-x.invariant.plane
-    (λ k h. c.move_down.ensures k (rw (is_at_after_move_down c).subdivisions_are at h))
+    plane_same (star_of c.args.src.now) c.loop-x.x c.loop-x.high c.move_down.new.low c.loop-x.invariant.plane
+    (λ k h. c.move_down.ensures k (rw (is_measured c.args.src.now c.args.header c.requires.1).subdivisions_are at h))
 
-high-long : (c : After-fill_plane-in-loop-x) → length (c.fill_plane-in-loop-x.new.plane) ≡ plane_places
+high-long : (c : After-fill_plane-in-loop-x) → length c.fill_plane-in-loop-x.new.plane ≡ plane_places
 high-long c = c.fill_plane-in-loop-x.auto.plane ∙ c.loop-x.invariant.high-long
 
-cases_long : (c : After-cases_between) → length (c.cases_between.new.cases) ≡ sheet_places
+cases_long : (c : After-cases_between) → length c.cases_between.new.cases ≡ sheet_places
 cases_long c = c.cases_between.auto.cases ∙ c.loop-x.invariant.cases_long
 
-marks_long : (c : After-cases_between) → length (c.cases_between.new.marks) ≡ sheet_places
+marks_long : (c : After-cases_between) → length c.cases_between.new.marks ≡ sheet_places
 marks_long c = c.cases_between.auto.marks ∙ c.loop-x.invariant.marks_long
 
-is_at_after_cases_between : (e : After-cases_between) → Measured ((star_of e.args.src.now)) (e.args.header.block.subdivisions) e.args.header.threshold
-is_at_after_cases_between e =
+-- the layer lies between two planes, a step apart
+held : (c : After-cases_between) → Plane (star_of c.args.src.now) c.loop-x.x c.move_down.new.low
+    → Held (star_of c.args.src.now) (Layer c.loop-x.x) c.args.header.block.subdivisions c.cases_between.new.cases [] c.cases_between.new.marks
+held c low =
+    let is = is_measured c.args.src.now c.args.header c.requires.1 in
     record {
-      subdivisions_are = ap (λ (h : Header). h.block.subdivisions) (sym e.requires.1);
-      threshold_is = ap (λ (h : Header). h.threshold) (sym e.requires.1);
+      numbers = c.cases_between.ensures.cases (star_of c.args.src.now) c.loop-x.x is low c.fill_plane-in-loop-x.ensures;
+      marked = c.cases_between.ensures.marks (star_of c.args.src.now) c.loop-x.x is low c.fill_plane-in-loop-x.ensures;
     }
 
-low-plane_at_after_cases_between : (c : After-cases_between) → Plane ((star_of c.args.src.now)) (c.loop-x.x) (c.move_down.new.low)
-low-plane_at_after_cases_between c =
-    plane_same ((star_of c.args.src.now)) (c.loop-x.x) c.loop-x.high (c.move_down.new.low) c.loop-x.invariant.plane
-    (λ k h. c.move_down.ensures k (rw (is_at_after_cases_between c).subdivisions_are at h))
-
-held : (c : After-cases_between) → Held ((star_of c.args.src.now)) (Layer (c.loop-x.x)) (c.args.header.block.subdivisions) (c.cases_between.new.cases) [] (c.cases_between.new.marks)
-held c =
-    let high-plane = c.fill_plane-in-loop-x.ensures in
-    record {
-      numbers = c.cases_between.ensures.cases ((star_of c.args.src.now)) (c.loop-x.x) (is_at_after_cases_between c) (low-plane_at_after_cases_between c) high-plane;
-      marked = c.cases_between.ensures.marks ((star_of c.args.src.now)) (c.loop-x.x) (is_at_after_cases_between c) (low-plane_at_after_cases_between c) high-plane;
-    }
-
-is_at_after_count_sheet_counts : (e : After-count_sheet-counts) → Measured ((star_of e.args.src.now)) (e.args.header.block.subdivisions) e.args.header.threshold
-is_at_after_count_sheet_counts e =
-    record {
-      subdivisions_are = ap (λ (h : Header). h.block.subdivisions) (sym e.requires.1);
-      threshold_is = ap (λ (h : Header). h.threshold) (sym e.requires.1);
-    }
-
-low-plane_at_after_count_sheet_counts : (c : After-count_sheet-counts) → Plane ((star_of c.args.src.now)) (c.loop-x.x) (c.move_down.new.low)
-low-plane_at_after_count_sheet_counts c =
-    plane_same ((star_of c.args.src.now)) (c.loop-x.x) c.loop-x.high (c.move_down.new.low) c.loop-x.invariant.plane
-    (λ k h. c.move_down.ensures k (rw (is_at_after_count_sheet_counts c).subdivisions_are at h))
-
-held_at_after_count_sheet_counts : (c : After-count_sheet-counts) → Held ((star_of c.args.src.now)) (Layer (c.loop-x.x)) (c.args.header.block.subdivisions) (c.cases_between.new.cases) [] (c.cases_between.new.marks)
-held_at_after_count_sheet_counts c =
-    let high-plane = c.fill_plane-in-loop-x.ensures in
-    record {
-      numbers = c.cases_between.ensures.cases ((star_of c.args.src.now)) (c.loop-x.x) (is_at_after_count_sheet_counts c) (low-plane_at_after_count_sheet_counts c) high-plane;
-      marked = c.cases_between.ensures.marks ((star_of c.args.src.now)) (c.loop-x.x) (is_at_after_count_sheet_counts c) (low-plane_at_after_count_sheet_counts c) high-plane;
-    }
-
-counts : (c : After-count_sheet-counts) → LayerCounts ((star_of c.args.src.now)) (c.loop-x.x) c.count_sheet-counts.result
-counts c =
-    layer_counts ((star_of c.args.src.now)) (c.loop-x.x) c.count_sheet-counts.result
-    (c.count_sheet-counts.ensures.grows ((star_of c.args.src.now)) (is_at_after_count_sheet_counts c).subdivisions_are
-    (omega (arith, c.loop-x-test.true, (is_at_after_count_sheet_counts c).subdivisions_are))
-    (held_at_after_count_sheet_counts c))
+counts : (c : After-count_sheet-counts)
+    → Held (star_of c.args.src.now) (Layer c.loop-x.x) c.args.header.block.subdivisions c.cases_between.new.cases [] c.cases_between.new.marks
+    → LayerCounts (star_of c.args.src.now) c.loop-x.x c.count_sheet-counts.result
+counts c layer =
+    let is = is_measured c.args.src.now c.args.header c.requires.1 in
+    layer_counts (star_of c.args.src.now) c.loop-x.x c.count_sheet-counts.result
+    (c.count_sheet-counts.ensures.grows (star_of c.args.src.now) is.subdivisions_are (omega (arith, c.loop-x-test.true, is.subdivisions_are)) layer)
 
 pub overflow_add-count : goal.overflow_add-count
 overflow_add-count c = omega (arith, n-few (goal.at.overflow_add-count c).Start)
@@ -129,7 +91,7 @@ slice_bounds-fill_plane-end c = sym zeros
 
 pub fill_plane-requires : goal.fill_plane-requires
 fill_plane-requires c =
-    record { accepted = (c.requires.0, sym (is (goal.at.fill_plane-requires c).Start).subdivisions_are); x_le_n = (omega arith, zeros) }
+    record { accepted = (c.requires.0, sym (is_measured c.args.src.now c.args.header c.requires.1).subdivisions_are); x_le_n = (omega arith, zeros) }
 
 pub slice_bounds-plane_figures-end : goal.slice_bounds-plane_figures-end
 slice_bounds-plane_figures-end c = sym (first-long (goal.at.slice_bounds-plane_figures-end c).After-fill_plane)
@@ -148,7 +110,7 @@ loop-x-init c =
       high-long = first-long (goal.at.loop-x-init c).After-fill_plane;
       plane = c.fill_plane.ensures;
       small = c.plane_figures-figures.ensures.0;
-      added = c.plane_figures-figures.ensures.1 ((star_of c.args.src.now)) 0 (is (goal.at.loop-x-init c).Start) c.fill_plane.ensures;
+      added = c.plane_figures-figures.ensures.1 (star_of c.args.src.now) 0 (is_measured c.args.src.now c.args.header c.requires.1) c.fill_plane.ensures;
     }
 
 pub slice_bounds-move_down-end : goal.slice_bounds-move_down-end
@@ -170,7 +132,7 @@ slice_bounds-fill_plane-end-in-loop-x c = sym c.loop-x.invariant.high-long
 
 pub fill_plane-requires-in-loop-x : goal.fill_plane-requires-in-loop-x
 fill_plane-requires-in-loop-x c =
-    record { accepted = (c.requires.0, sym (is (goal.at.fill_plane-requires-in-loop-x c).Start).subdivisions_are); x_le_n = (omega (arith, c.loop-x-test.true), c.loop-x.invariant.high-long) }
+    record { accepted = (c.requires.0, sym (is_measured c.args.src.now c.args.header c.requires.1).subdivisions_are); x_le_n = (omega (arith, c.loop-x-test.true), c.loop-x.invariant.high-long) }
 
 pub slice_bounds-cases_between-end : goal.slice_bounds-cases_between-end
 slice_bounds-cases_between-end c = sym (low-long (goal.at.slice_bounds-cases_between-end c).After-move_down)
@@ -203,7 +165,13 @@ pub slice_bounds-count_sheet-end-in-loop-x-3 : goal.slice_bounds-count_sheet-end
 slice_bounds-count_sheet-end-in-loop-x-3 c = sym (cases_long (goal.at.slice_bounds-count_sheet-end-in-loop-x-3 c).After-cases_between)
 
 pub count_sheet-counts-requires : goal.count_sheet-counts-requires
-count_sheet-counts-requires c = record { tables = record { classes_are = c.regular_cell_class-classes.ensures; cells_are = c.regular_cell_data-cells.ensures; codes_are = c.regular_vertex_data-codes.ensures }; sheeted = held_sheeted ((star_of c.args.src.now)) (Layer (c.loop-x.x)) (held (goal.at.count_sheet-counts-requires c).After-cases_between) (n-few (goal.at.count_sheet-counts-requires c).Start) (cases_long (goal.at.count_sheet-counts-requires c).After-cases_between) (marks_long (goal.at.count_sheet-counts-requires c).After-cases_between) }
+count_sheet-counts-requires c =
+    let place = goal.at.count_sheet-counts-requires c in
+    let layer = held place.After-cases_between (low-plane place.After-move_down) in
+    record {
+      tables = record { classes_are = c.regular_cell_class-classes.ensures; cells_are = c.regular_cell_data-cells.ensures; codes_are = c.regular_vertex_data-codes.ensures };
+      sheeted = held_sheeted (star_of c.args.src.now) (Layer c.loop-x.x) layer (n-few place.Start) (cases_long place.After-cases_between) (marks_long place.After-cases_between);
+    }
 
 pub slice_bounds-step_figures-end : goal.slice_bounds-step_figures-end
 slice_bounds-step_figures-end c = sym (low-long (goal.at.slice_bounds-step_figures-end c).After-move_down)
@@ -231,16 +199,20 @@ loop-x-smaller c = omega (arith, c.loop-x-test.true)
 pub loop-x-preserved : goal.loop-x-preserved
 loop-x-preserved c =
     let so_far = c.loop-x.invariant in
-    let more = c.step_figures-more.ensures.1 ((star_of c.args.src.now)) (c.loop-x.x) (is (goal.at.loop-x-preserved c).Start) (low-plane (goal.at.loop-x-preserved c).After-move_down) c.fill_plane-in-loop-x.ensures (counts (goal.at.loop-x-preserved c).After-count_sheet-counts) in
+    let place = goal.at.loop-x-preserved c in
+    let low = low-plane place.After-move_down in
+    let more =
+    c.step_figures-more.ensures.1 (star_of c.args.src.now) c.loop-x.x (is_measured c.args.src.now c.args.header c.requires.1) low c.fill_plane-in-loop-x.ensures
+    (counts place.After-count_sheet-counts (held place.After-cases_between low)) in
     record {
       within = omega (arith, c.loop-x-test.true);
-      cases_long = cases_long (goal.at.loop-x-preserved c).After-cases_between;
-      marks_long = marks_long (goal.at.loop-x-preserved c).After-cases_between;
-      low-long = low-long (goal.at.loop-x-preserved c).After-move_down;
-      high-long = high-long (goal.at.loop-x-preserved c).After-fill_plane-in-loop-x;
+      cases_long = cases_long place.After-cases_between;
+      marks_long = marks_long place.After-cases_between;
+      low-long = low-long place.After-move_down;
+      high-long = high-long place.After-fill_plane-in-loop-x;
       plane = c.fill_plane-in-loop-x.ensures;
       small = rw c.plus-figures.ensures (small_plus (c.loop-x.x + 1) 1 so_far.small c.step_figures-more.ensures.0);
-      added = c.plus-figures.ensures ∙ ap₂ plus so_far.added more ∙ ap (planes_to ((star_of c.args.src.now))) (sym (add-one (c.loop-x.x)));
+      added = c.plus-figures.ensures ∙ ap₂ plus so_far.added more ∙ ap (planes_to (star_of c.args.src.now)) (sym (add-one c.loop-x.x));
     }
 
 pub returns : goal.returns
@@ -248,5 +220,5 @@ returns c =
     let turn = c.loop-x in
     let end : turn.x ≡ c.args.header.block.subdivisions = omega (arith, c.loop-x-test.false, turn.invariant.within) in (
       small_of (turn.x + 1) most_planes (omega (arith, turn.invariant.within, n-few (goal.at.returns c).Start)) turn.invariant.small,
-      turn.invariant.added ∙ ap (planes_to ((star_of c.args.src.now))) end,
+      turn.invariant.added ∙ ap (planes_to (star_of c.args.src.now)) end,
     )

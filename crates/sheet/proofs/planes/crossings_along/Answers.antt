@@ -10,27 +10,19 @@ use Rattle.sheet.specs.Definition.{crosses_z}
 use Rattle.cases.specs.RowPlaces.{layer_fits}
 use Rattle.sheet.specs.Planes.{plane_places, crossing_sum, measured, plane_along}
 use Rattle.sheet.proofs.planes.crossings_along.Goals as goal
-use Rattle.sheet.proofs.planes.crossings_along.Goals.{In-loop-y, Start}
-
-abbrev inLine : Star → ℕ → ℕ → ℕ
-inLine s x y = total (crosses_z s x y) (subdivisions s)
-
-few : (e : Start) → (e.args.n + 1) * (e.args.n + 1) ≤ plane_places
-few e = layer_fits e.args.n e.requires.0
-
-few_at_in_loop_y : (e : In-loop-y) → (e.args.n + 1) * (e.args.n + 1) ≤ plane_places
-few_at_in_loop_y e = layer_fits e.args.n e.requires.0
+use Rattle.sheet.proofs.planes.crossings_along.Goals.{In-loop-y}
+use Rattle.sheet.proofs.planes.crossings_along.Invariants.{in_line}
 
 -- the line ends within the plane, and so many edges are few
-ends-in : (c : In-loop-y) → ((c.args.n) + 1) * (c.loop-y.y) + 1 + (c.args.n) ≤ plane_places
+ends-in : (c : In-loop-y) → (c.args.n + 1) * c.loop-y.y + 1 + c.args.n ≤ plane_places
 ends-in c =
-    let most : ((c.args.n) + 1) * (c.loop-y.y) ≤ ((c.args.n) + 1) * (c.args.n) = mul-le-mul_left ((c.args.n) + 1) (omega (arith, c.loop-y-test.true)) in
-    omega (arith, most, mul-add ((c.args.n) + 1) (c.args.n) 1, few_at_in_loop_y c)
+    let most : (c.args.n + 1) * c.loop-y.y ≤ (c.args.n + 1) * c.args.n = mul-le-mul_left (c.args.n + 1) (omega (arith, c.loop-y-test.true)) in
+    omega (arith, most, mul-add (c.args.n + 1) c.args.n 1, layer_fits c.args.n c.requires.0)
 
-edges_few : (c : In-loop-y) → (c.args.n) * (c.loop-y.y) + (c.args.n) ≤ plane_places
+edges_few : (c : In-loop-y) → c.args.n * c.loop-y.y + c.args.n ≤ plane_places
 edges_few c =
-    let most : (c.args.n) * ((c.loop-y.y) + 1) ≤ ((c.args.n) + 1) * ((c.args.n) + 1) = mul-le-mul (omega arith) (omega (arith, c.loop-y-test.true)) in
-    omega (arith, most, mul-add (c.args.n) (c.loop-y.y) 1, few_at_in_loop_y c)
+    let most : c.args.n * (c.loop-y.y + 1) ≤ (c.args.n + 1) * (c.args.n + 1) = mul-le-mul (omega arith) (omega (arith, c.loop-y-test.true)) in
+    omega (arith, most, mul-add c.args.n c.loop-y.y 1, layer_fits c.args.n c.requires.0)
 
 pub loop-y-init : goal.loop-y-init
 loop-y-init c = (omega arith, (omega arith, λ s x is p. refl))
@@ -63,7 +55,7 @@ loop-y-preserved c =
         λ s x is p.
             let line =
             measured s a.n a.threshold
-            (λ k t. crossing_sum t a.plane.now ((k + 1) * turn.y) a.plane.now ((k + 1) * turn.y + 1) k ≡ inLine s x turn.y) is
+            (λ k t. crossing_sum t a.plane.now ((k + 1) * turn.y) a.plane.now ((k + 1) * turn.y + 1) k ≡ in_line s x turn.y) is
             (plane_along s x a.plane.now p turn.y (omega (arith, c.loop-y-test.true, is.subdivisions_are))) in
             rw add-one (ap₂ ◌+◌ (turn.invariant.1.1 s x is p) (c.crossings-found.ensures.0 ∙ line)),
       ),
@@ -75,6 +67,6 @@ returns c =
     let n = c.args.n in
     let end : turn.y ≡ n + 1 = omega (arith, c.loop-y-test.false) in
     let most : n * turn.y ≤ (n + 1) * (n + 1) = mul-le-mul (omega arith) (omega arith) in (
-      omega (arith, most, few (goal.at.returns c).Start, turn.invariant.1.0),
-      λ s x is p. turn.invariant.1.1 s x is p ∙ ap (total (inLine s x)) (end ∙ ap (λ (k : ℕ). k + 1) (sym is.subdivisions_are)),
+      omega (arith, most, layer_fits n c.requires.0, turn.invariant.1.0),
+      λ s x is p. turn.invariant.1.1 s x is p ∙ ap (total (in_line s x)) (end ∙ ap (λ (k : ℕ). k + 1) (sym is.subdivisions_are)),
     )

@@ -7,12 +7,13 @@ use Rattle.sheet.specs.Definition.{crosses_z}
 use Rattle.cases.specs.Sheets.{Measured, Plane}
 use Rattle.sheet.proofs.planes.crossings_along.Given as goal
 
-abbrev inLine : Star → ℕ → ℕ → ℕ
-inLine s x y = total (crosses_z s x y) (subdivisions s)
+-- the crossing edges of a line
+abbrev pub in_line : Star → ℕ → ℕ → ℕ
+in_line s x y = total (crosses_z s x y) (subdivisions s)
 
 abbrev pub invariant-loop-y : goal.invariant-loop-y
 invariant-loop-y l =
-    (l.y ≤ l.n + 1) × ((l.found ≤ l.n * l.y) × ((s : Star) (x : ℕ) → Measured s l.n l.threshold → Plane s x l.plane → l.found ≡ total (inLine s x) l.y))
+    (l.y ≤ l.n + 1) × ((l.found ≤ l.n * l.y) × ((s : Star) (x : ℕ) → Measured s l.n l.threshold → Plane s x l.plane → l.found ≡ total (in_line s x) l.y))
 
 abbrev pub decreases-loop-y : goal.decreases-loop-y
 decreases-loop-y l = l.n + 1 - l.y
