@@ -1,12 +1,8 @@
 -- `counted_points::insides` meets its contract. The loop's invariant: what is found is the sum over the samples passed.
-use Prim.Native.Nat.{ℕ, ◌+◌, ◌-◌}
+use Prim.Native.Nat.{◌+◌}
 use mathlib.Core.Path.{◌≡◌, refl, ap₂}
-use mathlib.Core.List.{List}
 use native.Mathlib.Numerals.{add-one}
 use native.Mathlib.Omega.{arith}
-use lib.Ieee.{Float, nan}
-use lib.ListN.{get_or}
-use Rattle.model.specs.Formulas.{inside_bit}
 use Rattle.sheet.proofs.counted_points.insides.Goals as goal
 
 pub loop-k-init : goal.loop-k-init

@@ -1,5 +1,5 @@
 -- `faces::judge_row` meets its contract. The loop's invariant: no point passed over differs.
-use Prim.Native.Nat.{◌-◌, ◌≤◌}
+use Prim.Native.Nat.{◌≤◌}
 use mathlib.Core.Path.{◌≡◌}
 use Rattle.model.specs.declared.Verdict.TheVariants.{Passed}
 use Rattle.model.specs.Judging.{face_row}

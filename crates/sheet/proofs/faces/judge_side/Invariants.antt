@@ -1,5 +1,5 @@
 -- `faces::judge_side` meets its contract. The loop's invariant: no row passed over has a point that differs.
-use Prim.Native.Nat.{◌-◌, ◌≤◌}
+use Prim.Native.Nat.{◌≤◌}
 use mathlib.Core.Path.{◌≡◌}
 use Rattle.model.specs.declared.Verdict.TheVariants.{Passed}
 use Rattle.model.specs.Judging.{face_side}

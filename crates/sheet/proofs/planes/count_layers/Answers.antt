@@ -1,6 +1,6 @@
 -- `planes::count_layers` meets its contract. The loop's invariant: the upper plane is at x, and what the planes up to it and the layers below it have is
 -- added up.
-use Prim.Native.Nat.{ℕ, ◌+◌, ◌-◌, ◌*◌, ◌≤◌}
+use Prim.Native.Nat.{ℕ, ◌+◌, ◌*◌, ◌≤◌}
 use mathlib.Core.Path.{◌≡◌, sym, ap, ap₂, ◌∙◌}
 use mathlib.Core.List.{List, []}
 use native.Mathlib.Numerals.{add-one}
@@ -15,14 +15,12 @@ use Rattle.cases.specs.Sheets.{sheet_places, Measured, Plane}
 use Rattle.cells.specs.declared.SheetIndex.TheVariants.{Layer}
 use Rattle.walk.specs.Order.{Held}
 use Rattle.walk.specs.Numbers.{held_sheeted}
-use Rattle.sheet.specs.declared.Figures.{Figures}
 use Rattle.sheet.specs.Definition.{plus}
 use Rattle.cases.specs.RowPlaces.{layer_fits}
 use Rattle.sheet.specs.Planes.{plane_places, planes_to, LayerCounts, plane_same}
 use Rattle.sheet.proofs.CellCounts.{layer_counts}
-use Rattle.sheet.specs.Sizes.{most_planes, Small, small_plus, small_of, small_fits}
+use Rattle.sheet.specs.Sizes.{most_planes, small_plus, small_of, small_fits}
 use Rattle.sheet.proofs.planes.count_layers.Goals as goal
-use Rattle.sheet.proofs.planes.count_layers.Invariants.{SoFar}
 use Rattle.sheet.proofs.planes.count_layers.Goals.{After-cases_between, After-count_sheet-counts, After-fill_plane, After-fill_plane-in-loop-x, After-move_down, Start}
 
 zeros : length {A = Float} (replicate plane_places (of_bits binary32 0)) ≡ plane_places

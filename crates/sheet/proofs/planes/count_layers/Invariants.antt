@@ -1,26 +1,15 @@
 -- `planes::count_layers` meets its contract. The loop's invariant: the upper plane is at x, and what the planes up to it and the layers below it have is
 -- added up.
-use Prim.Native.Nat.{ℕ, ◌+◌, ◌-◌, ◌*◌, ◌≤◌}
-use mathlib.Core.Path.{◌≡◌, sym, ap, ap₂, ◌∙◌}
-use mathlib.Core.List.{List, []}
-use native.Mathlib.Numerals.{add-one}
-use native.Mathlib.Omega.{arith}
-use borrow.Author.Rules.{rules}
-use lib.Ieee.{Float, of_bits, binary32}
-use lib.ListN.{length, replicate, length-replicate}
-use Rattle.model.specs.declared.Header.{Header}
-use Rattle.model.specs.Limits.{most_subdivisions}
+use Prim.Native.Nat.{ℕ, ◌+◌, ◌-◌, ◌≤◌}
+use mathlib.Core.Path.{◌≡◌}
+use mathlib.Core.List.{List}
+use lib.Ieee.{Float}
+use lib.ListN.{length}
 use Rattle.model.specs.Record.{star_of}
-use Rattle.cases.specs.Sheets.{sheet_places, Measured, Plane}
-use Rattle.cells.specs.declared.SheetIndex.TheVariants.{Layer}
-use Rattle.walk.specs.Order.{Held}
-use Rattle.walk.specs.Numbers.{held_sheeted}
+use Rattle.cases.specs.Sheets.{sheet_places, Plane}
 use Rattle.sheet.specs.declared.Figures.{Figures}
-use Rattle.sheet.specs.Definition.{plus}
-use Rattle.cases.specs.RowPlaces.{layer_fits}
-use Rattle.sheet.specs.Planes.{plane_places, planes_to, LayerCounts, plane_same}
-use Rattle.sheet.proofs.CellCounts.{layer_counts}
-use Rattle.sheet.specs.Sizes.{most_planes, Small, small_plus, small_of, small_fits}
+use Rattle.sheet.specs.Planes.{plane_places, planes_to}
+use Rattle.sheet.specs.Sizes.{Small}
 use Rattle.sheet.proofs.planes.count_layers.Given as goal
 
 pub record SoFar (src : List ℕ) (n : ℕ) (cases marks : List ℕ) (low high : List Float) (figures : Figures) (x : ℕ) : Type 0 where

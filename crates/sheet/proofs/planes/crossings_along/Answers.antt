@@ -1,12 +1,10 @@
 -- `planes::crossings_along` meets its contract. The loop's invariant: what is found is the sum over the lines passed.
-use Prim.Native.Nat.{ℕ, ◌+◌, ◌-◌, ◌*◌, ◌≤◌}
+use Prim.Native.Nat.{ℕ, ◌+◌, ◌*◌, ◌≤◌}
 use mathlib.Core.Path.{◌≡◌, refl, sym, ap, ap₂, ◌∙◌}
 use native.Mathlib.Nat.{mul-add, mul-le-mul, mul-le-mul_left}
 use native.Mathlib.Numerals.{add-one}
 use native.Mathlib.Omega.{arith}
 use Rattle.laws.specs.Steps.{total}
-use Rattle.model.specs.Star.{Star, subdivisions}
-use Rattle.sheet.specs.Definition.{crosses_z}
 use Rattle.cases.specs.RowPlaces.{layer_fits}
 use Rattle.sheet.specs.Planes.{plane_places, crossing_sum, measured, plane_along}
 use Rattle.sheet.proofs.planes.crossings_along.Goals as goal
