@@ -17,13 +17,10 @@ lined c = own_lined _ c.requires _ c.header_of-header.ensures
 few : (c : After-header_of-header) → Small c.header_of-header.result.block.subdivisions
 few c = small _ (omega (arith, (lined c).few))
 
-lined_at_after_line_lies : (c : After-line_lies) → OwnLined c.header_of-header.result c.args.src.now
-lined_at_after_line_lies c = own_lined _ c.requires _ c.header_of-header.ensures
-
-in_parts : (c : After-line_lies) → {found : Bool} → c.line_lies.result ≡ found
+in_parts : (c : After-line_lies) → OwnLined c.header_of-header.result c.args.src.now → {found : Bool} → c.line_lies.result ≡ found
     → is_blank (star_of c.args.src.now) ≡ found && sides_as c.inside-wanted.result (star_of c.args.src.now)
-in_parts c e =
-    (lined_at_after_line_lies c).blank_is (c.inside-wanted.ensures ∙ ap (inside c.header_of-header.result.threshold) c.sample_of.ensures)
+in_parts c own e =
+    own.blank_is (c.inside-wanted.ensures ∙ ap (inside c.header_of-header.result.threshold) c.sample_of.ensures)
     (sym e ∙ c.line_lies.ensures)
 
 pub overflow_add-m : goal.overflow_add-m
@@ -40,7 +37,11 @@ line_lies-requires c =
     (c.requires, (lined (goal.at.line_lies-requires c).After-header_of-header).on_line)
 
 pub returns-then-not-line_lies : goal.returns-then-not-line_lies
-returns-then-not-line_lies c = sym (in_parts (goal.at.returns-then-not-line_lies c).After-line_lies (c.if-not-line_lies.true))
+returns-then-not-line_lies c =
+    let at = goal.at.returns-then-not-line_lies c in
+    sym (in_parts at.After-line_lies (lined at.After-header_of-header) c.if-not-line_lies.true)
 
 pub returns : goal.returns
-returns c = c.sides_lie.ensures ∙ sym (in_parts (goal.at.returns c).After-line_lies (c.if-not-line_lies.false))
+returns c =
+    let at = goal.at.returns c in
+    c.sides_lie.ensures ∙ sym (in_parts at.After-line_lies (lined at.After-header_of-header) c.if-not-line_lies.false)
