@@ -5,7 +5,7 @@ use mathlib.Core.Path.{refl, ap, ◌∙◌}
 use native.Mathlib.Omega.{arith}
 use lib.ListN.{replicate}
 use Rattle.writing.specs.Writing.{SameLengths}
-use Rattle.writing.specs.Lengths.{same_then, fits_still, exact_still}
+use Rattle.writing.specs.Lengths.{fits_still, exact_still}
 use Rattle.writing.proofs.Holding.{holds_all}
 use Rattle.writing.proofs.Reading.{read_all}
 use Rattle.writing.proofs.write_mesh.Goals as goal
@@ -15,13 +15,11 @@ same : (c : After-write_regular_cells-regular) → let a = c.args in SameLengths
 same c =
     record { vertices_same = c.write_regular_cells-regular.auto.vertices; triangles_same = c.write_regular_cells-regular.auto.triangles; store_same = c.write_regular_cells-regular.auto.store ∙ c.clear.auto.store; edges_same = c.write_regular_cells-regular.auto.edges }
 
-same_at_after_write_transition_cells_all : (c : After-write_transition_cells-all) → let a = c.args in SameLengths a.vertices.now c.write_regular_cells-regular.new.vertices a.triangles.now c.write_regular_cells-regular.new.triangles a.store.now c.write_regular_cells-regular.new.store a.edges.now c.write_regular_cells-regular.new.edges
-same_at_after_write_transition_cells_all c =
-    record { vertices_same = c.write_regular_cells-regular.auto.vertices; triangles_same = c.write_regular_cells-regular.auto.triangles; store_same = c.write_regular_cells-regular.auto.store ∙ c.clear.auto.store; edges_same = c.write_regular_cells-regular.auto.edges }
-
 same-still : (t : After-write_transition_cells-all) → let a = t.args in SameLengths a.vertices.now t.write_transition_cells-all.new.vertices a.triangles.now t.write_transition_cells-all.new.triangles a.store.now t.write_transition_cells-all.new.store a.edges.now t.write_transition_cells-all.new.edges
 same-still t =
-    same_then (same_at_after_write_transition_cells_all t) (record { vertices_same = t.write_transition_cells-all.auto.vertices; triangles_same = t.write_transition_cells-all.auto.triangles; store_same = t.write_transition_cells-all.auto.store; edges_same = t.write_transition_cells-all.auto.edges })
+    let reg = t.write_regular_cells-regular.auto in
+    let all = t.write_transition_cells-all.auto in
+    record { vertices_same = all.vertices ∙ reg.vertices; triangles_same = all.triangles ∙ reg.triangles; store_same = all.store ∙ reg.store ∙ t.clear.auto.store; edges_same = all.edges ∙ reg.edges }
 
 pub write_regular_cells-regular-requires : goal.write_regular_cells-regular-requires
 write_regular_cells-regular-requires c =
