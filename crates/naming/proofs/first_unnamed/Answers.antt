@@ -3,7 +3,6 @@ use Prim.Native.Nat.{◌-◌}
 use native.Mathlib.Omega.{arith}
 use mathlib.Core.Path.{◌≡◌, sym, ap, ◌∙◌}
 use mathlib.Core.Bool.{Bool, true, false, ◌&&◌}
-use borrow.Author.Tests.{not-true, not-false}
 use Rattle.model.specs.Refusals.{unless}
 use Rattle.model.specs.declared.Refusal.TheVariants.{NoVertex}
 use Rattle.judge.specs.First.{not_yet, hit}

@@ -1,22 +1,15 @@
 -- `transition::rows_on` meets its contract. The loop's invariant: the rows passed have their numbers and marks, and what they read is counted.
-use Prim.Native.Nat.{ℕ, ◌+◌, ◌-◌, ◌*◌, ◌≤◌, ◌<◌}
+use Prim.Native.Nat.{ℕ, ◌+◌, ◌-◌, ◌≤◌, ◌<◌}
 use mathlib.Core.Path.{◌≡◌, ap, ◌∙◌}
-use mathlib.Core.List.{List}
 use native.Mathlib.Nat.{add-zero}
 use native.Mathlib.Omega.{arith}
-use lib.Ieee.{Float}
-use lib.ListN.{length}
-use Rattle.model.specs.Limits.{most_subdivisions}
-use Rattle.model.specs.Mesh.{transition_reads}
-use Rattle.grid.specs.declared.face_walk.FaceWalk.{FaceWalk}
 use Rattle.cases.specs.declared.transition.Lines.{Lines}
-use Rattle.cases.specs.Sheets.{row_start, sheet_places, Sheet}
+use Rattle.cases.specs.Sheets.{row_start, sheet_places}
 use Rattle.cases.specs.Marks.{all_transition, mark_of}
 use Rattle.cases.specs.Faces.{nine_inside, OnWalk}
 use Rattle.cases.proofs.RowPlaces.{row_fits}
 use Rattle.cases.specs.Rows.{row_as, one_more_row}
 use Rattle.cases.proofs.transition.rows_on.Goals as goal
-use Rattle.cases.proofs.transition.rows_on.Invariants.{SoFar}
 use Rattle.cases.proofs.transition.rows_on.Goals.{In-loop-u}
 
 -- the row is one of the sheet's

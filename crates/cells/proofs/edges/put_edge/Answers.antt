@@ -1,10 +1,7 @@
 -- `edges::put_edge` meets its contract: a vertex that is made has its number put where there is a place for it. Assumes nothing.
-use mathlib.Core.Logic.{⊎_elim}
 use mathlib.Core.Path.{◌≡◌, sym, ◌∙◌}
 use mathlib.Core.Bool.{true}
 use native.Mathlib.Omega.{arith}
-use borrow.Author.Tests.{not-true, not-false}
-use lib.ListN.{length-set}
 use Rattle.model.specs.Star.{Star}
 use Rattle.codes.specs.Kinds.{use_at}
 use Rattle.cells.specs.Edges.{edge_set, edge_out, edge_none}

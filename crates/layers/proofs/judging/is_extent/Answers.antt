@@ -5,8 +5,7 @@ use native.Mathlib.Numerals.{add-one}
 use native.Mathlib.Omega.{arith}
 use mathlib.Core.Path.{◌≡◌, refl, ap, ap₂, ◌∙◌}
 use mathlib.Core.Bool.{Bool, not, ◌&&◌}
-use lib.Ieee.{Float, ne}
-use Rattle.laws.specs.Below.{all_below}
+use lib.Ieee.{Float}
 use Rattle.model.specs.Layers.{best_of, less, more, extent_of}
 use Rattle.layers.specs.Held.{samples_from}
 use Rattle.layers.specs.Best.{Number, not_less, not_more, upward, downward, best_is, best_known}

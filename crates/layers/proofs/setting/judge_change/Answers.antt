@@ -2,7 +2,6 @@
 use native.Mathlib.Omega.{arith}
 use mathlib.Core.Path.{◌≡◌, sym, ◌∙◌}
 use mathlib.Core.Bool.{true, false}
-use borrow.Author.Tests.{not-true, not-false}
 use Rattle.model.specs.Samples.{sampled}
 use Rattle.model.specs.Judging.{usable}
 use Rattle.layers.specs.Definition.{judge_change}

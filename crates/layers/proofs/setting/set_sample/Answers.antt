@@ -12,7 +12,7 @@ use Rattle.model.specs.Samples.{kind_of}
 use Rattle.layers.specs.Definition.{judge_own, point_up, place_up, judge_change, judge_setting, renewed, set_answer, set_sample}
 use Rattle.layers.specs.Passing.{Own, own, Changeable, changeable, setting_by_own}
 use Rattle.layers.proofs.setting.set_sample.Goals as goal
-use Rattle.layers.proofs.setting.set_sample.Goals.{In_default, After-point_up-p, In_default-change}
+use Rattle.layers.proofs.setting.set_sample.Goals.{After-point_up-p, In_default-change}
 
 pub returns-in-Refused : goal.returns-in-Refused
 unfolding set_sample

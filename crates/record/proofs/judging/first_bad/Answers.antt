@@ -2,7 +2,6 @@
 use Prim.Native.Nat.{◌-◌}
 use mathlib.Core.Path.{◌≡◌, sym}
 use native.Mathlib.Omega.{arith}
-use borrow.Author.Tests.{not-true, not-false}
 use Rattle.model.specs.declared.Refusal.TheVariants.{BadSample}
 use Rattle.model.specs.declared.Verdict.TheVariants.{Passed, Refused}
 use Rattle.judge.specs.First.{not_yet, hit}

@@ -1,18 +1,14 @@
 -- `sides::face_cases` meets its contract. The loop's invariant: the rows passed have their numbers and marks.
-use Prim.Native.Nat.{ℕ, ◌-◌, ◌≤◌}
+use Prim.Native.Nat.{◌-◌}
 use mathlib.Core.Path.{◌≡◌, sym, ◌∙◌}
-use mathlib.Core.List.{List}
 use native.Mathlib.Omega.{arith}
 use lib.Ieee.{Float, of_bits, binary32}
 use lib.ListN.{length, length-replicate}
 use Rattle.model.specs.Points.{transition_case}
 use Rattle.model.specs.Record.{star_of}
-use Rattle.cases.specs.Sheets.{sheet_places, Sheet}
-use Rattle.cases.specs.Marks.{all_transition, mark_of}
 use Rattle.cases.specs.RowPlaces.{no_row}
 use Rattle.sheet.specs.Fine.{three_lines, lines_walked, face_cases}
 use Rattle.sheet.proofs.sides.face_cases.Goals as goal
-use Rattle.sheet.proofs.sides.face_cases.Invariants.{SoFar}
 use Rattle.sheet.proofs.sides.face_cases.Goals.{After-fill_lines}
 
 -- the three lines have their places still

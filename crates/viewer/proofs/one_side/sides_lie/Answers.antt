@@ -2,7 +2,6 @@
 use Prim.Native.Nat.{◌-◌, ◌≤◌, ◌<◌}
 use mathlib.Core.Path.{sym, ◌∙◌}
 use native.Mathlib.Omega.{arith}
-use borrow.Author.Tests.{not-true, not-false}
 use Rattle.model.specs.Limits.{side_count, most_mask}
 use Rattle.model.specs.Record.{star_of}
 use Rattle.model.specs.Blank.{side_as}

@@ -2,7 +2,6 @@
 use Prim.Native.Nat.{◌-◌}
 use native.Mathlib.Omega.{arith}
 use mathlib.Core.Path.{◌≡◌, refl, sym}
-use borrow.Author.Tests.{not-true, not-false}
 use Rattle.model.specs.declared.Refusal.TheVariants.{BadSample}
 use Rattle.model.specs.declared.Verdict.TheVariants.{Passed, Refused}
 use Rattle.model.specs.Samples.{sample_length}
