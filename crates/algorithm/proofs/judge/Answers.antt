@@ -8,18 +8,18 @@ use Rattle.layers.specs.Over.{summary_judged, held_there, numbers_there}
 use Rattle.algorithm.proofs.judge.Goals as goal
 use Rattle.algorithm.proofs.judge.Goals.{In_default, In_default-faces, In_default-told}
 
-star_passed : (c : In_default) → judge_star ((star c.args.header c.args.centre.now c.args.neighbours.now)) ≡ Passed
+star_passed : (c : In_default) → judge_star (star c.args.header c.args.centre.now c.args.neighbours.now) ≡ Passed
 star_passed c = cc
 
-faces_passed : (c : In_default-faces) → judge_faces ((star c.args.header c.args.centre.now c.args.neighbours.now)) ≡ Passed
+faces_passed : (c : In_default-faces) → judge_faces (star c.args.header c.args.centre.now c.args.neighbours.now) ≡ Passed
 faces_passed c = cc
 
-told-passed : (c : In_default-told) → summary_judged c.args.layered (subdivisions ((star c.args.header c.args.centre.now c.args.neighbours.now))) ((star c.args.header c.args.centre.now c.args.neighbours.now)).centre c.args.summary.now ≡ Passed
+told-passed : (c : In_default-told) → summary_judged c.args.layered (subdivisions (star c.args.header c.args.centre.now c.args.neighbours.now)) (star c.args.header c.args.centre.now c.args.neighbours.now).centre c.args.summary.now ≡ Passed
 told-passed c = cc
 
 pub returns-in-Refused : goal.returns-in-Refused
 returns-in-Refused c =
-    let star-is : judge_star ((star c.args.header c.args.centre.now c.args.neighbours.now)) ≡ Refused c.in-Refused.refusal = cc in
+    let star-is : judge_star (star c.args.header c.args.centre.now c.args.neighbours.now) ≡ Refused c.in-Refused.refusal = cc in
     rw star-is
 
 pub judge_faces-faces-requires : goal.judge_faces-faces-requires
@@ -27,7 +27,7 @@ judge_faces-faces-requires c = star_shaped _ (star_passed c)
 
 pub returns-in-Refused-faces : goal.returns-in-Refused-faces
 returns-in-Refused-faces c =
-    let faces_are : judge_faces ((star c.args.header c.args.centre.now c.args.neighbours.now)) ≡ Refused c.in-Refused-faces.refusal = cc in
+    let faces_are : judge_faces (star c.args.header c.args.centre.now c.args.neighbours.now) ≡ Refused c.in-Refused-faces.refusal = cc in
     rw (star_passed (goal.at.returns-in-Refused-faces c).In_default, faces_are)
 
 pub judge_summary-told-requires : goal.judge_summary-told-requires

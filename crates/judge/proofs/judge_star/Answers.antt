@@ -6,8 +6,8 @@ use Rattle.judge.proofs.judge_star.Goals as goal
 
 pub returns-in-Refused : goal.returns-in-Refused
 returns-in-Refused c =
-    sym (lent_refused ((let a = c.args in star a.header a.centre.now a.neighbours.now)) (sym c.judge_lent-lent.ensures ∙ c.in-Refused.is))
+    sym (lent_refused (let a = c.args in star a.header a.centre.now a.neighbours.now) (sym c.judge_lent-lent.ensures ∙ c.in-Refused.is))
 
 pub returns : goal.returns
 returns c =
-    c.judge_samples.ensures ∙ sym (samples_left ((let a = c.args in star a.header a.centre.now a.neighbours.now)) (sym c.judge_lent-lent.ensures ∙ c.in_default.is))
+    c.judge_samples.ensures ∙ sym (samples_left (let a = c.args in star a.header a.centre.now a.neighbours.now) (sym c.judge_lent-lent.ensures ∙ c.in_default.is))

@@ -9,11 +9,11 @@ use Rattle.sheet.specs.Definition.{judge_line, line_of}
 use Rattle.sheet.proofs.line_of.Goals as goal
 use Rattle.sheet.proofs.line_of.Goals.{In_default}
 
-passed : (c : In_default) → judge_record (c.args.src.now) ≡ Passed
+passed : (c : In_default) → judge_record c.args.src.now ≡ Passed
 passed c = sym c.judge_record-whole.ensures ∙ c.in_default.is
 
-well : (c : In_default) → Accepted (c.args.src.now)
-well c = accepted (c.args.src.now) (passed c)
+well : (c : In_default) → Accepted c.args.src.now
+well c = accepted c.args.src.now (passed c)
 
 pub returns-in-Refused : goal.returns-in-Refused
 unfolding line_of judge_line
@@ -31,7 +31,7 @@ judge_faces-faces-requires c = (well (goal.at.judge_faces-faces-requires c).In_d
 pub returns-in-Refused-faces : goal.returns-in-Refused-faces
 unfolding line_of judge_line
 returns-in-Refused-faces c =
-    let faces : judge_faces (star_of (c.args.src.now)) ≡ Refused c.in-Refused-faces.r = sym c.judge_faces-faces.ensures ∙ c.in-Refused-faces.is in
+    let faces : judge_faces (star_of c.args.src.now) ≡ Refused c.in-Refused-faces.r = sym c.judge_faces-faces.ensures ∙ c.in-Refused-faces.is in
     (tt, rw (passed (goal.at.returns-in-Refused-faces c).In_default, faces))
 
 pub figures_of-requires : goal.figures_of-requires
@@ -41,5 +41,5 @@ figures_of-requires c =
 pub returns : goal.returns
 unfolding line_of judge_line
 returns c =
-    let faces : judge_faces (star_of (c.args.src.now)) ≡ Passed = sym c.judge_faces-faces.ensures ∙ c.in_default-faces.is in
+    let faces : judge_faces (star_of c.args.src.now) ≡ Passed = sym c.judge_faces-faces.ensures ∙ c.in_default-faces.is in
     (c.figures_of.ensures.0, rw (passed (goal.at.returns c).In_default, faces) (ap Line.Counted c.figures_of.ensures.1))

@@ -13,14 +13,14 @@ use Rattle.sheet.proofs.sheet_total.Goals as goal
 use Rattle.sheet.proofs.sheet_total.Goals.{In-loop-at}
 
 -- the row has some of the bytes that are left
-left : (c : In-loop-at) → 1 ≤ length (drop (c.loop-at.at) (c.args.run.now))
-left c = omega (arith, c.loop-at-test.true, length-drop (c.loop-at.at) (c.args.run.now))
+left : (c : In-loop-at) → 1 ≤ length (drop c.loop-at.at c.args.run.now)
+left c = omega (arith, c.loop-at-test.true, length-drop c.loop-at.at c.args.run.now)
 
-some : (c : In-loop-at) → 1 ≤ ((length (row_of (drop (c.loop-at.at) (c.args.run.now))).bytes))
-some c = (row_bytes (drop (c.loop-at.at) (c.args.run.now))).0 (left c)
+some : (c : In-loop-at) → 1 ≤ (length (row_of (drop c.loop-at.at c.args.run.now)).bytes)
+some c = (row_bytes (drop c.loop-at.at c.args.run.now)).0 (left c)
 
-ends-in : (c : In-loop-at) → (c.loop-at.at) + ((length (row_of (drop (c.loop-at.at) (c.args.run.now))).bytes)) ≤ length (c.args.run.now)
-ends-in c = omega (arith, c.loop-at-test.true, length-drop (c.loop-at.at) (c.args.run.now), (row_bytes (drop (c.loop-at.at) (c.args.run.now))).1)
+ends-in : (c : In-loop-at) → c.loop-at.at + (length (row_of (drop c.loop-at.at c.args.run.now)).bytes) ≤ length c.args.run.now
+ends-in c = omega (arith, c.loop-at-test.true, length-drop c.loop-at.at c.args.run.now, (row_bytes (drop c.loop-at.at c.args.run.now)).1)
 
 pub returns-then-run-gt-MOST_RUN : goal.returns-then-run-gt-MOST_RUN
 unfolding sheet_total
@@ -36,8 +36,8 @@ line_at-found-requires c = (c.loop-at-test.true, c.if-run-gt-MOST_RUN.false)
 
 pub with_line-sum-requires : goal.with_line-sum-requires
 with_line-sum-requires c =
-    small_fits (most_layers * (c.loop-at.at + (length (row_of (drop (c.loop-at.at) (c.args.run.now))).bytes))) (omega (arith, ends-in (goal.at.with_line-sum-requires c).In-loop-at, c.if-run-gt-MOST_RUN.false))
-    (small_more (c.loop-at.at) ((length (row_of (drop (c.loop-at.at) (c.args.run.now))).bytes)) c.line_at-found.result.line (some (goal.at.with_line-sum-requires c).In-loop-at) c.loop-at.invariant.1.0 c.line_at-found.ensures.0)
+    small_fits (most_layers * (c.loop-at.at + (length (row_of (drop c.loop-at.at c.args.run.now)).bytes))) (omega (arith, ends-in (goal.at.with_line-sum-requires c).In-loop-at, c.if-run-gt-MOST_RUN.false))
+    (small_more c.loop-at.at (length (row_of (drop c.loop-at.at c.args.run.now)).bytes) c.line_at-found.result.line (some (goal.at.with_line-sum-requires c).In-loop-at) c.loop-at.invariant.1.0 c.line_at-found.ensures.0)
 
 pub loop-at-smaller : goal.loop-at-smaller
 loop-at-smaller c =
@@ -48,8 +48,8 @@ loop-at-preserved c =
     let so_far = c.loop-at.invariant.1 in (
       omega (arith, c.line_at-found.ensures.1.1, ends-in (goal.at.loop-at-preserved c).In-loop-at),
       (
-        rw (c.with_line-sum.ensures, c.line_at-found.ensures.1.1) (small_more (c.loop-at.at) ((length (row_of (drop (c.loop-at.at) (c.args.run.now))).bytes)) c.line_at-found.result.line (some (goal.at.loop-at-preserved c).In-loop-at) so_far.0 c.line_at-found.ensures.0),
-        rw (c.with_line-sum.ensures, c.line_at-found.ensures.1.1, c.line_at-found.ensures.1.0) (total_more (c.args.run.now) (c.loop-at.at) c.loop-at.sum (left (goal.at.loop-at-preserved c).In-loop-at) so_far.1),
+        rw (c.with_line-sum.ensures, c.line_at-found.ensures.1.1) (small_more c.loop-at.at (length (row_of (drop c.loop-at.at c.args.run.now)).bytes) c.line_at-found.result.line (some (goal.at.loop-at-preserved c).In-loop-at) so_far.0 c.line_at-found.ensures.0),
+        rw (c.with_line-sum.ensures, c.line_at-found.ensures.1.1, c.line_at-found.ensures.1.0) (total_more c.args.run.now c.loop-at.at c.loop-at.sum (left (goal.at.loop-at-preserved c).In-loop-at) so_far.1),
       ),
     )
 

@@ -17,27 +17,27 @@ use Rattle.vertices.specs.Puts.{Room}
 use Rattle.vertices.proofs.fill_cell.Goals as goal
 use Rattle.vertices.proofs.fill_cell.Goals.{In-loop-k}
 
-inside : (c : In-loop-k) → (c.loop-k.k) < vertices_of c.args.row.now
+inside : (c : In-loop-k) → c.loop-k.k < vertices_of c.args.row.now
 inside c = omega (arith, c.vertex_count-count.ensures, c.loop-k-test.true)
 
-few : (c : In-loop-k) → (c.loop-k.k) < 12
+few : (c : In-loop-k) → c.loop-k.k < 12
 few c = omega (arith, (inside c), c.requires.row_coded)
 
 -- the room that its vertex wants is there
-ready : (c : In-loop-k) → Room 6 (c.loop-k.next + length (made_by (((let a = c.args in
-    cell_of (star a.header a.centre.now a.neighbours.now) a.at a.codes.now a.row.now false)).uses (c.loop-k.k)))) c.loop-k.vertices
+ready : (c : In-loop-k) → Room 6 (c.loop-k.next + length (made_by ((let a = c.args in
+    cell_of (star a.header a.centre.now a.neighbours.now) a.at a.codes.now a.row.now false).uses c.loop-k.k))) c.loop-k.vertices
 ready c =
     let a = c.args in
-    fill_ready ((let a = c.args in
-    cell_of (star a.header a.centre.now a.neighbours.now) a.at a.codes.now a.row.now false)) a.base a.store.now (c.loop-k.k) (((let a = c.args in
-    cell_of (star a.header a.centre.now a.neighbours.now) a.at a.codes.now a.row.now false)).uses (c.loop-k.k)) refl a.vertices.now _ _ _ _ _ _ c.loop-k.invariant.1
+    fill_ready (let a = c.args in
+    cell_of (star a.header a.centre.now a.neighbours.now) a.at a.codes.now a.row.now false) a.base a.store.now c.loop-k.k ((let a = c.args in
+    cell_of (star a.header a.centre.now a.neighbours.now) a.at a.codes.now a.row.now false).uses c.loop-k.k) refl a.vertices.now _ _ _ _ _ _ c.loop-k.invariant.1
     (vertices_of a.row.now) (inside c) c.requires.room
 
 pub loop-k-init : goal.loop-k-init
 loop-k-init c = (
   search rules,
-  fill_none ((let a = c.args in
-      cell_of (star a.header a.centre.now a.neighbours.now) a.at a.codes.now a.row.now false)) c.args.base c.args.store.now c.args.vertices.now,
+  fill_none (let a = c.args in
+      cell_of (star a.header a.centre.now a.neighbours.now) a.at a.codes.now a.row.now false) c.args.base c.args.store.now c.args.vertices.now,
 )
 
 pub offset_bounds-codes-k : goal.offset_bounds-codes-k
@@ -51,8 +51,8 @@ put_code-put-requires c =
     let l = c.loop-k in record {
       ready = c.requires.ready;
       usable = c.requires.row_coded.1.1.usable l.k (inside (goal.at.put_code-put-requires c).In-loop-k);
-      store_len = ap length l.invariant.1.store_is ∙ length_fill_store ((let a = c.args in
-          cell_of (star a.header a.centre.now a.neighbours.now) a.at a.codes.now a.row.now false)) c.args.base c.args.store.now l.k ∙ c.requires.store_len;
+      store_len = ap length l.invariant.1.store_is ∙ length_fill_store (let a = c.args in
+          cell_of (star a.header a.centre.now a.neighbours.now) a.at a.codes.now a.row.now false) c.args.base c.args.store.now l.k ∙ c.requires.store_len;
       room = ready (goal.at.put_code-put-requires c).In-loop-k;
     }
 
@@ -77,17 +77,17 @@ pub loop-k-preserved : goal.loop-k-preserved
 loop-k-preserved c =
     let l = c.loop-k in (
       omega (arith, c.loop-k-test.true),
-      fill_more ((let a = c.args in
-          cell_of (star a.header a.centre.now a.neighbours.now) a.at a.codes.now a.row.now false)) c.args.base c.args.store.now l.k (((let a = c.args in
-          cell_of (star a.header a.centre.now a.neighbours.now) a.at a.codes.now a.row.now false)).uses l.k) refl c.args.vertices.now _ _ _ _ _ _ l.invariant.1
+      fill_more (let a = c.args in
+          cell_of (star a.header a.centre.now a.neighbours.now) a.at a.codes.now a.row.now false) c.args.base c.args.store.now l.k ((let a = c.args in
+          cell_of (star a.header a.centre.now a.neighbours.now) a.at a.codes.now a.row.now false).uses l.k) refl c.args.vertices.now _ _ _ _ _ _ l.invariant.1
           _ _ _ _ _ (few (goal.at.loop-k-preserved c).In-loop-k) c.put_code-put.ensures,
     )
 
 pub shape_of-store : goal.shape_of-store
 shape_of-store c =
     let l = c.loop-k in
-    ap length l.invariant.1.store_is ∙ length_fill_store ((let a = c.args in
-    cell_of (star a.header a.centre.now a.neighbours.now) a.at a.codes.now a.row.now false)) c.args.base c.args.store.now l.k
+    ap length l.invariant.1.store_is ∙ length_fill_store (let a = c.args in
+    cell_of (star a.header a.centre.now a.neighbours.now) a.at a.codes.now a.row.now false) c.args.base c.args.store.now l.k
 
 pub shape_of-vertices : goal.shape_of-vertices
 shape_of-vertices c = ap length c.loop-k.invariant.1.vertices_are ∙ length_lay 6 vertex_floats _ _ _

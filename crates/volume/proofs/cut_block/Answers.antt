@@ -9,11 +9,11 @@ use Rattle.volume.specs.Passing.{Cuttable, cuttable}
 use Rattle.volume.proofs.cut_block.Goals as goal
 use Rattle.volume.proofs.cut_block.Goals.{In_default}
 
-passed : (c : In_default) → judge_cut (c.args.bytes.now) c.args.sizes c.args.n c.args.first (length (c.args.samples.now)) ≡ Passed
+passed : (c : In_default) → judge_cut c.args.bytes.now c.args.sizes c.args.n c.args.first (length c.args.samples.now) ≡ Passed
 passed c = sym c.judge_cut-verdict.ensures ∙ c.in_default.is
 
-is-cuttable : (c : In_default) → Cuttable (c.args.bytes.now) c.args.sizes c.args.n c.args.first (length (c.args.samples.now))
-is-cuttable c = cuttable (c.args.bytes.now) c.args.sizes c.args.n c.args.first (length (c.args.samples.now)) (passed c)
+is-cuttable : (c : In_default) → Cuttable c.args.bytes.now c.args.sizes c.args.n c.args.first (length c.args.samples.now)
+is-cuttable c = cuttable c.args.bytes.now c.args.sizes c.args.n c.args.first (length c.args.samples.now) (passed c)
 
 pub returns-in-Refused : goal.returns-in-Refused
 unfolding cut_block
@@ -33,4 +33,4 @@ unfolding cut_block
 returns c =
     let args = c.args in
     (λ i. record { answer = BlockCut.Samples (c.sample_length.ensures i); samples = c.fill_block.ensures i })
-    ∙ sym (ap (cut_answer (c.args.bytes.now) args.sizes args.n args.first (c.args.samples.now)) (passed (goal.at.returns c).In_default))
+    ∙ sym (ap (cut_answer c.args.bytes.now args.sizes args.n args.first c.args.samples.now) (passed (goal.at.returns c).In_default))

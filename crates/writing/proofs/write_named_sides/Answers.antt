@@ -29,7 +29,7 @@ still-long c =
     (c.face_cases-reads.auto.cases ∙ before.cases_long, c.face_cases-reads.auto.marks ∙ before.marks_long)
 
 -- they hold the side
-held : (c : After-face_cases-reads) → Held ((star c.args.header c.args.centre.now c.args.neighbours.now)) (Side c.loop-side.side) c.args.header.block.subdivisions [] c.face_cases-reads.new.cases c.face_cases-reads.new.marks
+held : (c : After-face_cases-reads) → Held (star c.args.header c.args.centre.now c.args.neighbours.now) (Side c.loop-side.side) c.args.header.block.subdivisions [] c.face_cases-reads.new.cases c.face_cases-reads.new.marks
 held c =
     let centre = c.args.centre.now in
     record { numbers = c.face_cases-reads.ensures.cases centre; marked = c.face_cases-reads.ensures.marks centre }
@@ -47,8 +47,8 @@ loop-side-init c =
         cases_long = length-replicate {A = ℕ} sheet_places 0;
         marks_long = length-replicate {A = ℕ} sheet_places 0;
         same = same_self;
-        holds = rw (← transition_skip ((star c.args.header c.args.centre.now c.args.neighbours.now)) 0 _ next, transition_start) c.requires.holds;
-        read_to = read_first ((star c.args.header c.args.centre.now c.args.neighbours.now)) _ _ next c.requires.reads_bound;
+        holds = rw (← transition_skip (star c.args.header c.args.centre.now c.args.neighbours.now) 0 _ next, transition_start) c.requires.holds;
+        read_to = read_first (star c.args.header c.args.centre.now c.args.neighbours.now) _ _ next c.requires.reads_bound;
       },
     )
 
@@ -76,7 +76,7 @@ slice_bounds-write_sheet-end-in-loop-side-5 c = sym (still-long (goal.at.slice_b
 pub write_sheet-counts-requires : goal.write_sheet-counts-requires
 write_sheet-counts-requires c =
     let long = still-long (goal.at.write_sheet-counts-requires c).After-face_cases-reads in
-    let l = c.loop-side in record { tables = record { classes_are = c.transition_cell_class-classes.ensures; cells_are = c.transition_cell_data-cells.ensures; codes_are = c.transition_vertex_data-codes.ensures }; shaped = c.requires.shaped; sheeted = (held_sheeted ((star c.args.header c.args.centre.now c.args.neighbours.now)) (Side l.side) (held (goal.at.write_sheet-counts-requires c).After-face_cases-reads) c.requires.shaped.0.few long.0 long.1, held (goal.at.write_sheet-counts-requires c).After-face_cases-reads); sheet_in = (below (goal.at.write_sheet-counts-requires c).In-loop-side, l.invariant.1 (below (goal.at.write_sheet-counts-requires c).In-loop-side)); fits = fits_still l.invariant.2.same c.requires.fits; holds = l.invariant.2.holds }
+    let l = c.loop-side in record { tables = record { classes_are = c.transition_cell_class-classes.ensures; cells_are = c.transition_cell_data-cells.ensures; codes_are = c.transition_vertex_data-codes.ensures }; shaped = c.requires.shaped; sheeted = (held_sheeted (star c.args.header c.args.centre.now c.args.neighbours.now) (Side l.side) (held (goal.at.write_sheet-counts-requires c).After-face_cases-reads) c.requires.shaped.0.few long.0 long.1, held (goal.at.write_sheet-counts-requires c).After-face_cases-reads); sheet_in = (below (goal.at.write_sheet-counts-requires c).In-loop-side, l.invariant.1 (below (goal.at.write_sheet-counts-requires c).In-loop-side)); fits = fits_still l.invariant.2.same c.requires.fits; holds = l.invariant.2.holds }
 
 pub overflow_add-side : goal.overflow_add-side
 overflow_add-side c = omega (arith, c.loop-side-test.true)
@@ -123,4 +123,4 @@ pub returns : goal.returns
 returns c =
     let l = c.loop-side in
     let end : l.side ≡ side_count = omega arith in
-    record { holds_2 = rw (← transition_end ((star c.args.header c.args.centre.now c.args.neighbours.now)) l.side end) l.invariant.2.holds; reads = read_sides ((star c.args.header c.args.centre.now c.args.neighbours.now)) _ l.side l.reads end l.invariant.2.read_to }
+    record { holds_2 = rw (← transition_end (star c.args.header c.args.centre.now c.args.neighbours.now) l.side end) l.invariant.2.holds; reads = read_sides (star c.args.header c.args.centre.now c.args.neighbours.now) _ l.side l.reads end l.invariant.2.read_to }

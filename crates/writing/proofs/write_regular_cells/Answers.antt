@@ -24,7 +24,7 @@ still-long c =
     (c.layer_cases-reads.auto.cases ∙ before.cases_long, c.layer_cases-reads.auto.marks ∙ before.marks_long)
 
 -- they hold the layer
-held : (c : After-layer_cases-reads) → Held ((star c.args.header c.args.centre.now c.args.neighbours.now)) (Layer c.loop-x.x) c.args.header.block.subdivisions c.layer_cases-reads.new.cases [] c.layer_cases-reads.new.marks
+held : (c : After-layer_cases-reads) → Held (star c.args.header c.args.centre.now c.args.neighbours.now) (Layer c.loop-x.x) c.args.header.block.subdivisions c.layer_cases-reads.new.cases [] c.layer_cases-reads.new.marks
 held c =
     let neighbours = c.args.neighbours.now in
     record { numbers = c.layer_cases-reads.ensures.cases neighbours; marked = c.layer_cases-reads.ensures.marks neighbours }
@@ -42,8 +42,8 @@ loop-x-init c =
         cases_long = length-replicate {A = ℕ} sheet_places 0;
         marks_long = length-replicate {A = ℕ} sheet_places 0;
         same = same_self;
-        holds = holds_same (regular_skip ((star c.args.header c.args.centre.now c.args.neighbours.now)) summary c.requires.trusted 0 _ next) (holds_none ((star c.args.header c.args.centre.now c.args.neighbours.now)) c.requires.store_value);
-        read_to = read_none ((star c.args.header c.args.centre.now c.args.neighbours.now)) summary _ next;
+        holds = holds_same (regular_skip (star c.args.header c.args.centre.now c.args.neighbours.now) summary c.requires.trusted 0 _ next) (holds_none (star c.args.header c.args.centre.now c.args.neighbours.now) c.requires.store_value);
+        read_to = read_none (star c.args.header c.args.centre.now c.args.neighbours.now) summary _ next;
       },
     )
 
@@ -69,7 +69,7 @@ slice_bounds-write_sheet-end-in-loop-x-3 c = sym (still-long (goal.at.slice_boun
 pub write_sheet-counts-requires : goal.write_sheet-counts-requires
 write_sheet-counts-requires c =
     let long = still-long (goal.at.write_sheet-counts-requires c).After-layer_cases-reads in
-    let l = c.loop-x in record { tables = record { classes_are = c.regular_cell_class-classes.ensures; cells_are = c.regular_cell_data-cells.ensures; codes_are = c.regular_vertex_data-codes.ensures }; shaped = c.requires.shaped; sheeted = (held_sheeted ((star c.args.header c.args.centre.now c.args.neighbours.now)) (Layer l.x) (held (goal.at.write_sheet-counts-requires c).After-layer_cases-reads) c.requires.shaped.0.few long.0 long.1, held (goal.at.write_sheet-counts-requires c).After-layer_cases-reads); sheet_in = omega (arith, c.loop-x-test.true); fits = fits_still l.invariant.2.same c.requires.fits; holds = l.invariant.2.holds }
+    let l = c.loop-x in record { tables = record { classes_are = c.regular_cell_class-classes.ensures; cells_are = c.regular_cell_data-cells.ensures; codes_are = c.regular_vertex_data-codes.ensures }; shaped = c.requires.shaped; sheeted = (held_sheeted (star c.args.header c.args.centre.now c.args.neighbours.now) (Layer l.x) (held (goal.at.write_sheet-counts-requires c).After-layer_cases-reads) c.requires.shaped.0.few long.0 long.1, held (goal.at.write_sheet-counts-requires c).After-layer_cases-reads); sheet_in = omega (arith, c.loop-x-test.true); fits = fits_still l.invariant.2.same c.requires.fits; holds = l.invariant.2.holds }
 
 pub overflow_add-x : goal.overflow_add-x
 overflow_add-x c =
@@ -118,4 +118,4 @@ shape_of-edges c = c.loop-x.invariant.2.same.edges_same
 pub returns : goal.returns
 returns c =
     let l = c.loop-x in
-    let end : l.x ≡ c.args.header.block.subdivisions = omega (arith, l.invariant.0) in record { holds = rw (← regular_end ((star c.args.header c.args.centre.now c.args.neighbours.now)) l.x end) l.invariant.2.holds; reads = read_layers ((star c.args.header c.args.centre.now c.args.neighbours.now)) c.args.summary.now l.x l.reads end (omega (arith, c.requires.shaped.0.few)) l.invariant.2.read_to }
+    let end : l.x ≡ c.args.header.block.subdivisions = omega (arith, l.invariant.0) in record { holds = rw (← regular_end (star c.args.header c.args.centre.now c.args.neighbours.now) l.x end) l.invariant.2.holds; reads = read_layers (star c.args.header c.args.centre.now c.args.neighbours.now) c.args.summary.now l.x l.reads end (omega (arith, c.requires.shaped.0.few)) l.invariant.2.read_to }

@@ -25,7 +25,7 @@ ready : (c : In-loop-v) → let l = c.loop-v in let s = (star c.args.header c.ar
     Ready s (sheet_cell s c.args.sheet c.args.u l.v) (row_to (sheet_cell s c.args.sheet c.args.u) l.v (row_before s c.args.sheet c.args.u)) l.counts l.vertices l.triangles l.store l.edges
 ready c =
     let l = c.loop-v in
-    ready_at ((star c.args.header c.args.centre.now c.args.neighbours.now)) c.args.sheet c.args.u c.requires.u_lt_subdivisions.0 l.v (below c) c.requires.sheet_in
+    ready_at (star c.args.header c.args.centre.now c.args.neighbours.now) c.args.sheet c.args.u c.requires.u_lt_subdivisions.0 l.v (below c) c.requires.sheet_in
     (fits_still l.invariant.1.0 c.requires.fits) l.invariant.1.1
 
 pub overflow_mul-start : goal.overflow_mul-start
@@ -43,7 +43,7 @@ loop-v-init c =
       next.within,
       (
         same_self,
-        holds_skip ((star c.args.header c.args.centre.now c.args.neighbours.now)) c.args.sheet c.args.u row.0 c.requires.sheeted.1 0 _ next row.1,
+        holds_skip (star c.args.header c.args.centre.now c.args.neighbours.now) c.args.sheet c.args.u row.0 c.requires.sheeted.1 0 _ next row.1,
       ),
     )
 
@@ -59,7 +59,7 @@ write_sheet_cell-counts-requires c =
     let v_in = below (goal.at.write_sheet_cell-counts-requires c).In-loop-v in
     let u_in = c.requires.u_lt_subdivisions.0 in
     let shaped = c.requires.shaped in
-    let r = ready (goal.at.write_sheet_cell-counts-requires c).In-loop-v in record { tables = c.requires.tables; ready = cell_ready ((star c.args.header c.args.centre.now c.args.neighbours.now)) c.args.fractions.now shaped.0 shaped.1 c.args.sheet c.requires.sheet_in c.args.u v u_in v_in; case_value = c.number_at.ensures ∙ c.requires.sheeted.1.numbers.case_at c.args.u v u_in v_in; store_len = r.fits.store_fits; room = room_vertices r; room_2 = (room_triangles r, r.holds.read_so_far) }
+    let r = ready (goal.at.write_sheet_cell-counts-requires c).In-loop-v in record { tables = c.requires.tables; ready = cell_ready (star c.args.header c.args.centre.now c.args.neighbours.now) c.args.fractions.now shaped.0 shaped.1 c.args.sheet c.requires.sheet_in c.args.u v u_in v_in; case_value = c.number_at.ensures ∙ c.requires.sheeted.1.numbers.case_at c.args.u v u_in v_in; store_len = r.fits.store_fits; room = room_vertices r; room_2 = (room_triangles r, r.holds.read_so_far) }
 
 pub overflow_add-v : goal.overflow_add-v
 overflow_add-v c =
@@ -81,7 +81,7 @@ loop-v-preserved c =
       (
         same_then l.invariant.1.0
             record { vertices_same = omega (arith, c.write_sheet_cell-counts.auto); triangles_same = omega (arith, c.write_sheet_cell-counts.auto); store_same = omega (arith, c.write_sheet_cell-counts.auto); edges_same = omega (arith, c.write_sheet_cell-counts.auto) },
-        holds_on ((star c.args.header c.args.centre.now c.args.neighbours.now)) c.args.sheet c.args.u c.requires.u_lt_subdivisions.0 c.requires.sheeted.1 l.v _ next (holds_more (ready (goal.at.loop-v-preserved c).In-loop-v) _ _ _ _ _ c.write_sheet_cell-counts.ensures.cell_put c.write_sheet_cell-counts.ensures.edges),
+        holds_on (star c.args.header c.args.centre.now c.args.neighbours.now) c.args.sheet c.args.u c.requires.u_lt_subdivisions.0 c.requires.sheeted.1 l.v _ next (holds_more (ready (goal.at.loop-v-preserved c).In-loop-v) _ _ _ _ _ c.write_sheet_cell-counts.ensures.cell_put c.write_sheet_cell-counts.ensures.edges),
       ),
     )
 
@@ -100,4 +100,4 @@ shape_of-edges c = c.loop-v.invariant.1.0.edges_same
 pub returns : goal.returns
 returns c =
     let l = c.loop-v in
-    rw (row_done ((star c.args.header c.args.centre.now c.args.neighbours.now)) c.args.sheet c.args.u l.v (omega arith)) at l.invariant.1.1
+    rw (row_done (star c.args.header c.args.centre.now c.args.neighbours.now) c.args.sheet c.args.u l.v (omega arith)) at l.invariant.1.1

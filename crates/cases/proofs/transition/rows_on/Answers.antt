@@ -13,10 +13,10 @@ use Rattle.cases.proofs.transition.rows_on.Goals as goal
 use Rattle.cases.proofs.transition.rows_on.Goals.{In-loop-u}
 
 -- the row is one of the sheet's
-row_is : (c : In-loop-u) → c.args.at + (c.loop-u.u) < c.args.n
+row_is : (c : In-loop-u) → c.args.at + c.loop-u.u < c.args.n
 row_is c = omega (arith, c.loop-u-test.true, c.requires.n_le_most_subdivisions.1.0)
 
-row_within : (c : In-loop-u) → row_start c.args.n (c.args.at + (c.loop-u.u)) + c.args.n ≤ sheet_places
+row_within : (c : In-loop-u) → row_start c.args.n (c.args.at + c.loop-u.u) + c.args.n ≤ sheet_places
 row_within c = omega (arith, row_fits _ _ c.requires.n_le_most_subdivisions.0 (row_is c))
 
 pub loop-u-init : goal.loop-u-init
@@ -46,7 +46,7 @@ overflow_mul-start c = omega (arith, row_within (goal.at.overflow_mul-start c).I
 pub row_on-reads-requires : goal.row_on-reads-requires
 row_on-reads-requires c =
     let so_far = c.loop-u.invariant in
-    let within = row_within (goal.at.row_on-reads-requires c).In-loop-u in record { n_le_most_subdivisions = (c.requires.n_le_most_subdivisions.0, (omega (arith, within, so_far.cases_long), omega (arith, within, so_far.marks_long))); by_index = λ v2 h. rw c.lines_at-lines.ensures (c.requires.walked.lined (c.loop-u.u) v2 c.loop-u-test.true h) }
+    let within = row_within (goal.at.row_on-reads-requires c).In-loop-u in record { n_le_most_subdivisions = (c.requires.n_le_most_subdivisions.0, (omega (arith, within, so_far.cases_long), omega (arith, within, so_far.marks_long))); by_index = λ v2 h. rw c.lines_at-lines.ensures (c.requires.walked.lined c.loop-u.u v2 c.loop-u-test.true h) }
 
 pub overflow_add-reads : goal.overflow_add-reads
 overflow_add-reads c =
@@ -66,7 +66,7 @@ loop-u-preserved c =
     let next : a.at + c.loop-u.u + 1 ≡ a.at + (c.loop-u.u + 1) = omega arith in
     let number : (case : ℕ → ℕ → ℕ) → OnWalk case a.threshold a.fine.now a.n a.walk a.rows a.at → (v : ℕ) → v < a.n
     → nine_inside a.threshold a.fine.now c.lines_at-lines.result v ≡ case (a.at + c.loop-u.u) v =
-    λ case on v h. ap (λ (l : Lines). nine_inside a.threshold a.fine.now l v) lines ∙ on.number (c.loop-u.u) v c.loop-u-test.true h in
+    λ case on v h. ap (λ (l : Lines). nine_inside a.threshold a.fine.now l v) lines ∙ on.number c.loop-u.u v c.loop-u-test.true h in
     record {
       within = omega (arith, c.loop-u-test.true);
       cases_long = c.row_on-reads.auto.cases ∙ so_far.cases_long;

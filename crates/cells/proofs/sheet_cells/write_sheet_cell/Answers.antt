@@ -14,15 +14,15 @@ use Rattle.cells.proofs.sheet_cells.write_sheet_cell.Goals.{After-turned, Start}
 small : (b : Start) → b.args.case ≤ all_of b.args.sheet
 small b =
     let a = b.args in
-    omega (arith, b.requires.case_value, case_small ((star b.args.header b.args.centre.now b.args.neighbours.now)) a.sheet a.u a.v)
+    omega (arith, b.requires.case_value, case_small (star b.args.header b.args.centre.now b.args.neighbours.now) a.sheet a.u a.v)
 
 -- the rows that are lent describe the cell
 same : (r : After-turned) → let a = r.args in
-    cell_of ((star r.args.header r.args.centre.now r.args.neighbours.now)) r.cell_at.result r.case_codes.result.now r.case_cell.result.now r.turned.result
-    ≡ sheet_cell ((star r.args.header r.args.centre.now r.args.neighbours.now)) a.sheet a.u a.v
+    cell_of (star r.args.header r.args.centre.now r.args.neighbours.now) r.cell_at.result r.case_codes.result.now r.case_cell.result.now r.turned.result
+    ≡ sheet_cell (star r.args.header r.args.centre.now r.args.neighbours.now) a.sheet a.u a.v
 same r =
     let a = r.args in
-    sheet_is a.sheet a.case _ _ _ r.case_codes.ensures r.case_cell.ensures r.turned.ensures ((star r.args.header r.args.centre.now r.args.neighbours.now)) a.u a.v r.requires.case_value _
+    sheet_is a.sheet a.case _ _ _ r.case_codes.ensures r.case_cell.ensures r.turned.ensures (star r.args.header r.args.centre.now r.args.neighbours.now) a.u a.v r.requires.case_value _
     r.cell_at.ensures
 
 pub case_codes-requires : goal.case_codes-requires

@@ -8,12 +8,12 @@ use Rattle.grid.specs.SideLaws.{part_ends, neighbour_length_lem}
 use Rattle.grid.proofs.transition_sides.neighbour.Goals as goal
 use Rattle.grid.proofs.transition_sides.neighbour.Goals.{After-count_below}
 
-start_is : (c : After-count_below) → ((c.count_below.result * (c.sample_length-length.result))) ≡ named_below c.args.mask c.args.side * neighbour_length c.args.n
+start_is : (c : After-count_below) → (c.count_below.result * c.sample_length-length.result) ≡ named_below c.args.mask c.args.side * neighbour_length c.args.n
 start_is c = λ i. c.count_below.ensures i * c.sample_length-length.ensures i
 
-ends : (c : After-count_below) → ((c.count_below.result * (c.sample_length-length.result))) + (c.sample_length-length.result) ≤ length c.args.neighbours.now
+ends : (c : After-count_below) → (c.count_below.result * c.sample_length-length.result) + c.sample_length-length.result ≤ length c.args.neighbours.now
 ends c =
-    let size_is : (c.sample_length-length.result) ≡ neighbour_length c.args.n = c.sample_length-length.ensures in
+    let size_is : c.sample_length-length.result ≡ neighbour_length c.args.n = c.sample_length-length.ensures in
     omega (arith, (start_is c), part_ends c.args.n c.args.mask c.args.neighbours.now c.args.side c.requires)
 
 pub overflow_mul-start : goal.overflow_mul-start
@@ -32,6 +32,6 @@ pub returns : goal.returns
 unfolding neighbour_of
 returns c =
     let size_is : c.sample_length-length.result ≡ neighbour_length c.args.n = c.sample_length-length.ensures in
-    let width : (c.count_below.result * (c.sample_length-length.result)) + c.sample_length-length.result - (c.count_below.result * (c.sample_length-length.result)) ≡ neighbour_length c.args.n = omega arith in
-    let part : take ((c.count_below.result * (c.sample_length-length.result)) + c.sample_length-length.result - (c.count_below.result * (c.sample_length-length.result))) (drop ((c.count_below.result * (c.sample_length-length.result))) c.args.neighbours.now) ≡ neighbour_of c.args.n c.args.mask c.args.neighbours.now c.args.side = λ i. take (width i) (drop (start_is (goal.at.returns c).After-count_below i) c.args.neighbours.now) in
+    let width : (c.count_below.result * c.sample_length-length.result) + c.sample_length-length.result - (c.count_below.result * c.sample_length-length.result) ≡ neighbour_length c.args.n = omega arith in
+    let part : take ((c.count_below.result * c.sample_length-length.result) + c.sample_length-length.result - (c.count_below.result * c.sample_length-length.result)) (drop (c.count_below.result * c.sample_length-length.result) c.args.neighbours.now) ≡ neighbour_of c.args.n c.args.mask c.args.neighbours.now c.args.side = λ i. take (width i) (drop (start_is (goal.at.returns c).After-count_below i) c.args.neighbours.now) in
     (part, ap length part ∙ neighbour_length_lem c.args.n c.args.mask c.args.neighbours.now c.args.side c.requires)

@@ -18,8 +18,8 @@ passed c =
     read_passed a.n (length a.samples.now) (sym c.judge_block-verdict.ensures ∙ c.in-Passed.is)
 
 abbrev answer : (c : Start) → Verdict → PointRead
-answer c v = point_answer v ((let a = c.args in
-    reading_at a.n a.samples.now (one_up a.n a.x) (one_up a.n a.y) (one_up a.n a.z)))
+answer c v = point_answer v (let a = c.args in
+    reading_at a.n a.samples.now (one_up a.n a.x) (one_up a.n a.y) (one_up a.n a.z))
 
 -- a signed argument reaches the callee as its bits, and `to_z-of_z` reads the number back
 reads : (c : After-reading) → c.reading.result ≡ (let a = c.args in

@@ -9,9 +9,9 @@ use Rattle.layers.proofs.judging.is_passed_over.Goals as goal
 use Rattle.layers.proofs.judging.is_passed_over.Goals.{After-is_marked}
 
 abbrev over : (c : After-is_marked) → Bool → Bool
-over c b = not b && one_sided c.args.threshold ((entry_of c.args.summary.now c.args.x))
+over c b = not b && one_sided c.args.threshold (entry_of c.args.summary.now c.args.x)
 
-is-told : (c : After-is_marked) → (b : Bool) → c.is_marked.result ≡ b → marked ((entry_of c.args.summary.now c.args.x)) ≡ b
+is-told : (c : After-is_marked) → (b : Bool) → c.is_marked.result ≡ b → marked (entry_of c.args.summary.now c.args.x) ≡ b
 is-told c b = mark_told c.entry-told.ensures c.is_marked.ensures
 
 pub returns-then-is_marked : goal.returns-then-is_marked

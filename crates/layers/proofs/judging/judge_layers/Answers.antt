@@ -17,11 +17,11 @@ use Rattle.layers.proofs.judging.judge_layers.Goals.{After-layer_stands}
 abbrev spot_of : ℕ → List Float → List Float → ℕ → Verdict
 spot_of n samples summary x = unless (layer_stands n samples summary x) (LayerDiffers x)
 
-so_far : (c : After-layer_stands) → first ((spot_of c.args.n c.args.samples.now c.args.summary.now)) (c.loop-x.x) ≡ Passed
+so_far : (c : After-layer_stands) → first (spot_of c.args.n c.args.samples.now c.args.summary.now) c.loop-x.x ≡ Passed
 so_far c = c.loop-x.invariant.1
 
-judged : (c : After-layer_stands) → (b : Bool) → c.layer_stands.result ≡ b → ((spot_of c.args.n c.args.samples.now c.args.summary.now)) (c.loop-x.x) ≡ unless b (LayerDiffers (c.loop-x.x))
-judged c b e = ap (λ (b : Bool). unless b (LayerDiffers (c.loop-x.x))) (sym c.layer_stands.ensures ∙ e)
+judged : (c : After-layer_stands) → (b : Bool) → c.layer_stands.result ≡ b → (spot_of c.args.n c.args.samples.now c.args.summary.now) c.loop-x.x ≡ unless b (LayerDiffers c.loop-x.x)
+judged c b e = ap (λ (b : Bool). unless b (LayerDiffers c.loop-x.x)) (sym c.layer_stands.ensures ∙ e)
 
 pub loop-x-init : goal.loop-x-init
 loop-x-init c = (omega arith, refl)
@@ -34,7 +34,7 @@ layer_stands-requires c =
 pub returns-then-not-layer_stands : goal.returns-then-not-layer_stands
 unfolding judge_layers
 returns-then-not-layer_stands c =
-    sym (hit ((spot_of c.args.n c.args.samples.now c.args.summary.now)) (c.loop-x.x) c.args.n _ (so_far (goal.at.returns-then-not-layer_stands c).After-layer_stands) (judged (goal.at.returns-then-not-layer_stands c).After-layer_stands false (c.if-not-layer_stands.true)) (omega arith))
+    sym (hit (spot_of c.args.n c.args.samples.now c.args.summary.now) c.loop-x.x c.args.n _ (so_far (goal.at.returns-then-not-layer_stands c).After-layer_stands) (judged (goal.at.returns-then-not-layer_stands c).After-layer_stands false c.if-not-layer_stands.true) (omega arith))
 
 pub overflow_step-x : goal.overflow_step-x
 overflow_step-x c = omega arith
@@ -44,7 +44,7 @@ loop-x-smaller c = omega arith
 
 pub loop-x-preserved : goal.loop-x-preserved
 loop-x-preserved c =
-    (omega arith, not_yet ((spot_of c.args.n c.args.samples.now c.args.summary.now)) (c.loop-x.x) (so_far (goal.at.loop-x-preserved c).After-layer_stands) (judged (goal.at.loop-x-preserved c).After-layer_stands true (c.if-not-layer_stands.false)))
+    (omega arith, not_yet (spot_of c.args.n c.args.samples.now c.args.summary.now) c.loop-x.x (so_far (goal.at.loop-x-preserved c).After-layer_stands) (judged (goal.at.loop-x-preserved c).After-layer_stands true c.if-not-layer_stands.false))
 
 pub returns : goal.returns
 unfolding judge_layers

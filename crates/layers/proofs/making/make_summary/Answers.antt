@@ -8,11 +8,11 @@ use Rattle.layers.specs.Passing.{Makeable, makeable}
 use Rattle.layers.proofs.making.make_summary.Goals as goal
 use Rattle.layers.proofs.making.make_summary.Goals.{In_default}
 
-passed : (c : In_default) → judge_making c.args.n (c.args.samples.now) (length (c.args.summary.now)) ≡ Passed
+passed : (c : In_default) → judge_making c.args.n c.args.samples.now (length c.args.summary.now) ≡ Passed
 passed c = sym c.judge_making-verdict.ensures ∙ c.in_default.is
 
-is-makeable : (c : In_default) → Makeable c.args.n (c.args.samples.now) (length (c.args.summary.now))
-is-makeable c = makeable c.args.n (c.args.samples.now) (length (c.args.summary.now)) (passed c)
+is-makeable : (c : In_default) → Makeable c.args.n c.args.samples.now (length c.args.summary.now)
+is-makeable c = makeable c.args.n c.args.samples.now (length c.args.summary.now) (passed c)
 
 pub returns-in-Refused : goal.returns-in-Refused
 unfolding make_summary
@@ -29,4 +29,4 @@ pub returns : goal.returns
 unfolding make_summary
 returns c =
     (λ i. record { answer = Passed; summary = c.put_layers.ensures i })
-    ∙ sym (ap (make_answer c.args.n (c.args.samples.now) (c.args.summary.now)) (passed (goal.at.returns c).In_default))
+    ∙ sym (ap (make_answer c.args.n c.args.samples.now c.args.summary.now) (passed (goal.at.returns c).In_default))

@@ -13,14 +13,14 @@ use Rattle.record.specs.ReadingOrder.{buffer_holds}
 use Rattle.record.proofs.reader.read_record.Goals as goal
 use Rattle.record.proofs.reader.read_record.Goals.{In_default}
 
-passed : (c : In_default) → or_else (judge_record (c.args.bytes.now)) (judge_buffer (count_of (c.args.bytes.now)) (length (c.args.samples.now))) ≡ Passed
+passed : (c : In_default) → or_else (judge_record c.args.bytes.now) (judge_buffer (count_of c.args.bytes.now) (length c.args.samples.now)) ≡ Passed
 passed c = sym c.judge_reading-verdict.ensures ∙ c.in_default.is
 
-is-accepted : (c : In_default) → Accepted (c.args.bytes.now)
-is-accepted c = accepted (c.args.bytes.now) (both_passed (judge_record (c.args.bytes.now)) _ (passed c)).0
+is-accepted : (c : In_default) → Accepted c.args.bytes.now
+is-accepted c = accepted c.args.bytes.now (both_passed (judge_record c.args.bytes.now) _ (passed c)).0
 
-room : (c : In_default) → count_of (c.args.bytes.now) ≤ length (c.args.samples.now)
-room c = buffer_holds (count_of (c.args.bytes.now)) (length (c.args.samples.now)) (both_passed (judge_record (c.args.bytes.now)) _ (passed c)).1
+room : (c : In_default) → count_of c.args.bytes.now ≤ length c.args.samples.now
+room c = buffer_holds (count_of c.args.bytes.now) (length c.args.samples.now) (both_passed (judge_record c.args.bytes.now) _ (passed c)).1
 
 pub returns-in-Refused : goal.returns-in-Refused
 unfolding read_record
@@ -38,4 +38,4 @@ pub returns : goal.returns
 unfolding read_record
 returns c =
     (λ i. record { answer = RecordRead.Block (c.header_of.ensures i); samples = c.fill_samples.ensures i })
-    ∙ sym (ap (read_answer (c.args.bytes.now) (c.args.samples.now)) (passed (goal.at.returns c).In_default))
+    ∙ sym (ap (read_answer c.args.bytes.now c.args.samples.now) (passed (goal.at.returns c).In_default))

@@ -10,8 +10,8 @@ use Rattle.record.specs.Writable.{writable}
 use Rattle.record.proofs.writer.judge_writing.Goals as goal
 use Rattle.record.proofs.writer.judge_writing.Goals.{In_default}
 
-passed : (c : In_default) → judge_star ((let args = c.args in
-    star args.header args.centre.now args.neighbours.now)) ≡ Passed
+passed : (c : In_default) → judge_star (let args = c.args in
+    star args.header args.centre.now args.neighbours.now) ≡ Passed
 passed c = sym c.judge_star-whole.ensures ∙ c.in_default.is
 
 pub returns-in-Refused : goal.returns-in-Refused

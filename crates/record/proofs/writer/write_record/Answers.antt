@@ -21,16 +21,16 @@ use Rattle.record.specs.Writable.{Writable, writable}
 use Rattle.record.proofs.writer.write_record.Goals as goal
 use Rattle.record.proofs.writer.write_record.Goals.{In_default}
 
-passed : (c : In_default) → or_else ((judge_star (star (c.args.header) (c.args.centre.now) (c.args.neighbours.now)))) (judge_buffer (sample_from (length ((c.args.centre.now) ++ (c.args.neighbours.now)))) (length (c.args.bytes.now))) ≡ Passed
+passed : (c : In_default) → or_else (judge_star (star c.args.header c.args.centre.now c.args.neighbours.now)) (judge_buffer (sample_from (length (c.args.centre.now ++ c.args.neighbours.now))) (length c.args.bytes.now)) ≡ Passed
 passed c = sym c.judge_writing-verdict.ensures ∙ c.in_default.is
 
-is-writable : (c : In_default) → Writable (c.args.header) (c.args.centre.now) (c.args.neighbours.now)
-is-writable c = writable (c.args.header) (c.args.centre.now) (c.args.neighbours.now) (both_passed ((judge_star (star (c.args.header) (c.args.centre.now) (c.args.neighbours.now)))) _ (passed c)).0
+is-writable : (c : In_default) → Writable c.args.header c.args.centre.now c.args.neighbours.now
+is-writable c = writable c.args.header c.args.centre.now c.args.neighbours.now (both_passed (judge_star (star c.args.header c.args.centre.now c.args.neighbours.now)) _ (passed c)).0
 
-room : (c : In_default) → sample_from (length (c.args.centre.now) + length (c.args.neighbours.now)) ≤ length (c.args.bytes.now)
+room : (c : In_default) → sample_from (length c.args.centre.now + length c.args.neighbours.now) ≤ length c.args.bytes.now
 room c =
     rw length-append at
-    (buffer_holds (sample_from (length ((c.args.centre.now) ++ (c.args.neighbours.now)))) (length (c.args.bytes.now)) (both_passed ((judge_star (star (c.args.header) (c.args.centre.now) (c.args.neighbours.now)))) _ (passed c)).1)
+    (buffer_holds (sample_from (length (c.args.centre.now ++ c.args.neighbours.now))) (length c.args.bytes.now) (both_passed (judge_star (star c.args.header c.args.centre.now c.args.neighbours.now)) _ (passed c)).1)
 
 pub returns-in-Refused : goal.returns-in-Refused
 unfolding write_record
@@ -62,10 +62,10 @@ unfolding write_record
 returns c =
     let c' = c.args.centre.now in
     let n' = c.args.neighbours.now in
-    let put : c.put_floats-2.new.bytes ≡ laid (record_of (c.args.header) (c' ++ n')) (c.args.bytes.now) =
+    let put : c.put_floats-2.new.bytes ≡ laid (record_of c.args.header (c' ++ n')) c.args.bytes.now =
     c.put_floats-2.ensures
     ∙ (λ i. sets (c.put_floats.ensures i) (c.sample_from-2.ensures i) (each float_bytes n'))
     ∙ (λ i. sets (sets (c.put_header.ensures i) (c.sample_from.ensures i) (each float_bytes c')) (sample_from (length c')) (each float_bytes n'))
-    ∙ parts_laid (c.args.header) c' n' (c.args.bytes.now) (room (goal.at.returns c).In_default) in
+    ∙ parts_laid c.args.header c' n' c.args.bytes.now (room (goal.at.returns c).In_default) in
     (λ i. record { answer = RecordWritten.Bytes ((c.sample_from-3.ensures ∙ ap sample_from (sym (length-append c' n'))) i); bytes = put i })
-    ∙ sym (ap (write_answer (c.args.header) (c' ++ n') (c.args.bytes.now)) (passed (goal.at.returns c).In_default))
+    ∙ sym (ap (write_answer c.args.header (c' ++ n') c.args.bytes.now) (passed (goal.at.returns c).In_default))

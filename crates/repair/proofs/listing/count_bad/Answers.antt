@@ -19,10 +19,10 @@ loop-place-preserved c = (
   omega arith,
   (
     omega (arith, c.count_found-bad.ensures.1),
-    count_turn ((filler_at c.args.list c.args.filler c.args.bits.now)) c.loop-place.invariant.1.1 c.count_found-bad.ensures.0 c.filler_at.ensures,
+    count_turn (filler_at c.args.list c.args.filler c.args.bits.now) c.loop-place.invariant.1.1 c.count_found-bad.ensures.0 c.filler_at.ensures,
   ),
 )
 
 pub returns : goal.returns
 returns c = let all : c.loop-place.place ≡ length c.args.bits.now = omega arith in
-    (c.loop-place.invariant.1.1 ∙ ap (λ (k : ℕ). length (gather ((filler_at c.args.list c.args.filler c.args.bits.now)) k)) all, omega arith)
+    (c.loop-place.invariant.1.1 ∙ ap (λ (k : ℕ). length (gather (filler_at c.args.list c.args.filler c.args.bits.now) k)) all, omega arith)

@@ -9,10 +9,10 @@ use Rattle.repair.specs.Faces.{centre_small, neighbours_small}
 use Rattle.repair.proofs.listing.count_changes.Goals as goal
 
 pub count_bad-requires : goal.count_bad-requires
-count_bad-requires c = centre_small c.args.header ((delivery c.args.centre.now c.args.neighbours.now)) c.requires
+count_bad-requires c = centre_small c.args.header (delivery c.args.centre.now c.args.neighbours.now) c.requires
 
 pub count_bad-requires-2 : goal.count_bad-requires-2
-count_bad-requires-2 c = neighbours_small c.args.header ((delivery c.args.centre.now c.args.neighbours.now)) c.requires
+count_bad-requires-2 c = neighbours_small c.args.header (delivery c.args.centre.now c.args.neighbours.now) c.requires
 
 pub overflow_add-result : goal.overflow_add-result
 overflow_add-result c = omega (
@@ -25,4 +25,4 @@ overflow_add-result c = omega (
 
 pub returns : goal.returns
 returns c = (λ i. c.count_bad.ensures.0 i + c.count_bad-2.ensures.0 i + c.count_mismatches.ensures.0 i)
-    ∙ sym (changes_long c.args.header c.args.filler ((delivery c.args.centre.now c.args.neighbours.now)))
+    ∙ sym (changes_long c.args.header c.args.filler (delivery c.args.centre.now c.args.neighbours.now))

@@ -27,13 +27,13 @@ loop-k-preserved c = (
   omega (arith, c.spot_count-k-end.ensures),
   (
     omega (arith, c.count_found-count.ensures.1),
-    count_turn ((mismatch_spot c.args.header ((filled_in c.args.filler (delivery c.args.centre.now c.args.neighbours.now))))) c.loop-k.invariant.1.1 c.count_found-count.ensures.0 c.mismatch_at.ensures,
+    count_turn (mismatch_spot c.args.header (filled_in c.args.filler (delivery c.args.centre.now c.args.neighbours.now))) c.loop-k.invariant.1.1 c.count_found-count.ensures.0 c.mismatch_at.ensures,
   ),
 )
 
 pub returns : goal.returns
 returns c = let header = c.args.header in
     let all : c.loop-k.k ≡ spot_count header.block.subdivisions = omega (arith, c.spot_count-k-end.ensures) in (
-      c.loop-k.invariant.1.1 ∙ ap (λ (k : ℕ). length (gather ((mismatch_spot c.args.header ((filled_in c.args.filler (delivery c.args.centre.now c.args.neighbours.now))))) k)) all ∙ ap length (sym (in_one_row header ((filled_in c.args.filler (delivery c.args.centre.now c.args.neighbours.now))))),
+      c.loop-k.invariant.1.1 ∙ ap (λ (k : ℕ). length (gather (mismatch_spot c.args.header (filled_in c.args.filler (delivery c.args.centre.now c.args.neighbours.now))) k)) all ∙ ap length (sym (in_one_row header (filled_in c.args.filler (delivery c.args.centre.now c.args.neighbours.now)))),
       omega arith,
     )

@@ -13,11 +13,11 @@ loop-place-init c = (omega arith, (refl, put_none _ _))
 
 pub put_found-at-requires : goal.put_found-at-requires
 put_found-at-requires c = let a = c.args in
-    room_for ((filler_at c.args.list c.args.filler c.args.bits.now)) a.from (length a.bits.now) c.loop-place.place _ (omega arith)
+    room_for (filler_at c.args.list c.args.filler c.args.bits.now) a.from (length a.bits.now) c.loop-place.place _ (omega arith)
     c.loop-place.invariant.1.1.next_is c.filler_at.ensures (omega (arith, c.requires.1))
 
 pub loop-place-preserved : goal.loop-place-preserved
-loop-place-preserved c = let put = put_turn ((filler_at c.args.list c.args.filler c.args.bits.now)) c.args.from c.loop-place.invariant.1.1 c.put_found-at.ensures c.filler_at.ensures in
+loop-place-preserved c = let put = put_turn (filler_at c.args.list c.args.filler c.args.bits.now) c.args.from c.loop-place.invariant.1.1 c.put_found-at.ensures c.filler_at.ensures in
     (omega arith, (length_put put, put))
 
 pub shape_of-changes : goal.shape_of-changes
@@ -26,4 +26,4 @@ shape_of-changes c = c.loop-place.invariant.1.0
 pub returns : goal.returns
 returns c = let a = c.args in
     let all : c.loop-place.place ≡ length a.bits.now = omega arith in
-    subst (λ (k : ℕ). Put a.changes.now a.from (gather ((filler_at c.args.list c.args.filler c.args.bits.now)) k) c.loop-place.at c.loop-place.changes) all c.loop-place.invariant.1.1
+    subst (λ (k : ℕ). Put a.changes.now a.from (gather (filler_at c.args.list c.args.filler c.args.bits.now) k) c.loop-place.at c.loop-place.changes) all c.loop-place.invariant.1.1

@@ -20,14 +20,14 @@ mismatch_at-requires c = (c.requires.shaped, omega (arith, c.spot_count-k-end.en
 
 pub put_found-at-requires : goal.put_found-at-requires
 put_found-at-requires c = let a = c.args in
-    room_for ((mismatch_spot c.args.header ((filled_in c.args.filler (delivery c.args.centre.now c.args.neighbours.now))))) a.from (spot_count a.header.block.subdivisions) c.loop-k.k _ (omega (arith, c.spot_count-k-end.ensures))
-    c.loop-k.invariant.1.1.next_is c.mismatch_at.ensures (omega (arith, c.requires.neighbours_in_bounds, ap (λ (l : List Change). length l) (in_one_row a.header ((filled_in c.args.filler (delivery c.args.centre.now c.args.neighbours.now))))))
+    room_for (mismatch_spot c.args.header (filled_in c.args.filler (delivery c.args.centre.now c.args.neighbours.now))) a.from (spot_count a.header.block.subdivisions) c.loop-k.k _ (omega (arith, c.spot_count-k-end.ensures))
+    c.loop-k.invariant.1.1.next_is c.mismatch_at.ensures (omega (arith, c.requires.neighbours_in_bounds, ap (λ (l : List Change). length l) (in_one_row a.header (filled_in c.args.filler (delivery c.args.centre.now c.args.neighbours.now)))))
 
 pub loop-k-smaller : goal.loop-k-smaller
 loop-k-smaller c = omega (arith, c.spot_count-k-end.ensures)
 
 pub loop-k-preserved : goal.loop-k-preserved
-loop-k-preserved c = let put = put_turn ((mismatch_spot c.args.header ((filled_in c.args.filler (delivery c.args.centre.now c.args.neighbours.now))))) c.args.from c.loop-k.invariant.1.1 c.put_found-at.ensures c.mismatch_at.ensures in
+loop-k-preserved c = let put = put_turn (mismatch_spot c.args.header (filled_in c.args.filler (delivery c.args.centre.now c.args.neighbours.now))) c.args.from c.loop-k.invariant.1.1 c.put_found-at.ensures c.mismatch_at.ensures in
     (omega (arith, c.spot_count-k-end.ensures), (length_put put, put))
 
 pub shape_of-changes : goal.shape_of-changes
@@ -37,4 +37,4 @@ pub returns : goal.returns
 returns c = let a = c.args in
     let all : c.loop-k.k ≡ spot_count a.header.block.subdivisions = omega (arith, c.spot_count-k-end.ensures) in
     subst (λ (l : List Change). Put a.changes.now a.from l c.loop-k.at c.loop-k.changes)
-    (ap (gather ((mismatch_spot c.args.header ((filled_in c.args.filler (delivery c.args.centre.now c.args.neighbours.now)))))) all ∙ sym (in_one_row a.header ((filled_in c.args.filler (delivery c.args.centre.now c.args.neighbours.now))))) c.loop-k.invariant.1.1
+    (ap (gather (mismatch_spot c.args.header (filled_in c.args.filler (delivery c.args.centre.now c.args.neighbours.now)))) all ∙ sym (in_one_row a.header (filled_in c.args.filler (delivery c.args.centre.now c.args.neighbours.now)))) c.loop-k.invariant.1.1

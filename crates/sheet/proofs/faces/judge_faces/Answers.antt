@@ -16,9 +16,9 @@ few_sides : (e : Start) → e.args.header.mask ≤ most_mask
 few_sides e = rw e.requires.1 e.requires.0.sides
 
 -- what is judged of a side is what the definition says of it
-told : (c : After-judge_side-face) → c.judge_side-face.result ≡ side_judged c.args.src.now (c.loop-side.side)
+told : (c : After-judge_side-face) → c.judge_side-face.result ≡ side_judged c.args.src.now c.loop-side.side
 told c =
-    c.judge_side-face.ensures ∙ ap (λ (h : Header). face_side (star_of c.args.src.now) (c.loop-side.side) (h.block.subdivisions + 1)) c.requires.1
+    c.judge_side-face.ensures ∙ ap (λ (h : Header). face_side (star_of c.args.src.now) c.loop-side.side (h.block.subdivisions + 1)) c.requires.1
 
 pub next_side-side-requires : goal.next_side-side-requires
 next_side-side-requires c = (few_sides (goal.at.next_side-side-requires c).Start, omega arith)
@@ -29,7 +29,7 @@ loop-side-init c = start_at _ _ c.next_side-side.ensures
 pub judge_side-face-requires : goal.judge_side-face-requires
 judge_side-face-requires c =
     let below = c.loop-side-test.true in
-    (c.requires.0, (c.requires.1, side_of c.args.src.now c.requires.0 c.args.header c.requires.1 (c.loop-side.side) below (c.loop-side.invariant.is_named below)))
+    (c.requires.0, (c.requires.1, side_of c.args.src.now c.requires.0 c.args.header c.requires.1 c.loop-side.side below (c.loop-side.invariant.is_named below)))
 
 pub returns-in-Refused : goal.returns-in-Refused
 returns-in-Refused c =

@@ -21,11 +21,11 @@ few : (e : Start) → (e.args.n + 1) * (e.args.n + 1) ≤ plane_places
 few e = layer_fits e.args.n (omega (arith, e.requires.accepted.0.few, e.requires.accepted.1))
 
 -- the sample is one of the record's
-there : (c : In-loop-k) → (c.in_block-first.result) + (c.loop-k.k) < count_of c.args.src.now
+there : (c : In-loop-k) → c.in_block-first.result + c.loop-k.k < count_of c.args.src.now
 there c =
     let n_is = c.requires.accepted.1 in
-    let in_plane = subst (λ (n : ℕ). (c.loop-k.k) < (n + 1) * (n + 1)) n_is c.loop-k-test.true in
-    let placed = plane_in c.args.src.now c.args.x (omega arith) (c.loop-k.k) in_plane in
+    let in_plane = subst (λ (n : ℕ). c.loop-k.k < (n + 1) * (n + 1)) n_is c.loop-k-test.true in
+    let placed = plane_in c.args.src.now c.args.x (omega arith) c.loop-k.k in_plane in
     omega (arith, placed, c.in_block-first.ensures.0 ∙ ap (λ (n : ℕ). in_block n c.args.x 0 0) n_is)
 
 pub in_block-first-requires : goal.in_block-first-requires
@@ -58,7 +58,7 @@ loop-k-preserved c =
       omega (arith, c.loop-k-test.true),
       (
         length-set turn.plane turn.k c.sample_of.result ∙ turn.invariant.1.0,
-        one_filled (sample c.args.src.now (c.in_block-first.result)) turn.k turn.plane c.sample_of.result
+        one_filled (sample c.args.src.now c.in_block-first.result) turn.k turn.plane c.sample_of.result
             (omega (arith, c.loop-k-test.true, few (goal.at.loop-k-preserved c).Start, c.requires.x_le_n.1)) c.sample_of.ensures turn.invariant.1.1,
       ),
     )

@@ -16,16 +16,16 @@ use Rattle.sheet.proofs.CellCounts.{sides_start, sides_more}
 use Rattle.sheet.proofs.sides.count_named_sides.Goals as goal
 use Rattle.sheet.proofs.sides.count_named_sides.Goals.{After-face_cases, Start}
 
-mask_is : (e : Start) → ((star_of e.args.src.now)).mask ≡ (e.args.header).mask
+mask_is : (e : Start) → (star_of e.args.src.now).mask ≡ e.args.header.mask
 mask_is e = ap (λ (g : Header). g.mask) (sym e.requires.1)
 
-subdivisions_are : (e : Start) → (header_of e.args.src.now).block.subdivisions ≡ (e.args.header).block.subdivisions
+subdivisions_are : (e : Start) → (header_of e.args.src.now).block.subdivisions ≡ e.args.header.block.subdivisions
 subdivisions_are e = ap (λ (g : Header). g.block.subdivisions) (sym e.requires.1)
 
-sides : (e : Start) → (e.args.header).mask ≤ most_mask
+sides : (e : Start) → e.args.header.mask ≤ most_mask
 sides e = omega (arith, e.requires.0.sides, (mask_is e))
 
-n-few : (e : Start) → (e.args.header).block.subdivisions ≤ most_subdivisions
+n-few : (e : Start) → e.args.header.block.subdivisions ≤ most_subdivisions
 n-few e = omega (arith, e.requires.0.few, (subdivisions_are e))
 
 still-long : (c : After-face_cases) → (length c.face_cases.new.cases ≡ sheet_places) × (length c.face_cases.new.marks ≡ sheet_places)
@@ -42,7 +42,7 @@ loop-side-init c =
       (next.le_six, next.is_named),
       (
         (length-replicate {A = ℕ} sheet_places 0, length-replicate {A = ℕ} sheet_places 0),
-        (record { vertices = omega arith; triangles = omega arith }, sides_start ((star_of c.args.src.now)) c.next_side-side.result (rw (mask_is (goal.at.loop-side-init c).Start) next)),
+        (record { vertices = omega arith; triangles = omega arith }, sides_start (star_of c.args.src.now) c.next_side-side.result (rw (mask_is (goal.at.loop-side-init c).Start) next)),
       ),
     )
 
@@ -73,7 +73,7 @@ slice_bounds-count_sheet-end-in-loop-side-5 c = sym (still-long (goal.at.slice_b
 
 pub count_sheet-more-requires : goal.count_sheet-more-requires
 count_sheet-more-requires c =
-    let long = still-long (goal.at.count_sheet-more-requires c).After-face_cases in record { tables = record { classes_are = c.transition_cell_class-classes.ensures; cells_are = c.transition_cell_data-cells.ensures; codes_are = c.transition_vertex_data-codes.ensures }; sheeted = held_sheeted ((star_of c.args.src.now)) (Side (c.loop-side.side)) c.face_cases.ensures (n-few (goal.at.count_sheet-more-requires c).Start) long.0 long.1 }
+    let long = still-long (goal.at.count_sheet-more-requires c).After-face_cases in record { tables = record { classes_are = c.transition_cell_class-classes.ensures; cells_are = c.transition_cell_data-cells.ensures; codes_are = c.transition_vertex_data-codes.ensures }; sheeted = held_sheeted (star_of c.args.src.now) (Side c.loop-side.side) c.face_cases.ensures (n-few (goal.at.count_sheet-more-requires c).Start) long.0 long.1 }
 
 pub plus-counts-requires : goal.plus-counts-requires
 plus-counts-requires c =
@@ -98,7 +98,7 @@ loop-side-preserved c =
     let so_far = l.invariant.1.1 in
     let next = c.next_side-side-in-loop-side.ensures in
     let taken = c.loop-side-test.true in
-    let is_named : named ((star_of c.args.src.now)).mask (c.loop-side.side) ≡ true = rw (mask_is (goal.at.loop-side-preserved c).Start) (l.invariant.0.1 taken) in (
+    let is_named : named (star_of c.args.src.now).mask c.loop-side.side ≡ true = rw (mask_is (goal.at.loop-side-preserved c).Start) (l.invariant.0.1 taken) in (
       (next.le_six, next.is_named),
       (
         still-long (goal.at.loop-side-preserved c).After-face_cases,
@@ -107,8 +107,8 @@ loop-side-preserved c =
             vertices = omega (arith, next.from_le, so_far.0.vertices, c.count_sheet-more.ensures.few.vertices);
             triangles = omega (arith, next.from_le, so_far.0.triangles, c.count_sheet-more.ensures.few.triangles);
           },
-          sides_more ((star_of c.args.src.now)) (c.loop-side.side) c.next_side-side-in-loop-side.result l.counts c.count_sheet-more.result
-              (c.count_sheet-more.ensures.grows ((star_of c.args.src.now)) (subdivisions_are (goal.at.loop-side-preserved c).Start) (taken, is_named) c.face_cases.ensures)
+          sides_more (star_of c.args.src.now) c.loop-side.side c.next_side-side-in-loop-side.result l.counts c.count_sheet-more.result
+              (c.count_sheet-more.ensures.grows (star_of c.args.src.now) (subdivisions_are (goal.at.loop-side-preserved c).Start) (taken, is_named) c.face_cases.ensures)
               (rw (mask_is (goal.at.loop-side-preserved c).Start) next)
               so_far.1,
         ),

@@ -25,9 +25,9 @@ lined : (e : Start) → ThreeLined e.args.src.now e.args.header e.args.side e.ar
 lined e = three_lined e.args.src.now e.args.side e.args.u e.args.header e.requires.accepted.1.0 e.requires.accepted.1.1 e.requires.u_lt_subdivisions.0
 
 -- its line ends among the three
-ends-in : (c : In-loop-i) → (2 * c.args.header.block.subdivisions + 1) * (c.loop-i.i) + (2 * c.args.header.block.subdivisions + 1) ≤ length c.args.samples.now
+ends-in : (c : In-loop-i) → (2 * c.args.header.block.subdivisions + 1) * c.loop-i.i + (2 * c.args.header.block.subdivisions + 1) ≤ length c.args.samples.now
 ends-in c =
-    let most : (2 * c.args.header.block.subdivisions + 1) * (c.loop-i.i) ≤ (2 * c.args.header.block.subdivisions + 1) * 2 = mul-le-mul_left ((2 * c.args.header.block.subdivisions + 1)) (omega (arith, c.loop-i-test.true)) in
+    let most : (2 * c.args.header.block.subdivisions + 1) * c.loop-i.i ≤ (2 * c.args.header.block.subdivisions + 1) * 2 = mul-le-mul_left (2 * c.args.header.block.subdivisions + 1) (omega (arith, c.loop-i-test.true)) in
     omega (arith, most, c.requires.u_lt_subdivisions.1, c.requires.accepted.1.1.few)
 
 pub loop-i-init : goal.loop-i-init
@@ -51,7 +51,7 @@ fill_line-requires c = record {
   accepted = (
     c.requires.accepted.0,
     subst (λ (l : Line). (k : ℕ) → k < l.points → OnLine (count_of c.args.src.now) l k) (sym c.fine_line-line.ensures)
-        ((lined (goal.at.fill_line-requires c).Start).on_line (c.loop-i.i) c.loop-i-test.true),
+        ((lined (goal.at.fill_line-requires c).Start).on_line c.loop-i.i c.loop-i-test.true),
   );
   points_in_bounds = rw c.fine_line-line.ensures (omega (arith, ends-in (goal.at.fill_line-requires c).In-loop-i, c.loop-i.invariant.1));
 }
@@ -64,7 +64,7 @@ loop-i-preserved c =
     c.fill_line.ensures
     ∙ ap₂ (λ (l : List Float) (g : Line). sets l ((2 * c.args.header.block.subdivisions + 1) * turn.i) (line_samples c.args.src.now g)) turn.invariant.2 c.fine_line-line.ensures
     ∙ ap (λ (at : ℕ). sets (sets c.args.samples.now 0 (gather f turn.i)) at (f turn.i)) (sym (zero-add ((2 * c.args.header.block.subdivisions + 1) * turn.i)))
-    ∙ sets_gather f ((2 * c.args.header.block.subdivisions + 1)) (λ k. length_listed _ _) c.args.samples.now 0 turn.i in
+    ∙ sets_gather f (2 * c.args.header.block.subdivisions + 1) (λ k. length_listed _ _) c.args.samples.now 0 turn.i in
     (omega (arith, c.loop-i-test.true), ap length put ∙ length-sets c.args.samples.now 0 (gather f (turn.i + 1)), put)
 
 pub shape_of-samples : goal.shape_of-samples

@@ -9,11 +9,11 @@ use Rattle.stl.specs.Passing.{Readable, readable}
 use Rattle.stl.proofs.reader.read_stl.Goals as goal
 use Rattle.stl.proofs.reader.read_stl.Goals.{In_default}
 
-passed : (c : In_default) → judge_reading (c.args.bytes.now) (length (c.args.positions.now)) ≡ Passed
+passed : (c : In_default) → judge_reading c.args.bytes.now (length c.args.positions.now) ≡ Passed
 passed c = sym c.judge_reading-verdict.ensures ∙ c.in_default.is
 
-is-readable : (c : In_default) → Readable (c.args.bytes.now) (length (c.args.positions.now))
-is-readable c = readable (c.args.bytes.now) (length (c.args.positions.now)) (passed c)
+is-readable : (c : In_default) → Readable c.args.bytes.now (length c.args.positions.now)
+is-readable c = readable c.args.bytes.now (length c.args.positions.now) (passed c)
 
 pub returns-in-Refused : goal.returns-in-Refused
 unfolding read_stl
@@ -34,4 +34,4 @@ pub returns : goal.returns
 unfolding read_stl
 returns c =
     (λ i. record { answer = StlRead.Triangles (c.count_in-count.ensures.0 i); positions = c.fill_positions.ensures i })
-    ∙ sym (ap (read_answer (c.args.bytes.now) (c.args.positions.now)) (passed (goal.at.returns c).In_default))
+    ∙ sym (ap (read_answer c.args.bytes.now c.args.positions.now) (passed (goal.at.returns c).In_default))

@@ -15,11 +15,11 @@ use Rattle.stl.specs.Passing.{Writable, writable}
 use Rattle.stl.proofs.writer.write_stl.Goals as goal
 use Rattle.stl.proofs.writer.write_stl.Goals.{In_default}
 
-passed : (c : In_default) → judge_writing (vertex_count (c.args.vertices.now)) (c.args.triangles.now) (length (c.args.bytes.now)) ≡ Passed
+passed : (c : In_default) → judge_writing (vertex_count c.args.vertices.now) c.args.triangles.now (length c.args.bytes.now) ≡ Passed
 passed c = sym c.judge_writing-verdict.ensures ∙ c.in_default.is
 
-is-writable : (c : In_default) → Writable (c.args.vertices.now) (c.args.triangles.now) (length (c.args.bytes.now))
-is-writable c = writable (c.args.vertices.now) (c.args.triangles.now) (length (c.args.bytes.now)) (passed c)
+is-writable : (c : In_default) → Writable c.args.vertices.now c.args.triangles.now (length c.args.bytes.now)
+is-writable c = writable c.args.vertices.now c.args.triangles.now (length c.args.bytes.now) (passed c)
 
 pub returns-in-Refused : goal.returns-in-Refused
 unfolding write_stl
@@ -45,10 +45,10 @@ file_length-requires c =
 pub returns : goal.returns
 unfolding write_stl
 returns c =
-    let count = triangle_count (c.args.triangles.now) in
+    let count = triangle_count c.args.triangles.now in
     let laid-down =
     c.put_triangles.ensures
-    ∙ ap (λ (l : List ℕ). sets l start_length (gather (facet_of (c.args.vertices.now) (c.args.triangles.now)) count)) c.put_start.ensures
-    ∙ file_laid (c.args.vertices.now) (c.args.triangles.now) (c.args.bytes.now) (is-writable (goal.at.returns c).In_default).fits in
+    ∙ ap (λ (l : List ℕ). sets l start_length (gather (facet_of c.args.vertices.now c.args.triangles.now) count)) c.put_start.ensures
+    ∙ file_laid c.args.vertices.now c.args.triangles.now c.args.bytes.now (is-writable (goal.at.returns c).In_default).fits in
     (λ i. record { answer = StlWritten.Bytes (c.file_length.ensures i); bytes = laid-down i })
-    ∙ sym (ap (write_answer (c.args.vertices.now) (c.args.triangles.now) (c.args.bytes.now)) (passed (goal.at.returns c).In_default))
+    ∙ sym (ap (write_answer c.args.vertices.now c.args.triangles.now c.args.bytes.now) (passed (goal.at.returns c).In_default))

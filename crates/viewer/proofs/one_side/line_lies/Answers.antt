@@ -21,12 +21,12 @@ pub loop-k-init : goal.loop-k-init
 loop-k-init c = (omega arith, refl)
 
 pub lies_as-requires : goal.lies_as-requires
-lies_as-requires c = (c.requires.0, c.requires.1 (c.loop-k.k) c.loop-k-test.true)
+lies_as-requires c = (c.requires.0, c.requires.1 c.loop-k.k c.loop-k-test.true)
 
 pub returns-then-not-lies_as : goal.returns-then-not-lies_as
 returns-then-not-lies_as c =
     sym
-    (fail_all ((test c.args.src.now c.args.threshold c.args.wanted c.args.line)) c.args.line.points (c.loop-k.k) c.loop-k-test.true
+    (fail_all (test c.args.src.now c.args.threshold c.args.wanted c.args.line) c.args.line.points c.loop-k.k c.loop-k-test.true
     (sym c.lies_as.ensures ∙ c.if-not-lies_as.true))
 
 pub overflow_step-k : goal.overflow_step-k
@@ -38,7 +38,7 @@ loop-k-smaller c = omega arith
 pub loop-k-preserved : goal.loop-k-preserved
 loop-k-preserved c =
     let turn = c.loop-k in
-    (omega arith, hold_more ((test c.args.src.now c.args.threshold c.args.wanted c.args.line)) turn.k turn.invariant.1 (sym c.lies_as.ensures ∙ c.if-not-lies_as.false))
+    (omega arith, hold_more (test c.args.src.now c.args.threshold c.args.wanted c.args.line) turn.k turn.invariant.1 (sym c.lies_as.ensures ∙ c.if-not-lies_as.false))
 
 pub returns : goal.returns
 returns c =

@@ -30,7 +30,7 @@ pub returns-then-not-side_lies : goal.returns-then-not-side_lies
 returns-then-not-side_lies c =
     let inv = c.loop-side.invariant in
     let fails = sym c.side_lies.ensures ∙ c.if-not-side_lies.true in
-    sym (sym (sides_are _ _ _ c.requires.1) ∙ fails_at c.args.header.mask ((side_as c.args.wanted (star_of c.args.src.now))) inv (in-six (goal.at.returns-then-not-side_lies c).In-loop-side) fails)
+    sym (sym (sides_are _ _ _ c.requires.1) ∙ fails_at c.args.header.mask (side_as c.args.wanted (star_of c.args.src.now)) inv (in-six (goal.at.returns-then-not-side_lies c).In-loop-side) fails)
 
 pub next_side-side-requires-in-loop-side : goal.next_side-side-requires-in-loop-side
 next_side-side-requires-in-loop-side c =
@@ -39,8 +39,8 @@ next_side-side-requires-in-loop-side c =
 pub loop-side-preserved : goal.loop-side-preserved
 loop-side-preserved c =
     let holds = sym c.side_lies.ensures ∙ c.if-not-side_lies.false in
-    go_on c.args.header.mask ((side_as c.args.wanted (star_of c.args.src.now))) c.loop-side.invariant (in-six (goal.at.loop-side-preserved c).In-loop-side) holds c.next_side-side-in-loop-side.ensures
+    go_on c.args.header.mask (side_as c.args.wanted (star_of c.args.src.now)) c.loop-side.invariant (in-six (goal.at.loop-side-preserved c).In-loop-side) holds c.next_side-side-in-loop-side.ensures
 
 pub returns : goal.returns
 returns c =
-    sym (sym (sides_are _ _ _ c.requires.1) ∙ all_hold c.args.header.mask ((side_as c.args.wanted (star_of c.args.src.now))) c.loop-side.invariant (omega (arith, c.loop-side-test.false)))
+    sym (sym (sides_are _ _ _ c.requires.1) ∙ all_hold c.args.header.mask (side_as c.args.wanted (star_of c.args.src.now)) c.loop-side.invariant (omega (arith, c.loop-side-test.false)))

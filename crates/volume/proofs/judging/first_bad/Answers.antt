@@ -27,7 +27,7 @@ returns-then-not-is_usable_at c =
     let turn = c.loop-place in
     let here : (let args = c.args in taken_usable args.bytes.now args.sizes args.n args.first) turn.place ≡ Refused (BadSample c.taken_place-taken.result) =
     rw (← c.taken_place-taken.ensures.0, ← c.is_usable_at.ensures, c.if-not-is_usable_at.true) in
-    sym (hit ((let args = c.args in taken_usable args.bytes.now args.sizes args.n args.first)) turn.place (sample_length c.args.n) (BadSample c.taken_place-taken.result) turn.invariant.2 here (omega (arith, turn.invariant)))
+    sym (hit (let args = c.args in taken_usable args.bytes.now args.sizes args.n args.first) turn.place (sample_length c.args.n) (BadSample c.taken_place-taken.result) turn.invariant.2 here (omega (arith, turn.invariant)))
 
 pub overflow_step-place : goal.overflow_step-place
 overflow_step-place c = omega arith
@@ -39,7 +39,7 @@ pub loop-place-preserved : goal.loop-place-preserved
 loop-place-preserved c =
     let turn = c.loop-place in
     let here : (let args = c.args in taken_usable args.bytes.now args.sizes args.n args.first) turn.place ≡ Passed = rw (← c.taken_place-taken.ensures.0, ← c.is_usable_at.ensures, c.if-not-is_usable_at.false) in
-    (omega arith, turn.invariant.1, not_yet ((let args = c.args in taken_usable args.bytes.now args.sizes args.n args.first)) turn.place turn.invariant.2 here)
+    (omega arith, turn.invariant.1, not_yet (let args = c.args in taken_usable args.bytes.now args.sizes args.n args.first) turn.place turn.invariant.2 here)
 
 pub returns : goal.returns
 unfolding judge_taken

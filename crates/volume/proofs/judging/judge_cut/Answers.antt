@@ -10,11 +10,11 @@ use Rattle.volume.specs.Known.{Known, known}
 use Rattle.volume.proofs.judging.judge_cut.Goals as goal
 use Rattle.volume.proofs.judging.judge_cut.Goals.{In_default}
 
-volume-passed : (c : In_default) → judge_volume (length (c.args.bytes.now)) c.args.sizes c.args.n c.args.first ≡ Passed
+volume-passed : (c : In_default) → judge_volume (length c.args.bytes.now) c.args.sizes c.args.n c.args.first ≡ Passed
 volume-passed c = sym c.judge_volume-volume.ensures ∙ c.in_default.is
 
-is_known : (c : In_default) → Known (length (c.args.bytes.now)) c.args.sizes c.args.n c.args.first
-is_known c = known (length (c.args.bytes.now)) c.args.sizes c.args.n c.args.first (volume-passed c)
+is_known : (c : In_default) → Known (length c.args.bytes.now) c.args.sizes c.args.n c.args.first
+is_known c = known (length c.args.bytes.now) c.args.sizes c.args.n c.args.first (volume-passed c)
 
 pub returns-in-Refused : goal.returns-in-Refused
 unfolding judge_cut
@@ -31,7 +31,7 @@ pub returns-in-Refused-taken : goal.returns-in-Refused-taken
 unfolding judge_cut
 returns-in-Refused-taken c =
     let args = c.args in
-    let refused : judge_taken (c.args.bytes.now) args.sizes args.n args.first ≡ Refused c.in-Refused-taken.r =
+    let refused : judge_taken c.args.bytes.now args.sizes args.n args.first ≡ Refused c.in-Refused-taken.r =
     sym c.judge_taken-taken.ensures ∙ c.in-Refused-taken.is in
     rw (volume-passed (goal.at.returns-in-Refused-taken c).In_default, refused)
 
@@ -42,7 +42,7 @@ pub returns : goal.returns
 unfolding judge_cut
 returns c =
     let args = c.args in
-    let taken-passed : judge_taken (c.args.bytes.now) args.sizes args.n args.first ≡ Passed =
+    let taken-passed : judge_taken c.args.bytes.now args.sizes args.n args.first ≡ Passed =
     sym c.judge_taken-taken.ensures ∙ c.in_default-taken.is in
     rw (volume-passed (goal.at.returns c).In_default, taken-passed)
     (c.judge_buffer.ensures ∙ ap (λ (k : ℕ). judge_buffer k args.room) c.sample_length.ensures)

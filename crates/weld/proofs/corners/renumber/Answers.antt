@@ -18,11 +18,11 @@ renumbered f triangles₀ triangles p corner l e is =
 pub loop-p-preserved : goal.loop-p-preserved
 loop-p-preserved c =
     let l = c.loop-p in
-    (omega arith, (simp length-set l.invariant.1.0, renumbered ((let a = c.args in corner_by a.table.now a.start a.end)) c.args.triangles.now l.triangles l.p c.corner.result (omega arith) l.invariant.1.1 c.corner.ensures))
+    (omega arith, (simp length-set l.invariant.1.0, renumbered (let a = c.args in corner_by a.table.now a.start a.end) c.args.triangles.now l.triangles l.p c.corner.result (omega arith) l.invariant.1.1 c.corner.ensures))
 
 pub returns : goal.returns
 returns c =
     let l = c.loop-p in
     let triangles = c.args.triangles.now in
     let all : l.p ≡ length triangles = omega arith in
-    rw all at l.invariant.1.1 ∙ all_done ((let a = c.args in corner_by a.table.now a.start a.end)) triangles
+    rw all at l.invariant.1.1 ∙ all_done (let a = c.args in corner_by a.table.now a.start a.end) triangles
