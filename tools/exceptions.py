@@ -5,14 +5,14 @@
     exceptions.py --list       print each public function, and whether it is pinned and requires something
     exceptions.py --self-test  try it on a small project with one fault after another
 
-Public is a `pub fn` of a library (src/lib.rt) that every `pub mod` on its way lets out.
+Public is a `pub fn` of a library (src/lib.rt) that every `pub mod` on its way lets out. A method's type stands between its module and its name.
 
 Each is pinned: crates/C/proofs/Pinned.antt has
 
     use Rattle.C.proofs.MODULE.NAME.Reads as ALIAS
     pub NAME_pinned : .. ALIAS.Learnt .. ALIAS.Learnt .. → ..
 
-(MODULE_NAME_pinned where two modules have one NAME; no MODULE for lib.rt): two outcomes that its statement allows are equal. What is not pinned stands in docs/EXCEPTIONS.md, in a table headed `| crate | functions | why not pinned |`.
+(MODULE_NAME_pinned where two modules have one NAME, TYPE_NAME_pinned of a method; no MODULE for lib.rt): two outcomes that its statement allows are equal. What is not pinned stands in docs/EXCEPTIONS.md, in a table headed `| crate | functions | why not pinned |`.
 
 Each that requires something of its caller stands there too, in a table headed `| crate | functions | require | called by |`, and no other does.
 A name stands in backquotes: `name` or `module::name`.
@@ -26,6 +26,10 @@ ROOT = os.path.dirname(os.path.dirname(os.path.abspath(__file__)))
 
 FUNCTION = re.compile(r'^\s*pub\s+(?:extern\s+"C"\s+)?fn\s+(\w+)')
 MODULE = re.compile(r"^\s*pub\s+mod\s+(\w+)\s*;")
+IMPL = re.compile(r"^impl\b(?:<[^>]*>)?(?:.*\sfor)?\s+(\w+)")
+TRAIT = re.compile(r"^pub\s+trait\s+(\w+)")
+METHOD = re.compile(r"^\s+fn\s+(\w+)")
+GIVEN = re.compile(r"^impl\s+(\w+)\s+for\s+(\w+)")
 REEXPORT = re.compile(r"^\s*pub\s+use\b")
 IMPORT = re.compile(r"^use Rattle\.(\w+)\.proofs\.([\w.]+)\.Reads as (\S+)\s*$")
 LEMMA = re.compile(r"^pub (\S+)_pinned\s*:")
@@ -40,14 +44,15 @@ def lines_of(path, comment):
 class Function:
     """A public function: its crate, the path of its module, its name, and whether it requires something of its caller."""
 
-    def __init__(self, crate, modules, name, requires):
+    def __init__(self, crate, modules, name, requires, trait=""):
         self.crate = crate
         self.modules = modules
         self.name = name
         self.requires = requires
+        self.trait = trait
 
     def path(self):
-        return ".".join(self.modules + [self.name])
+        return ".".join(self.modules) + self.trait + "." + self.name if self.trait else ".".join(self.modules + [self.name])
 
     def called(self):
         return self.crate + "::" + "::".join(self.modules + [self.name])
@@ -78,10 +83,26 @@ def public_functions(root, faults):
 
 def walk(folder, crate, modules, file, found, faults):
     lines = lines_of(file, "//")
+    owner = []
+    traits = {}
+    declared = None
     for at, line in enumerate(lines):
+        trait = TRAIT.match(line)
+        if trait or line.startswith("}"):
+            declared = traits.setdefault(trait.group(1), []) if trait else None
+        method = METHOD.match(line)
+        if method and declared is not None:
+            declared.append((method.group(1), requires(lines, at)))
+        given = GIVEN.match(line)
+        if given and given.group(1) in traits:
+            for name, asks in traits[given.group(1)]:
+                found.append(Function(crate, modules + [given.group(2)], name, asks, given.group(1)))
+        owned = IMPL.match(line)
+        if owned or line.startswith("}"):
+            owner = [owned.group(1)] if owned else []
         function = FUNCTION.match(line)
         if function:
-            found.append(Function(crate, modules, function.group(1), requires(lines, at)))
+            found.append(Function(crate, modules + owner, function.group(1), requires(lines, at)))
         module = MODULE.match(line)
         if module:
             name = module.group(1)
@@ -195,9 +216,18 @@ OUTER = """pub extern "C" fn bound_to(x: u64) -> u64
 {
     x
 }
+
+impl<'a> Kept<'a> {
+    pub fn of(x: u64) -> u64
+        ensures { result ≡ x }
+    {
+        x
+    }
+}
 """
 PINNED = """use Rattle.small.proofs.free.Reads as free
 use Rattle.small.proofs.outer.bound_to.Reads as bound
+use Rattle.small.proofs.outer.Kept.of.Reads as kept
 
 pub free_pinned : (a : _) (r r' : _) → free.Learnt a r → free.Learnt a r'
     → r ≡ r'
@@ -205,6 +235,9 @@ free_pinned a r r' h k = pinned h k
 
 pub bound_to_pinned : (a : _) (r r' : _) → bound.Learnt a r → bound.Learnt a r' → r ≡ r'
 bound_to_pinned a r r' h k = pinned h k
+
+pub Kept_of_pinned : (a : _) (r r' : _) → kept.Learnt a r → kept.Learnt a r' → r ≡ r'
+Kept_of_pinned a r r' h k = pinned h k
 """
 TABLE = """| crate | functions | require | called by |
 |---|---|---|---|
@@ -226,10 +259,11 @@ def self_test():
         ({"Pinned": ("proofs.free.Reads", "proofs.other.Reads")}, ["free: neither", "free_pinned pins no"]),
         ({"Pinned": ("pub free_pinned", "-- pub free_pinned")}, ["free: neither"]),
         ({"outer": ("pub extern", "extern")}, ["bound_to is no public", "bound_to_pinned pins no"]),
-        ({"lib": ("pub mod outer", "mod outer")}, ["bound_to is no public", "bound_to_pinned pins no"]),
+        ({"lib": ("pub mod outer", "mod outer")}, ["bound_to is no public", "bound_to_pinned pins no", "Kept_of_pinned pins no"]),
         ({"lib": ("pub mod outer", "pub use outer::bound_to;\npub mod outer")}, ["`pub use`"]),
         ({"outer": ("    requires { x < 8 }\n", "")}, ["bound_to: requires nothing"]),
         ({"lib": ("    ensures", "    requires { x < 8 }\n    ensures")}, ["free: requires something"]),
+        ({"Pinned": ("outer.Kept.of", "outer.of")}, ["outer::Kept::of: neither", "Kept_of_pinned pins no"]),
         ({"EXCEPTIONS": ("`bound_to`", "`bound_to`, `gone`")}, ["gone is no public"]),
         ({"EXCEPTIONS": ("`bound_to`", "`bound_to`, `outer::bound_to`")}, ["stands there twice"]),
         ({"EXCEPTIONS": ("| below 8 |", "| |")}, ["without a reason"]),

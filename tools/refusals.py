@@ -21,7 +21,6 @@ HEADER = "include/sirveshan.h"
 TABLES = ["README.md", "docs/API.md"]
 MODEL = "crates/model/specs/Refusals.antt"
 TYPES = "crates/model/src"
-JUDGE = "crates/judge/src"
 READING = "tools/reference.py"
 DOCUMENT = "docs/01-scope.md"
 
@@ -159,8 +158,8 @@ def model_cases(text):
 
 
 def code_cases(text):
-    """The same of the code's numbers_of, by struct or by a helper that takes the number first."""
-    body = re.search(r"fn numbers_of\(refusal: Refusal\)(.*?)\n}", text, re.S)
+    """The same of the code: a refusal's From for the numbers."""
+    body = re.search(r"fn from\(refusal: Refusal\)(.*?)\n    }", text, re.S)
     cases = []
     arms = r"Refusal::(\w+)(?:\(\w+\))? => (?:\{\s*)?[\w:]+\s*[({]([^})]*)[)}]"
     for name, inner in re.findall(arms, body.group(1) if body else "", re.S):
@@ -194,7 +193,7 @@ def differences(files):
         return [str(reason)]
     reports = ["%s: not what is written from the table" % path for path, text in made.items() if files.get(path) != text]
     wanted = [(r.case, r.number, r.used()) for r in refusals]
-    for path, found in [(MODEL, model_cases(files[MODEL])), (JUDGE, code_cases(files[JUDGE]))]:
+    for path, found in [(MODEL, model_cases(files[MODEL])), (TYPES, code_cases(files[TYPES]))]:
         for case in sorted(set(wanted) ^ set(found), key=lambda case: case[1]):
             where = "only in the table" if case in wanted else "not so in the table"
             reports.append("%s: %s is %d with %d numbers: %s" % ((path,) + case + (where,)))
@@ -214,7 +213,7 @@ def differences(files):
 def read_files():
     """All that is written or held, by path; the files of a folder as one text."""
     files = {}
-    for path in [TABLE, RUST, HEADER, *TABLES, MODEL, TYPES, JUDGE, READING, DOCUMENT]:
+    for path in [TABLE, RUST, HEADER, *TABLES, MODEL, TYPES, READING, DOCUMENT]:
         full = ROOT / path
         if full.is_dir():
             files[path] = "".join(file.read_text() for file in sorted(full.glob("*.rt")))
@@ -261,7 +260,7 @@ def self_test():
         (MODEL, "numbers 9 wanted 0 0", "numbers 14 wanted 0 0"),
         (MODEL, " at.u ", " 0 "),
         (TYPES, "    Mask(usize),\n", ""),
-        (JUDGE, "Refusal::Mask(", "Refusal::Marsk("),
+        (TYPES, "Refusal::Mask(", "Refusal::Marsk("),
         (READING, "Refusal(2, mask)", "Refusal(2)"),
         (READING, "Refusal(2, mask)", "Refusal(1, mask)"),
         (DOCUMENT, "| 11 | record under 27 bytes, or its length field wrong | 0 |", "| 11 | record | its length |"),

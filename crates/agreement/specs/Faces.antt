@@ -1,12 +1,11 @@
 -- Document 01, 'Answers by number': 8 over one face, with the neighbour's samples at hand, and over the faces of the named sides; and what holds of a
 -- block that 8 passes.
-use Rattle.std.specs.Prelude.{ℕ, ◌+◌, ◌*◌, ◌≤◌, ◌<◌, ◌≡◌, refl, Bool, true, false, cond, List, Float, get_or}
+use Rattle.std.specs.Prelude.{ℕ, ◌+◌, ◌*◌, ◌≤◌, ◌<◌, ◌≡◌, refl, Bool, true, false, cond, List, Float, get_or, Ok}
 use Rattle.std.proofs.Common.{zero-le, ◌∙◌, arith}
 use Rattle.std.specs.Bool.{beq}
 use Rattle.std.specs.Float.{nan}
 use Rattle.model.specs.declared.Refusal.TheVariants.{FaceMismatch}
-use Rattle.model.specs.declared.Verdict.{Verdict}
-use Rattle.model.specs.declared.Verdict.TheVariants.{Passed}
+use Rattle.model.specs.Answers.{Verdict}
 use Rattle.model.specs.Refusals.{unless, first}
 use Rattle.model.specs.Limits.{side_count}
 use Rattle.model.specs.Samples.{sample_of}
@@ -70,23 +69,23 @@ abbrev pub AllAgree : Star → Type 0
 AllAgree s =
     (side u v : ℕ) → side < side_count → named s.mask side ≡ true → u ≤ subdivisions s → v ≤ subdivisions s → faces_agree s side u v ≡ true
 
-pub faces_agree_lem : (s : Star) → judge_faces s ≡ Passed → AllAgree s
+pub faces_agree_lem : (s : Star) → judge_faces s ≡ Ok tt → AllAgree s
 unfolding judge_faces
 faces_agree_lem s passed side u v hs is_named hu hv =
     let n = subdivisions s in
-    let at_side = each_passed (λ side. cond (named s.mask side) (face_side s side (n + 1)) Passed) side_count side passed hs in
-    let all_rows : face_side s side (n + 1) ≡ Passed = rw is_named at at_side in
+    let at_side = each_passed (λ side. cond (named s.mask side) (face_side s side (n + 1)) (Ok tt)) side_count side passed hs in
+    let all_rows : face_side s side (n + 1) ≡ Ok tt = rw is_named at at_side in
     let at_row = each_passed (λ u. face_row s side u (n + 1)) (n + 1) u all_rows (omega arith) in
     let at-spot = each_passed (face_spot s side u) (n + 1) v at_row (omega arith) in
     unless_passed (faces_agree s side u v) (FaceMismatch (record { side = side; u = u; v = v })) at-spot
 
-pub faces_pass : (s : Star) → AllAgree s → judge_faces s ≡ Passed
+pub faces_pass : (s : Star) → AllAgree s → judge_faces s ≡ Ok tt
 unfolding judge_faces
 faces_pass s all =
-    passed_over_lem (λ side. cond (named s.mask side) (face_side s side (subdivisions s + 1)) Passed) 0 side_count refl
+    passed_over_lem (λ side. cond (named s.mask side) (face_side s side (subdivisions s + 1)) (Ok tt)) 0 side_count refl
     (λ side _ h. of_side side h (named s.mask side) refl) zero-le
   where
-    of_side : (side : ℕ) → side < side_count → (b : Bool) → named s.mask side ≡ b → cond b (face_side s side (subdivisions s + 1)) Passed ≡ Passed
+    of_side : (side : ℕ) → side < side_count → (b : Bool) → named s.mask side ≡ b → cond b (face_side s side (subdivisions s + 1)) (Ok tt) ≡ Ok tt
     of_side side h false is = refl
     of_side side h true is =
         passed_over_lem (λ u. face_row s side u (subdivisions s + 1)) 0 (subdivisions s + 1) refl

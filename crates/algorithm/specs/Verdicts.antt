@@ -1,10 +1,9 @@
 -- What extraction's functions judge and what they leave, by name.
-use Rattle.std.specs.Prelude.{ℕ, ◌≡◌, Bool, cond, List, Float, length}
-use Rattle.model.specs.declared.Verdict.{Verdict}
-use Rattle.model.specs.declared.Verdict.TheVariants as Verdict
+use Rattle.std.specs.Prelude.{ℕ, ◌≡◌, Bool, cond, List, [], Float, length, Option, Some, None, Result, Ok, Err}
+use Rattle.std.proofs.Common.{Bor}
+use Rattle.model.specs.Answers.{Verdict}
 use Rattle.model.specs.declared.Refusal.{Refusal}
 use Rattle.model.specs.declared.Report.{Report}
-use Rattle.model.specs.declared.Extraction.TheVariants as Extraction
 use Rattle.model.specs.Refusals.{or_else}
 use Rattle.model.specs.Star.{Star, subdivisions}
 use Rattle.model.specs.Mesh.{mesh_of}
@@ -20,7 +19,7 @@ judged layered s summary heldStore =
 
 -- 23, where the further list is asked for
 abbrev pub edges_judged : Bool → ℕ → ℕ → Verdict
-edges_judged numbered wanted held = cond numbered (judge_edges wanted held) Verdict.Passed
+edges_judged numbered wanted held = cond numbered (judge_edges wanted held) (Ok tt)
 
 -- then 10
 abbrev pub room_judged : Bool → Star → ℕ → ℕ → ℕ → Verdict
@@ -42,7 +41,16 @@ all_judged layered numbered s summary heldStore heldVertices heldTriangles heldE
 
 -- a refusal reports no reads
 abbrev pub refused_report : Refusal → Report
-refused_report r = record { answer = Extraction.Refused r; reads = 0 }
+refused_report r = record { answer = Err r; reads = 0 }
+
+abbrev pub reported : Result Report Refusal → Report
+reported (Ok report) = report
+reported (Err r) = refused_report r
+
+-- what a summary tells, where there is one
+abbrev pub told_of : Option (Bor (List Float)) → List Float
+told_of (Some summary) = summary.now
+told_of None = []
 
 -- an outcome: what is reported, and what the lent buffers hold then
 pub record Leaves (o : Outcome) (report : Report) (store : List ℕ) (vertices : List Float) (triangles : List ℕ) : Type 0 where

@@ -1,6 +1,6 @@
 -- All points of a block and of the fine faces of its named sides are on one side of the threshold exactly when no cell has a triangle. One way holds of
 -- every block; the other asks that 8 passes, which ties each face's first point to the centre's.
-use Rattle.std.specs.Prelude.{◌≡◌, refl, Bool, true, false, cond, ℕ, ◌+◌, ◌*◌, ◌/◌, ◌%◌, ◌^◌, ◌≤◌, ◌<◌, T, leb, length}
+use Rattle.std.specs.Prelude.{◌≡◌, refl, Bool, true, false, cond, ℕ, ◌+◌, ◌*◌, ◌/◌, ◌%◌, ◌^◌, ◌≤◌, ◌<◌, T, leb, length, Ok}
 use Rattle.std.proofs.Math.Path.{sym}
 use Rattle.std.proofs.Common.{ap₂, ◌∙◌, add-zero, arith, leb→le, lit≤}
 use Rattle.laws.specs.Steps.{total}
@@ -10,7 +10,6 @@ use Rattle.laws.specs.Ranges.{beq_eq, none_each, square_each, cube_each, cube_no
 use Rattle.tables.specs.Points.{contribution_of}
 use Rattle.tables.specs.Cases.{regular_triangles, transition_triangles}
 use Rattle.tables.specs.RulesUncut.{UncutAlone, regular_uncut_alone, transition_uncut_alone}
-use Rattle.model.specs.declared.Verdict.TheVariants.{Passed}
 use Rattle.model.specs.Limits.{side_count}
 use Rattle.model.specs.Sides.{named}
 use Rattle.model.specs.Rotations.{point_from, face_point}
@@ -119,7 +118,7 @@ module _ (s : Star) where
 
     -- ---- and where 8 passes, on the same
 
-    module _ (agree : judge_faces s ≡ Passed) (side : ℕ) (hs : side < side_count) (is_named : named s.mask side ≡ true) where
+    module _ (agree : judge_faces s ≡ Ok tt) (side : ℕ) (hs : side < side_count) (is_named : named s.mask side ≡ true) where
       corner_in_lem : Within n (face_point n side 0 0)
       unfolding point_from
       corner_in_lem =
@@ -131,7 +130,7 @@ module _ (s : Star) where
       face_tied =
           sym (beq_eq _ _ (faces_agree_lem s agree side 0 0 hs is_named (omega arith) (omega arith))) ∙ centre_alike _ _ _ corner_in_lem.x_in corner_in_lem.y_in corner_in_lem.z_in
 
-    pub none_one_side : judge_faces s ≡ Passed → OneSide s (centre_in s 0 0 0)
+    pub none_one_side : judge_faces s ≡ Ok tt → OneSide s (centre_in s 0 0 0)
     none_one_side agree =
         record {
           centre = λ x y z hx hy hz. centre_alike x y z (omega arith) (omega arith) (omega arith);

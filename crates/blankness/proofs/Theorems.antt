@@ -1,6 +1,6 @@
 -- What is proved of blank: a block that 8 passes is blank exactly when its mesh has no triangle; and with mask 0 it is blank exactly when it was so by
 -- document 01.
-use Rattle.std.specs.Prelude.{◌≡◌, Bool, true, cond, ◌||◌, ◌↔◌, ℕ, zero, suc, ◌+◌, ◌-◌, ◌*◌, ◌≤◌, ◌<◌, eqb, length, get_or}
+use Rattle.std.specs.Prelude.{◌≡◌, Bool, true, cond, ◌||◌, ◌↔◌, ℕ, zero, suc, ◌+◌, ◌-◌, ◌*◌, ◌≤◌, ◌<◌, eqb, length, get_or, Ok}
 use Rattle.std.proofs.Math.Path.{sym, ap}
 use Rattle.std.proofs.Common.{◌∙◌, mul-zero, mul-suc, mul-le-mul, arith}
 use Rattle.std.proofs.Math.Bool.{and-true, and-eq-true_iff}
@@ -11,7 +11,6 @@ use Rattle.laws.specs.Steps.{total}
 use Rattle.laws.specs.Tests.{then}
 use Rattle.laws.specs.Below.{all_below, each_below}
 use Rattle.laws.specs.Ranges.{both_ways, beq_eq, eq_beq, then_given, then_of, none_or_all, hold_all}
-use Rattle.model.specs.declared.Verdict.TheVariants.{Passed}
 use Rattle.model.specs.Limits.{side_count}
 use Rattle.model.specs.Samples.{in_block}
 use Rattle.model.specs.Sides.{named}
@@ -119,13 +118,13 @@ module _ (s : Star) where
       let p = (and-eq-true_iff (centre_as (place_in 0) s) (sides_as (place_in 0) s)).0 e in
       one_side_none s (place_in 0) (as_one_side (place_in 0) p.0 p.1)
 
-  pub none_blank : 1 ≤ n → judge_faces s ≡ Passed → length (mesh_of s).triangles ≡ 0 → is_blank s ≡ true
+  pub none_blank : 1 ≤ n → judge_faces s ≡ Ok tt → length (mesh_of s).triangles ≡ 0 → is_blank s ≡ true
   unfolding is_blank
   none_blank some agree none =
       let o : OneSide s (place_in 0) = rw first_point (none_one_side s some none agree) in
       (and-eq-true_iff (centre_as (place_in 0) s) (sides_as (place_in 0) s)).1 (one_side_centre (place_in 0) o, one_side_sides (place_in 0) o)
 
-  pub blank_exactly : 1 ≤ n → judge_faces s ≡ Passed → (is_blank s ≡ true) ↔ (length (mesh_of s).triangles ≡ 0)
+  pub blank_exactly : 1 ≤ n → judge_faces s ≡ Ok tt → (is_blank s ≡ true) ↔ (length (mesh_of s).triangles ≡ 0)
   blank_exactly some agree = (blank_none, none_blank some agree)
 
   -- ---- mask 0

@@ -1,3 +1,4 @@
 mod Marking
+mod Each
 pub mod Pinned
 pub mod RowPlaces

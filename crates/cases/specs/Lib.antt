@@ -9,3 +9,4 @@ pub mod Numbers
 pub mod Rows
 pub mod Lines
 pub mod Fine
+pub mod CutCells

@@ -1,11 +1,10 @@
 -- The planes of a block's samples and their lines, and that the numbers of the cells between four lines are the model's.
-use Rattle.std.specs.Prelude.{ℕ, ◌+◌, ◌-◌, ◌*◌, ◌≤◌, ◌<◌, ◌≡◌, List, Float, get_or, length, take, drop}
+use Rattle.std.specs.Prelude.{ℕ, ◌+◌, ◌-◌, ◌*◌, ◌≤◌, ◌<◌, ◌≡◌, List, Float, get_or, length, take, drop, Ok}
 use Rattle.std.proofs.Common.{sym, ◌∙◌, subst, add-zero, arith, length-take, length-drop, get_or-take, get_or-drop, ext_get_or}
 use Rattle.std.proofs.Math.Path.{ap}
 use Rattle.std.specs.Float.{nan}
 use Rattle.model.specs.declared.PlaceKind.TheVariants.{InBlock}
-use Rattle.model.specs.declared.Reading.{Reading}
-use Rattle.model.specs.declared.Reading.TheVariants.{Value}
+use Rattle.model.specs.Answers.{Reading}
 use Rattle.model.specs.Samples.{in_block, value_of, value_at}
 use Rattle.model.specs.Rotations.{xyz}
 use Rattle.model.specs.Formulas.{inside_bit}
@@ -17,7 +16,7 @@ use Rattle.cases.specs.Pairs.{point_bit}
 use Rattle.cases.specs.RowPlaces.{row_before, point_at}
 
 abbrev of_block : Float → Reading
-of_block v = Value v InBlock
+of_block v = Ok (v, InBlock)
 
 -- ---- planes and lines
 

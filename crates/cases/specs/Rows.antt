@@ -1,10 +1,11 @@
 -- A row is filled place by place, or sixteen at a time, and a sheet row by row; and the marks of a sheet.
-use Rattle.std.specs.Prelude.{ℕ, ◌+◌, ◌-◌, ◌*◌, ◌<◌, ◌≡◌, refl, ◌≢◌, ◌⊎◌, List, get_or, set, length}
-use Rattle.std.proofs.Common.{sym, ap, ◌∙◌, inl, inr, zero-add, eq-or-lt_of_le, le_of_suc-le-suc, add-one, arith, get_or-set_same, get_or-set_other}
+use Rattle.std.specs.Prelude.{ℕ, ◌+◌, ◌-◌, ◌*◌, ◌≤◌, ◌<◌, ◌≡◌, refl, ◌≢◌, ◌⊎◌, List, ◌++◌, get_or, set, length, take, drop}
+use Rattle.std.proofs.Common.{sym, ap, ◌∙◌, inl, inr, zero-add, eq-or-lt_of_le, le_of_suc-le-suc, add-one, arith, get_or-set_same, get_or-set_other, length-take-le, get_or-take, get_or-drop}
+use Rattle.std.proofs.lemmas.List.{get_or_append_left, get_or-append_right}
 use Rattle.std.proofs.Math.Decide.{dec_lt}
 use Rattle.laws.specs.Steps.{listed}
 use Rattle.laws.specs.Lists.{get_d_listed}
-use Rattle.cases.specs.Sheets.{row_start, side_by_side, Sheet, RowPut}
+use Rattle.cases.specs.Sheets.{row_start, side_by_side, Sheet, RowPut, Renewed}
 use Rattle.cases.specs.Marks.{mark_of}
 use Rattle.cases.specs.RowPlaces.{row_before}
 
@@ -59,6 +60,67 @@ pub sixteen_more : (case : ℕ → ℕ) (start m at : ℕ) (part : ℕ → ℕ) 
 sixteen_more case start m at part numbers before row after put e made then same =
     some_more case start m side_by_side _ before row after put (rw e at then)
     (λ k l. ap (λ (ns : List ℕ). get_or ns k 0) made ∙ get_d_listed part side_by_side k 0 l ∙ same k l)
+
+-- ---- places that get new numbers
+
+module _ (made : ℕ → ℕ → ℕ → Type 0) where
+  pub none_renewed : (row : List ℕ) → Renewed made 0 row row
+  none_renewed row = record { new = λ k h. absurd (let x : ⊥ = omega arith in x); kept = λ k h. refl }
+
+  -- so many places more as are worked out side by side
+  pub sixteen_renewed : (m : ℕ) (numbers before row after : List ℕ) → Renewed made m before row
+      → ((k : ℕ) → k < side_by_side → made (m + k) (get_or row (m + k) 0) (get_or numbers k 0))
+      → RowPut (λ k. get_or numbers k 0) m side_by_side row after → Renewed made (m + side_by_side) before after
+  sixteen_renewed m numbers before row after so_far worked put =
+      record { new = λ k h. at k (dec_lt k m) h; kept = λ k h. put.beyond k h ∙ so_far.kept k (omega arith) }
+    where
+      at : (k : ℕ) → Dec (k < m) → k < m + side_by_side → made k (get_or before k 0) (get_or after k 0)
+      at k (yes l) h = rw (put.kept k l) (so_far.new k l)
+      at k (no l) h =
+          let e : m + (k - m) ≡ k = omega arith in
+          let there : k - m < side_by_side = omega arith in
+          let now : get_or after k 0 ≡ get_or numbers (k - m) 0 = rw e at (put.filled (k - m) there) in
+          rw (now, ← so_far.kept k (omega arith)) (rw e at (worked (k - m) there))
+
+  pub renewed_more : (m new : ℕ) (before row : List ℕ) → Renewed made m before row → m < length row → made m (get_or row m 0) new
+      → Renewed made (m + 1) before (set row m new)
+  renewed_more m new before row so_far there e =
+      record {
+        new = λ k l. at k (eq-or-lt_of_le (le_of_suc-le-suc (rw add-one at l)));
+        kept = λ k l. get_or-set_other row m k new 0 (omega arith) ∙ so_far.kept k (omega arith);
+      }
+    where
+      at : (k : ℕ) → (k ≡ m) ⊎ (k < m) → made k (get_or before k 0) (get_or (set row m new) k 0)
+      at k (inl q) = rw (q, get_or-set_same row m new 0 there, ← so_far.kept m (omega arith)) e
+      at k (inr l) = rw (get_or-set_other row m k new 0 (omega arith)) (so_far.new k l)
+
+-- a part of the row that was lent and came back with its numbers
+module _ (case : ℕ → ℕ) (start n : ℕ) (row part : List ℕ) (fits : start + n ≤ length row) (long : length part ≡ n) where
+  abbrev before : List ℕ
+  before = take start row
+
+  abbrev rest : List ℕ
+  rest = drop n (drop start row)
+
+  begins : length before ≡ start
+  begins = length-take-le start row (omega arith)
+
+  after_it : (i : ℕ) → start ≤ i → get_or (before ++ (part ++ rest)) i 0 ≡ get_or (part ++ rest) (i - start) 0
+  after_it i h = get_or-append_right before (part ++ rest) start i 0 begins h
+
+  pub part_put : ((k : ℕ) → k < n → get_or part k 0 ≡ case k) → RowPut case start n row (before ++ (part ++ rest))
+  part_put made =
+      record {
+        filled = λ k h.
+            let e : start + k - start ≡ k = omega arith in
+            after_it (start + k) (omega arith) ∙ ap (λ (i : ℕ). get_or (part ++ rest) i 0) e
+            ∙ get_or_append_left part rest 0 k (omega (arith, long)) ∙ made k h;
+        kept = λ i h. get_or_append_left before (part ++ rest) 0 i (omega (arith, begins)) ∙ get_or-take start row i 0 h;
+        beyond = λ i h.
+            after_it i (omega arith) ∙ get_or-append_right part rest n (i - start) 0 long (omega arith)
+            ∙ get_or-drop n (drop start row) (i - start - n) 0 ∙ get_or-drop start row (n + (i - start - n)) 0
+            ∙ ap (λ (k : ℕ). get_or row k 0) (omega arith);
+      }
 
 -- the number of a row's cell is another's
 pub row_as : {case case' : ℕ → ℕ} {start n : ℕ} {before after : List ℕ} → ((k : ℕ) → k < n → case k ≡ case' k)

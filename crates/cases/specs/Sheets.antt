@@ -30,6 +30,15 @@ pub record RowPut (case : ℕ → ℕ) (start n : ℕ) (before after : List ℕ)
   pub kept : (i : ℕ) → i < start → get_or after i 0 ≡ get_or before i 0
   pub beyond : (i : ℕ) → start + n ≤ i → get_or after i 0 ≡ get_or before i 0
 
+-- the first so many places hold what each makes of its place and of what it held, and every other place is as it was
+pub record Renewed (made : ℕ → ℕ → ℕ → Type 0) (n : ℕ) (before after : List ℕ) : Type 0 where
+  pub new : (k : ℕ) → k < n → made k (get_or before k 0) (get_or after k 0)
+  pub kept : (k : ℕ) → n ≤ k → get_or after k 0 ≡ get_or before k 0
+
+-- how many numbers are worked out side by side
+abbrev pub side_by_side : ℕ
+side_by_side = 16
+
 -- ---- regular cells
 
 -- a block of so many subdivisions, with this threshold
@@ -46,17 +55,6 @@ pub record Plane (s : Star) (x : ℕ) (plane : List Float) : Type 0 where
 pub record Line (n : ℕ) (centre : List Float) (x y : ℕ) (line : List Float) : Type 0 where
   pub long : length line ≡ n + 1
   pub reading_at_lem : (z : ℕ) → z ≤ n → in_block_reading line z ≡ reading_at n centre (x + 1) (y + 1) (z + 1)
-
--- how many numbers are worked out side by side
-abbrev pub side_by_side : ℕ
-side_by_side = 16
-
--- so many cells on from z lie between the lines
-pub record Ahead (z : ℕ) (a b c d : List Float) : Type 0 where
-  pub a_long : z + side_by_side < length a
-  pub b_long : z + side_by_side < length b
-  pub c_long : z + side_by_side < length c
-  pub d_long : z + side_by_side < length d
 
 -- what four lines add at z, as the Rust numbers the corners, the first adding w if it is inside
 abbrev pub four_inside : Float → List Float → List Float → List Float → List Float → ℕ → ℕ → ℕ

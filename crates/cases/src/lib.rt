@@ -11,6 +11,7 @@ ghost use Rattle.model.specs.Formulas.{inside_bit};
 ghost use Rattle.model.specs.Star.{Star, subdivisions};
 ghost use Rattle.cases.specs.Sheets.{Plane};
 
+pub mod cut_cells;
 pub mod marks;
 pub mod sixteens;
 pub mod transition;

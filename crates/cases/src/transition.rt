@@ -1,6 +1,6 @@
 // The sheet of a side's transition cells: each cell reads its own nine fine samples, from three lines along v. The side's first place and
 // its steps along u and v are found once.
-ghost use Rattle.std.specs.Prelude.{◌≡◌, List, ℕ, ◌+◌, ◌*◌, ◌^◌, ◌≤◌, ◌<◌, Float, length};
+ghost use Rattle.std.specs.Prelude.{◌≡◌, List, ℕ, ◌+◌, ◌*◌, ◌^◌, ◌≤◌, ◌<◌, Float, length, get_or};
 ghost use Rattle.model.specs.Limits.{most_subdivisions};
 ghost use Rattle.model.specs.Star.{star};
 ghost use Rattle.model.specs.Points.{transition_case};
@@ -16,14 +16,11 @@ use grid::face_walk::{FaceWalk, Stride, along, face_walk};
 use grid::transition_sides::neighbour;
 use model::Header;
 
-// A contribution of 1: the nine stand in the top bits of one sum, for the reason that crates/regular tells.
-const ONE: u32 = 0x80_0000;
-
 // What marks a cell: whether it is cut.
 fn side_mark(case: u16) -> u8
     ensures { result ≡ mark_of all_transition case }
 {
-    if (case == 0) | (case == 511) { 0 } else { 1 }
+    u8::from((case != 0) & (case != 511))
 }
 
 // The first places of the three lines that a row of cells lies on, and their step.
@@ -43,56 +40,33 @@ fn weighed_at(threshold: f32, fine: &[f32], first: usize, step: Stride, v2: usiz
     weighed(threshold, fine, along(first, step, v2), w)
 }
 
-// The three points at one v2, added to the sum.
-fn three(
-    threshold: f32,
-    fine: &[f32],
-    lines: Lines,
-    v2: usize,
-    wa: u32,
-    wb: u32,
-    wc: u32,
-    sum: u32,
-) -> u32
-    requires { Lined (length fine.now) lines v2 × (sum + wa + wb + wc < 2 ^ 32) }
-    ensures { (result ≡ sum + three_inside threshold fine.now lines v2 wa wb wc) × (result ≤ sum + wa + wb + wc) }
-{
-    sum + weighed_at(threshold, fine, lines.a, lines.step, v2, wa)
-        + weighed_at(threshold, fine, lines.b, lines.step, v2, wb)
-        + weighed_at(threshold, fine, lines.c, lines.step, v2, wc)
+impl Lines {
+    // The three points at one v2.
+    fn three(self, threshold: f32, fine: &[f32], v2: usize, weights: [u32; 3]) -> u32
+        requires there { Lined (length fine.now) self v2 }
+        requires small { get_or weights 0 0 + get_or weights 1 0 + get_or weights 2 0 < 2 ^ 32 }
+        ensures { (result ≡ three_inside threshold fine.now self v2 (get_or weights 0 0) (get_or weights 1 0) (get_or weights 2 0)) × (result ≤ get_or weights 0 0 + get_or weights 1 0 + get_or weights 2 0) }
+    {
+        let [wa, wb, wc] = weights;
+        weighed_at(threshold, fine, self.a, self.step, v2, wa)
+            + weighed_at(threshold, fine, self.b, self.step, v2, wb)
+            + weighed_at(threshold, fine, self.c, self.step, v2, wc)
+    }
+
+    // What each of the nine fine points adds if it is inside: the Rust's TRANSITION_HIGH_RES_FACE_CASE_CONTRIBUTIONS.
+    fn nine(self, threshold: f32, fine: &[f32], v: usize) -> u16
+        requires { (v < most_subdivisions) × (Lined (length fine.now) self (2 * v) × (Lined (length fine.now) self (2 * v + 1) × Lined (length fine.now) self (2 * v + 2))) }
+        ensures { result ≡ nine_inside threshold fine.now self v }
+    {
+        let v2 = 2 * v;
+        let low = self.three(threshold, fine, v2, [0x01, 0x02, 0x04]);
+        let middle = self.three(threshold, fine, v2 + 1, [0x80, 0x100, 0x08]);
+        let high = self.three(threshold, fine, v2 + 2, [0x40, 0x20, 0x10]);
+        (low + middle + high) as u16
+    }
 }
 
-// What each of the nine fine points adds if it is inside: the Rust's TRANSITION_HIGH_RES_FACE_CASE_CONTRIBUTIONS.
-fn nine(threshold: f32, fine: &[f32], lines: Lines, v: usize) -> u16
-    requires { (v < most_subdivisions) × (Lined (length fine.now) lines (2 * v) × (Lined (length fine.now) lines (2 * v + 1) × Lined (length fine.now) lines (2 * v + 2))) }
-    ensures { result ≡ nine_inside threshold fine.now lines v }
-{
-    let v2 = 2 * v;
-    let low = three(threshold, fine, lines, v2, ONE, 0x02 * ONE, 0x04 * ONE, 0);
-    let middle = three(
-        threshold,
-        fine,
-        lines,
-        v2 + 1,
-        0x80 * ONE,
-        0x100 * ONE,
-        0x08 * ONE,
-        low,
-    );
-    let sum = three(
-        threshold,
-        fine,
-        lines,
-        v2 + 2,
-        0x40 * ONE,
-        0x20 * ONE,
-        0x10 * ONE,
-        middle,
-    );
-    (sum / ONE) as u16
-}
-
-// The cells on three lines, their numbers and marks from start on. Answers the samples read, as its callers do.
+// The cells on three lines, their numbers and marks from start on.
 fn row_on(
     n: usize,
     threshold: f32,
@@ -101,21 +75,17 @@ fn row_on(
     cases: &mut [u16],
     marks: &mut [u8],
     start: usize,
-) -> u64
+)
     requires n_le_most_subdivisions { (n ≤ most_subdivisions) × ((start + n ≤ length cases.old) × (start + n ≤ length marks.old)) }
     requires by_index { (v2 : ℕ) → v2 ≤ 2 * n → Lined (length fine.now) lines v2 }
     ensures cases { RowPut (nine_inside threshold fine.now lines) start n cases.old cases.new }
     ensures marks { RowPut (λ v. mark_of all_transition (nine_inside threshold fine.now lines v)) start n marks.old marks.new }
-    ensures reads { result ≡ transition_reads * n }
 {
-    let mut v = 0;
-    while v < n {
-        let number = nine(threshold, fine, lines, v);
+    for v in 0..n {
+        let number = lines.nine(threshold, fine, v);
         cases[start + v] = number;
         marks[start + v] = side_mark(number);
-        v += 1;
     }
-    TRANSITION_READS * v as u64
 }
 
 fn lines_at(walk: FaceWalk, u: usize) -> Lines
@@ -123,12 +93,11 @@ fn lines_at(walk: FaceWalk, u: usize) -> Lines
     ensures { result ≡ lines_at walk u }
 {
     let u2 = 2 * u;
-    let step = walk.v;
     Lines {
         a: along(walk.first, walk.u, u2),
         b: along(walk.first, walk.u, u2 + 1),
         c: along(walk.first, walk.u, u2 + 2),
-        step,
+        step: walk.v,
     }
 }
 
@@ -149,15 +118,12 @@ pub fn rows_on(
     ensures marks { (case : ℕ → ℕ → ℕ) → OnWalk case threshold fine.now n walk rows at → Sheet (λ u v. mark_of all_transition (case u v)) n at marks.old → Sheet (λ u v. mark_of all_transition (case u v)) n (at + rows) marks.new }
     ensures reads { (result ≡ transition_reads * n * rows) × (result ≤ most_sheet_reads) }
 {
-    let mut reads: u64 = 0;
-    let mut u = 0;
-    while u < rows {
+    for u in 0..rows {
         let lines = lines_at(walk, u);
         let start = (n + 1) * (at + u);
-        reads += row_on(n, threshold, fine, lines, cases, marks, start);
-        u += 1;
+        row_on(n, threshold, fine, lines, cases, marks, start);
     }
-    reads
+    TRANSITION_READS * (n * rows) as u64
 }
 
 // The case numbers of the cells of a named side, and their marks. Answers the samples read.

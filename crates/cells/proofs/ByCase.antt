@@ -18,6 +18,8 @@ use Rattle.tables.proofs.RulesBorder.{transition_code_right}
 use Rattle.model.specs.Star.{Star}
 use Rattle.model.specs.Mesh.{Cell, fill_to, regular_cell, transition_cell}
 use Rattle.codes.specs.declared.CellIndex.{CellIndex}
+use Rattle.codes.specs.declared.CellRows.{CellRows}
+use Rattle.codes.specs.Rows.{rows_cell}
 use Rattle.cells.specs.declared.SheetIndex.{SheetIndex}
 use Rattle.cells.specs.declared.SheetIndex.TheVariants.{Layer, Side}
 use Rattle.vertices.specs.Buffers.{lay_edges}
@@ -26,6 +28,7 @@ use Rattle.cells.specs.Puts.{CellPut, Adds}
 use Rattle.cells.specs.Rows.{Followed}
 use Rattle.codes.specs.Kinds.{Usable, cell_of, Coded}
 use Rattle.cells.specs.SheetCells.{cell_at, sheet_cell, case_at, all_of, codes_of, row_of, turned_of}
+use Rattle.cells.specs.LentSheets.{RowsOf}
 
 -- ---- the same cell under two names
 
@@ -112,3 +115,15 @@ pub sheet_is : (sheet : SheetIndex) (case : ℕ) (codes row : List ℕ) (turned 
 unfolding regular_cell regular_code regular_vertices regular_triangles regular_corner transition_cell transition_code transition_vertices transition_triangles transition_corner
 sheet_is (Layer x) case codes row turned codes_are row_is turned-is s u v e at at-is = rw (at-is, codes_are, row_is, turned-is, e)
 sheet_is (Side side) case codes row turned codes_are row_is turned-is s u v e at at-is = rw (at-is, codes_are, row_is, turned-is, e)
+
+-- ---- the rows as one value
+
+module _ (sheet : SheetIndex) (case u v : ℕ) (rows : CellRows) (of : RowsOf sheet case u v rows) where
+  pub rows_followed : case ≤ all_of sheet → Followed rows.row.now
+  rows_followed small = sheet_followed sheet case _ small of.row_is
+
+  pub rows_coded : case ≤ all_of sheet → Coded rows.at rows.codes.now (vertices_of rows.row.now)
+  rows_coded small = sheet_coded sheet case _ _ small of.codes_are of.row_is u v _ of.at_is
+
+  pub rows_are : (s : Star) → case ≡ case_at s sheet u v → rows_cell s rows ≡ sheet_cell s sheet u v
+  rows_are s e = sheet_is sheet case _ _ _ of.codes_are of.row_is of.turned_is s u v e _ of.at_is

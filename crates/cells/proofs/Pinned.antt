@@ -32,11 +32,10 @@ module _ {c : Cell} {nv nt : ℕ} {vertices v v' : List Float} {triangles store 
     (pinned h.store_is k.store_is, (pinned h.vertices_are k.vertices_are, pinned h.triangles_are k.triangles_are)),
   )
 
-pub write_sheet_cell_pinned : (κs : Lfts 10) (a : _) (r r' : _) (e e' : _) → write-sheet-cell.Learnt κs a r e → write-sheet-cell.Learnt κs a r' e'
-    → let tables = e.1.1.1.1.1 in
-    let tables' = e'.1.1.1.1.1 in
-    let x = tables.1.1.1.1.1.1.1 in
-    let y = tables'.1.1.1.1.1.1.1 in
-    ((r ≡ r') × ((x.0.now ≡ y.0.now) × ((x.1.0.now ≡ y.1.0.now) × (x.1.1.0.now ≡ y.1.1.0.now))))
-    × (x.1.1.1.0.now ≡ y.1.1.1.0.now)
-write_sheet_cell_pinned κs a r r' e e' h k = (one_outcome h.0 k.0, pinned h.1 k.1)
+pub write_sheet_cell_pinned : (κs : Lfts 6) (a : _) (r r' : _) (e e' : _) → write-sheet-cell.Learnt κs a r e → write-sheet-cell.Learnt κs a r' e'
+    → let x = e.1.1.1.1.1.1.0.now in
+    let y = e'.1.1.1.1.1.1.0.now in
+    (r ≡ r') × ((x.store.now ≡ y.store.now) × ((x.vertices.now ≡ y.vertices.now) × ((x.triangles.now ≡ y.triangles.now) × (x.edges.now ≡ y.edges.now))))
+write_sheet_cell_pinned κs a r r' e e' h k =
+    let same = one_outcome h.0 k.0 in
+    (same.0, (same.1.0, (same.1.1.0, (same.1.1.1, pinned h.1.0 k.1.0))))

@@ -9,7 +9,7 @@ ghost use Rattle.vertices.specs.Buffers.{lay_edges};
 ghost use Rattle.codes.specs.Kinds.{use_at, InBlock, Placed, cell_of, RowCoded};
 ghost use Rattle.cells.specs.Edges.{EdgePut};
 
-use codes::{CellIndex, makes};
+use codes::{CellIndex, CellRows, makes};
 use grid::voxel_blocks::in_block;
 use model::{NO_EDGE, Xyz};
 use tables::tables_wrapper::{voxel_a_index, voxel_b_index};
@@ -19,10 +19,7 @@ use vertices::{corner_point, vertex_count};
 fn axis(a: usize, b: usize) -> usize
     ensures { (result ≡ (b - a) / 2) × (result ≤ b) }
 {
-    if b < a {
-        return 0;
-    }
-    (b - a) / 2
+    b.saturating_sub(a) / 2
 }
 
 fn regular_edge(n: usize, at: Xyz, code: u16) -> u32
@@ -45,7 +42,8 @@ fn edge_number(n: usize, at: CellIndex, code: u16) -> u32
     }
 }
 
-// The edge of one vertex, if the code makes one. Answers the index of the next one that is made.
+// The edge of one vertex, if the code makes one. Answers the index of the next one that is made. The place is tested and then written: with
+// get_mut the proof did not close, since it knows no element that is written so.
 fn put_edge(n: usize, at: CellIndex, code: u16, edges: &mut [u32], next: usize) -> usize
     requires { (n ≤ most_subdivisions) × (Placed n at × (next < 2 ^ 33)) }
     ensures { (result ≤ next + 1) × ((s : Star) → subdivisions s ≡ n → EdgePut (use_at s at code) next edges.old result edges.new) }
@@ -60,19 +58,18 @@ fn put_edge(n: usize, at: CellIndex, code: u16, edges: &mut [u32], next: usize) 
 }
 
 // The edges of a cell's vertices, after base others.
-pub fn put_edges(n: usize, at: CellIndex, codes: &[u16], row: &[u8], edges: &mut [u32], base: usize)
-    requires n_le_most_subdivisions { (n ≤ most_subdivisions) × (Placed n at × (base < 2 ^ 32)) }
-    requires row_coded { RowCoded at codes.now row.now }
-    ensures { (s : Star) (turned : Bool) (store : List ℕ) → subdivisions s ≡ n → edges.new ≡ lay_edges edges.old base (fill_to (cell_of s at codes.now row.now turned) base store (vertices_of row.now)).made }
+pub fn put_edges(n: usize, cell: &CellRows<'_>, edges: &mut [u32], base: usize)
+    requires n_le_most_subdivisions { (n ≤ most_subdivisions) × (Placed n cell.now.at × (base < 2 ^ 32)) }
+    requires row_coded { RowCoded cell.now.at cell.now.codes.now cell.now.row.now }
+    ensures { (s : Star) (turned : Bool) (store : List ℕ) → subdivisions s ≡ n → edges.new ≡ lay_edges edges.old base (fill_to (cell_of s cell.now.at cell.now.codes.now cell.now.row.now turned) base store (vertices_of cell.now.row.now)).made }
 {
     if edges.len() <= base {
         return;
     }
-    let count = vertex_count(row);
+    let count = vertex_count(cell.row);
+    let codes = &cell.codes[..count];
     let mut next = base;
-    let mut k = 0;
-    while k < count {
-        next = put_edge(n, at, codes[k], edges, next);
-        k += 1;
+    for &code in codes {
+        next = put_edge(n, cell.at, code, edges, next);
     }
 }

@@ -1,121 +1,113 @@
 // A sheet's cells by their case numbers, written or counted. What the tables and a cell's place are for each kind stands here alone.
 ghost use Rattle.std.specs.Prelude.{◌≡◌, ◌+◌, ◌≤◌, ◌<◌, length, get_or};
-ghost use Rattle.model.specs.Star.{Star, star};
+ghost use Rattle.model.specs.Star.{Star};
 ghost use Rattle.model.specs.Mesh.{store_length, fill_to};
+ghost use Rattle.model.specs.Lists.{SameLists};
+ghost use Rattle.points.specs.Grids.{subdivisions_of, star_of};
 ghost use Rattle.codes.specs.Kinds.{Ready};
 ghost use Rattle.vertices.specs.Buffers.{lay_edges};
 ghost use Rattle.vertices.specs.Puts.{Room};
 ghost use Rattle.cells.specs.Puts.{ReadSoFar, CellPut, Adds, Few};
-ghost use Rattle.cells.specs.SheetCells.{cell_at, all_of, case_at, sheet_of, sheet_cell, class_array, cell_array, code_array, Tables, codes_of, row_of, turned_of, away_from_low};
+ghost use Rattle.cells.specs.SheetCells.{cell_at, all_of, case_at, sheet_cell, away_from_low};
+ghost use Rattle.cells.specs.LentSheets.{numbers_of, HasTables, RowsOf};
 
 use crate::cell::{count_cell, write_cell};
 use crate::triangles::triangle_count;
 use crate::{Progress, SheetIndex};
-use codes::{CellIndex, count_made_inside};
-use model::{Counts, FacePoint, Header, Xyz};
-use points::fractions::FRACTIONS;
+use codes::{CellIndex, CellRows, count_made_inside};
+use model::{Buffers, Counts, FacePoint, Xyz};
+use points::fractions::Grid;
 use tables::{
     regular_case_cell, regular_case_codes, transition_case_cell, transition_case_codes,
     transition_turned,
 };
 
-// The case number at a place: a layer's sheet has them in a byte, a side's in two.
-pub fn number_at(sheet: SheetIndex, layer: &[u8], side: &[u16], i: usize) -> usize
-    requires { i < length (sheet_of sheet layer.now side.now) }
-    ensures { result ≡ get_or (sheet_of sheet layer.now side.now) i 0 }
+// The tables of one kind of cell: each case's class, each class's cell data, and each case's vertex codes.
+#[derive(Clone, Copy)]
+pub struct LentTables<'a> {
+    pub classes: &'a [u8],
+    pub cells: &'a [u8],
+    pub codes: &'a [u16],
+}
+
+// A sheet's case numbers: a layer has them in a byte, a side in two.
+#[derive(Clone, Copy)]
+pub enum CaseNumbers<'a> {
+    Bytes(&'a [u8]),
+    Words(&'a [u16]),
+}
+
+// A sheet as it is lent: its kind's tables, its cells' case numbers, and the marks of those that are cut.
+#[derive(Clone, Copy)]
+pub struct LentSheet<'a> {
+    pub index: SheetIndex,
+    pub tables: LentTables<'a>,
+    pub numbers: CaseNumbers<'a>,
+    pub marks: &'a [u8],
+}
+
+// Apart from its one call: of a slice that an enum holds no proof knows that twice an index fits.
+fn word_at(words: &[u16], i: usize) -> usize
+    requires { i < length words.now }
+    ensures { result ≡ get_or words.now i 0 }
 {
-    match sheet {
-        SheetIndex::Layer(_) => layer[i] as usize,
-        SheetIndex::Side(_) => side[i] as usize,
+    usize::from(words[i])
+}
+
+pub fn number_at(sheet: &LentSheet<'_>, i: usize) -> usize
+    requires { i < length (numbers_of sheet.now) }
+    ensures { result ≡ get_or (numbers_of sheet.now) i 0 }
+{
+    match sheet.numbers {
+        CaseNumbers::Bytes(numbers) => usize::from(numbers[i]),
+        CaseNumbers::Words(numbers) => word_at(numbers, i),
     }
 }
 
-// The cell in row u, at v.
-fn cell_at(sheet: SheetIndex, u: usize, v: usize) -> CellIndex
-    ensures { result ≡ cell_at sheet u v }
+// The cell in row u, at v, by its case.
+fn sheet_rows<'a>(sheet: &LentSheet<'a>, case: usize, u: usize, v: usize) -> CellRows<'a>
+    requires tables { HasTables sheet.now }
+    requires case_bound { case ≤ all_of sheet.now.index }
+    ensures { RowsOf sheet.now.index case u v result }
 {
-    match sheet {
-        SheetIndex::Layer(x) => CellIndex::Regular(Xyz { x, y: u, z: v }),
-        SheetIndex::Side(side) => CellIndex::Transition(FacePoint { side, u, v }),
-    }
-}
-
-// The case's row of vertex codes.
-fn case_codes(sheet: SheetIndex, codes: &[u16], case: usize) -> &[u16]
-    requires { (codes.now ≡ code_array sheet) × (case ≤ all_of sheet) }
-    ensures { result.now ≡ codes_of sheet case }
-{
-    match sheet {
-        SheetIndex::Layer(_) => regular_case_codes(codes, case),
-        SheetIndex::Side(_) => transition_case_codes(codes, case),
-    }
-}
-
-// The row of cell data that the case's class picks.
-fn case_cell<'a>(sheet: SheetIndex, classes: &[u8], cells: &'a [u8], case: usize) -> &'a [u8]
-    requires { (classes.now ≡ class_array sheet) × ((cells.now ≡ cell_array sheet) × (case ≤ all_of sheet)) }
-    ensures { result.now ≡ row_of sheet case }
-{
-    match sheet {
-        SheetIndex::Layer(_) => regular_case_cell(classes, cells, case),
-        SheetIndex::Side(_) => transition_case_cell(classes, cells, case),
-    }
-}
-
-// Whether a triangle's corners go out 3, 2, 1.
-fn turned(sheet: SheetIndex, classes: &[u8], case: usize) -> bool
-    requires { (classes.now ≡ class_array sheet) × (case ≤ all_of sheet) }
-    ensures { result ≡ turned_of sheet case }
-{
-    match sheet {
-        SheetIndex::Layer(_) => false,
-        SheetIndex::Side(_) => transition_turned(classes, case),
+    let tables = sheet.tables;
+    match sheet.index {
+        SheetIndex::Layer(x) => CellRows {
+            at: CellIndex::Regular(Xyz { x, y: u, z: v }),
+            codes: regular_case_codes(tables.codes, case),
+            row: regular_case_cell(tables.classes, tables.cells, case),
+            turned: false,
+        },
+        SheetIndex::Side(side) => CellRows {
+            at: CellIndex::Transition(FacePoint { side, u, v }),
+            codes: transition_case_codes(tables.codes, case),
+            row: transition_case_cell(tables.classes, tables.cells, case),
+            turned: transition_turned(tables.classes, case),
+        },
     }
 }
 
 // The cell in row u, at v, after so many vertices and triangles.
 pub fn write_sheet_cell(
-    header: Header,
-    fractions: &[f32; FRACTIONS],
-    centre: &[f32],
-    neighbours: &[f32],
-    sheet: SheetIndex,
-    classes: &[u8],
-    cells: &[u8],
-    codes: &[u16],
+    grid: &Grid<'_>,
+    sheet: &LentSheet<'_>,
     case: usize,
     u: usize,
     v: usize,
     counts: Progress,
-    store: &mut [u32],
-    vertices: &mut [f32],
-    triangles: &mut [u32],
-    edges: &mut [u32],
+    out: &mut Buffers<'_>,
 ) -> Progress
-    requires tables { Tables sheet classes.now cells.now codes.now }
-    requires ready { Ready (star header centre.now neighbours.now) fractions.now (cell_at sheet u v) }
-    requires case_value { case ≡ case_at (star header centre.now neighbours.now) sheet u v }
-    requires store_len { length store.old ≡ store_length header.block.subdivisions }
-    requires room { Room 6 (counts.vertices + length (fill_to (sheet_cell (star header centre.now neighbours.now) sheet u v) counts.vertices store.old (sheet_cell (star header centre.now neighbours.now) sheet u v).vertices).made) vertices.old }
-    requires room_2 { Room 3 (counts.triangles + (sheet_cell (star header centre.now neighbours.now) sheet u v).triangles) triangles.old × ReadSoFar counts }
-    ensures cell_put { CellPut (sheet_cell (star header centre.now neighbours.now) sheet u v) counts.vertices counts.triangles vertices.old triangles.old store.old result.vertices result.triangles result.reads vertices.new triangles.new store.new }
-    ensures edges { edges.new ≡ lay_edges edges.old counts.vertices (fill_to (sheet_cell (star header centre.now neighbours.now) sheet u v) counts.vertices store.old (sheet_cell (star header centre.now neighbours.now) sheet u v).vertices).made }
+    requires tables { HasTables sheet.now }
+    requires ready { Ready (star_of grid.now) grid.now.fractions (cell_at sheet.now.index u v) }
+    requires case_value { case ≡ case_at (star_of grid.now) sheet.now.index u v }
+    requires store_len { length out.old.store.now ≡ store_length (subdivisions_of grid.now) }
+    requires room { Room 6 (counts.vertices + length (fill_to (sheet_cell (star_of grid.now) sheet.now.index u v) counts.vertices out.old.store.now (sheet_cell (star_of grid.now) sheet.now.index u v).vertices).made) out.old.vertices.now }
+    requires room_2 { Room 3 (counts.triangles + (sheet_cell (star_of grid.now) sheet.now.index u v).triangles) out.old.triangles.now × ReadSoFar counts }
+    ensures cell_put { CellPut (sheet_cell (star_of grid.now) sheet.now.index u v) counts.vertices counts.triangles out.old.vertices.now out.old.triangles.now out.old.store.now result.vertices result.triangles result.reads out.new.vertices.now out.new.triangles.now out.new.store.now }
+    ensures edges { out.new.edges.now ≡ lay_edges out.old.edges.now counts.vertices (fill_to (sheet_cell (star_of grid.now) sheet.now.index u v) counts.vertices out.old.store.now (sheet_cell (star_of grid.now) sheet.now.index u v).vertices).made }
+    ensures same { SameLists out.old out.new }
 {
-    write_cell(
-        header,
-        fractions,
-        centre,
-        neighbours,
-        cell_at(sheet, u, v),
-        case_codes(sheet, codes, case),
-        case_cell(sheet, classes, cells, case),
-        turned(sheet, classes, case),
-        counts,
-        store,
-        vertices,
-        triangles,
-        edges,
-    )
+    write_cell(grid, &sheet_rows(sheet, case, u, v), counts, out)
 }
 
 // Whether it is a regular cell that touches no low face of the block.
@@ -129,27 +121,18 @@ fn is_away_from_low(at: CellIndex) -> bool
 }
 
 // What the cell in row u, at v, adds.
-pub fn count_sheet_cell(
-    sheet: SheetIndex,
-    classes: &[u8],
-    cells: &[u8],
-    codes: &[u16],
-    case: usize,
-    u: usize,
-    v: usize,
-) -> Counts
-    requires tables { Tables sheet classes.now cells.now codes.now }
-    requires case_bound { case ≤ all_of sheet }
+pub fn count_sheet_cell(sheet: &LentSheet<'_>, case: usize, u: usize, v: usize) -> Counts
+    requires tables { HasTables sheet.now }
+    requires case_bound { case ≤ all_of sheet.now.index }
     ensures few { Few 1 result }
-    ensures adds { (s : Star) → case ≡ case_at s sheet u v → Adds (sheet_cell s sheet u v) result.vertices result.triangles }
+    ensures adds { (s : Star) → case ≡ case_at s sheet.now.index u v → Adds (sheet_cell s sheet.now.index u v) result.vertices result.triangles }
 {
-    let at = cell_at(sheet, u, v);
-    let row = case_cell(sheet, classes, cells, case);
-    if is_away_from_low(at) {
+    let rows = sheet_rows(sheet, case, u, v);
+    if is_away_from_low(rows.at) {
         return Counts {
             vertices: count_made_inside(case),
-            triangles: triangle_count(row),
+            triangles: triangle_count(rows.row),
         };
     }
-    count_cell(at, case_codes(sheet, codes, case), row)
+    count_cell(&rows)
 }

@@ -17,6 +17,15 @@ pub enum CellIndex {
     Transition(FacePoint),
 }
 
+// A cell that is made: where it lies, its case's row of codes, its class's row of cell data, and whether its triangles' corners go out 3, 2, 1.
+#[derive(Clone, Copy)]
+pub struct CellRows<'a> {
+    pub at: CellIndex,
+    pub codes: &'a [u16],
+    pub row: &'a [u8],
+    pub turned: bool,
+}
+
 // Whether a step asked for leaves the block.
 fn regular_leaves(at: Xyz, code: u16) -> bool
     ensures { result ≡ regular_leaves at.x at.y at.z code }
@@ -80,19 +89,10 @@ pub fn count_made(at: CellIndex, codes: &[u16], count: usize) -> usize
     requires { count ≤ length codes.now }
     ensures { (result ≡ total (λ i. cond (makes_at at (get_or codes.now i 0)) 1 0) count) × (result ≤ count) }
 {
-    let mut made = 0;
-    let mut k = 0;
-    while k < count {
-        made += made_by(at, codes[k]);
-        k += 1;
-    }
-    made
-}
-
-fn made_by(at: CellIndex, code: u16) -> usize
-    ensures { (result ≡ cond (makes_at at code) 1 0) × (result ≤ 1) }
-{
-    if makes(at, code) { 1 } else { 0 }
+    codes[..count]
+        .iter()
+        .filter(|&&code| makes(at, code))
+        .count()
 }
 
 // The same of a regular cell that touches no low face of the block: one vertex on each crossed edge at its corner 7, since the others are in

@@ -90,15 +90,15 @@ grows_more f k g h = rw add-one (grows_then g h)
 -- ---- a sheet of cells
 
 module _ (s : Star) (sheet : SheetIndex) {n : ℕ} {layer side marks : List ℕ} (held : Held s sheet n layer side marks) (u : ℕ) (u_in : u < n) where
-  pub grows_start : (next : ℕ) → NextMarked n marks (row_start n u) 0 next → Grows (row_to (sheet_cell s sheet u) next) none
-  grows_start next step = grows_made (row_skip s sheet held u 0 next u_in step) grows_none
+  -- those up to the next one that is marked, and that one
+  pub grows_past : (from v : ℕ) (counts more : Counts) → NextMarked n marks (row_start n u) from v → Grows (row_to (sheet_cell s sheet u) from) counts
+      → Adds (sheet_cell s sheet u v) more.vertices more.triangles → Grows (row_to (sheet_cell s sheet u) (v + 1)) (plus counts more)
+  grows_past from v counts more step g adds =
+      grows_more (λ v. cell_step (sheet_cell s sheet u v)) v (grows_made (row_skip s sheet held u from v u_in step) g) (grows_cell _ more adds)
 
-  -- a cell, and those up to the next one that is marked
-  pub grows_on : (v next : ℕ) (counts more : Counts) → NextMarked n marks (row_start n u) (v + 1) next → Grows (row_to (sheet_cell s sheet u) v) counts
-      → Adds (sheet_cell s sheet u v) more.vertices more.triangles → Grows (row_to (sheet_cell s sheet u) next) (plus counts more)
-  grows_on v next counts more step g adds =
-      grows_made (row_skip s sheet held u (v + 1) next u_in step)
-      (grows_more (λ v. cell_step (sheet_cell s sheet u v)) v g (grows_cell _ more adds))
+  pub grows_end : (from : ℕ) (counts : Counts) → NextMarked n marks (row_start n u) from n → Grows (row_to (sheet_cell s sheet u) from) counts
+      → Grows (row_to (sheet_cell s sheet u) n) counts
+  grows_end from counts step g = grows_made (row_skip s sheet held u from n u_in step) g
 
 -- a whole sheet
 pub sheet_grows : (s : Star) (n u : ℕ) {counts : Counts} → subdivisions s ≡ n → u ≡ n → (sheet : SheetIndex) → SheetIn s sheet

@@ -3,11 +3,7 @@
 use mathlib.Core.Path.{◌≡◌}
 use contract.Lifetimes.{Lfts}
 use Rattle.model.specs.Pinned.{pinned}
-use Rattle.counting.proofs.plus.Reads as plus
 use Rattle.counting.proofs.count_mesh.Reads as count-mesh
-
-pub plus_pinned : (κs : Lfts 0) (a : _) (r r' : _) (e e' : _) → plus.Learnt κs a r e → plus.Learnt κs a r' e' → r ≡ r'
-plus_pinned κs a r r' e e' h k = pinned h k
 
 pub count_mesh_pinned : (κs : Lfts 3) (a : _) (r r' : _) (e e' : _) → count-mesh.Learnt κs a r e → count-mesh.Learnt κs a r' e' → r ≡ r'
 count_mesh_pinned κs a r r' e e' h k =

@@ -1,4 +1,4 @@
--- A result that can be no error has a value: what the programs cite where they make text of a name.
+-- A result that can be no error has a value: cited where text is made of a name.
 use Rattle.std.specs.Result.{MatchResult, is_ok}
 use Rattle.std.proofs.Common.{◌≡◌, true, refl, Result, Ok, Err}
 

@@ -2,6 +2,7 @@ pub mod Shape
 pub mod Places
 pub mod Kinds
 pub mod SideLaws
+pub mod NamedSides
 pub mod Counts
 pub mod RotationLaws
 pub mod StorePlaces

@@ -2,27 +2,26 @@
 // is taken apart here. Inlined, the kind leaves no trace where only the value is wanted.
 ghost use Rattle.std.specs.Prelude.{◌≡◌, ◌<◌, length, get_or};
 ghost use Rattle.std.specs.Float.{nan};
-ghost use Rattle.model.specs.declared.Reading.TheVariants.{Value};
 ghost use Rattle.model.specs.Samples.{value_of};
 ghost use Rattle.grid.specs.Kinds.{in_block_reading};
 
-use model::{PlaceKind, Reading};
+use model::PlaceKind;
 
 // The sample at a place of the store of this kind.
-pub fn reading_at(samples: &[f32], at: usize, kind: PlaceKind) -> Reading
+pub fn reading_at(samples: &[f32], at: usize, kind: PlaceKind) -> Result<(f32, PlaceKind), usize>
     requires { at < length samples.now }
-    ensures { result ≡ Value (get_or samples.now at nan) kind }
+    ensures { result ≡ Ok (get_or samples.now at nan, kind) }
 {
-    Reading::Value(samples[at], kind)
+    Ok((samples[at], kind))
 }
 
 // A point that was never sampled has no value: a NaN.
-pub fn value_of(read: Reading) -> f32
+pub fn value_of(read: Result<(f32, PlaceKind), usize>) -> f32
     ensures { result ≡ value_of read }
 {
     match read {
-        Reading::Value(value, _) => value,
-        Reading::NeverSampled(_) => 0.0 / 0.0,
+        Ok((value, _)) => value,
+        Err(_) => f32::NAN,
     }
 }
 

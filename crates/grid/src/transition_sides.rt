@@ -24,14 +24,15 @@ pub fn count(mask: u8) -> usize
     u8::count_ones(mask) as usize
 }
 
-// The place of the lowest bit that is set, or 8.
+// The place of the lowest bit that is set, or 8, as Rust's own trailing_zeros has it: next_side adds it up with no test.
 fn lowest_bit(bits: u8) -> usize
     ensures { (result ≡ count_trailing_zeros 8 bits) × (result ≤ 8) }
 {
     u8::trailing_zeros(bits) as usize
 }
 
-// The first named side at or after from, or 6: bit 6, which is no side's, ends the search.
+// The first named side at or after from, or 6: bit 6, which is no side's, ends the search with no test. NextSide, of which theorems of judge
+// speak, says 6 for none; NamedSides makes an Option of it.
 pub fn next_side(mask: u8, from: usize) -> usize
     requires { (mask ≤ most_mask) × (from ≤ side_count) }
     ensures { NextSide mask from result }

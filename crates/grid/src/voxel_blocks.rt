@@ -8,7 +8,7 @@ ghost use Rattle.grid.specs.Places.{Within, Inner, across_of};
 
 use crate::nesting::nest;
 use crate::readings::{reading_at, value_in_block};
-use model::{PlaceKind, Reading, Xyz};
+use model::{PlaceKind, Xyz};
 
 pub const MOST_SUBDIVISIONS: usize = 64;
 
@@ -50,7 +50,7 @@ pub fn sample(n: usize, samples: &[f32], p: Xyz) -> f32
     value_in_block(samples, in_block(n, p.x, p.y, p.z))
 }
 
-// How far a coordinate is outside 0..n: not, by one step, or by more.
+// How far a coordinate is outside 0..n: not, by one step, or by more. A number, as the model has it: is_sampled adds three of them.
 pub fn outside_by(n: usize, c: usize) -> usize
     requires { n ≤ most_fine }
     ensures { (result ≡ outside n c) × (result ≤ 2) }
@@ -123,7 +123,7 @@ fn is_outside(n: usize, c: usize) -> usize
     requires { n ≤ most_fine }
     ensures { (result ≡ is_outside n c) × (result ≤ 1) }
 {
-    if outside_by(n, c) == 0 { 0 } else { 1 }
+    usize::from(outside_by(n, c) != 0)
 }
 
 // How many coordinates are outside 0..n.
@@ -143,14 +143,20 @@ pub fn is_sampled(n: usize, x: usize, y: usize, z: usize) -> bool
 }
 
 // The value of a point and where it is stored, or how many coordinates of one that was never sampled are outside.
-pub fn reading(n: usize, samples: &[f32], x: usize, y: usize, z: usize) -> Reading
+pub fn reading(
+    n: usize,
+    samples: &[f32],
+    x: usize,
+    y: usize,
+    z: usize,
+) -> Result<(f32, PlaceKind), usize>
     requires { (n ≤ most_fine) × (length samples.now ≡ sample_length n) }
     ensures { result ≡ reading_at n samples.now x y z }
 {
     if is_sampled(n, x, y, z) {
         return reading_at(samples, place(n, x, y, z), kind(n, x, y, z));
     }
-    Reading::NeverSampled(outside_count(n, x, y, z))
+    Err(outside_count(n, x, y, z))
 }
 
 // A signed coordinate, kept one up: the one function that reads a signed number.

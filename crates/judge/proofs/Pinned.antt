@@ -2,7 +2,6 @@
 use mathlib.Core.Path.{◌≡◌}
 use contract.Lifetimes.{Lfts}
 use Rattle.model.specs.Pinned.{pinned}
-use Rattle.judge.proofs.numbers_of.Reads as numbers-of
 use Rattle.judge.proofs.unless.Reads as unless
 use Rattle.judge.proofs.judge_subdivisions.Reads as judge-subdivisions
 use Rattle.judge.proofs.judge_mask.Reads as judge-mask
@@ -17,9 +16,6 @@ use Rattle.judge.proofs.samples.judge_list.Reads as judge-list
 use Rattle.judge.proofs.point_read.judge_block.Reads as judge-block
 use Rattle.judge.proofs.point_read.answered.Reads as answered
 use Rattle.judge.proofs.point_read.read_point.Reads as read-point
-
-pub numbers_of_pinned : (κs : Lfts 0) (a : _) (r r' : _) (e e' : _) → numbers-of.Learnt κs a r e → numbers-of.Learnt κs a r' e' → r ≡ r'
-numbers_of_pinned κs a r r' e e' h k = pinned h k
 
 pub unless_pinned : (κs : Lfts 0) (a : _) (r r' : _) (e e' : _) → unless.Learnt κs a r e → unless.Learnt κs a r' e' → r ≡ r'
 unless_pinned κs a r r' e e' h k = pinned h k

@@ -1,6 +1,6 @@
 -- Document 01, 'Answers by number': 7 for samples whose places are counted on from another place, and that two lists lent one after
 -- the other are judged one after the other. Samples that can all be used pass, wherever they are counted from.
-use Rattle.std.specs.Prelude.{ℕ, ◌+◌, ◌≡◌, refl, Bool, true, false, ◌&&◌, List, ◌++◌, Float, length, get_or}
+use Rattle.std.specs.Prelude.{ℕ, ◌+◌, ◌≡◌, refl, Bool, true, false, ◌&&◌, List, ◌++◌, Float, length, get_or, Ok}
 use Rattle.std.proofs.Common.{zero-le, sym, ◌∙◌, zero-add, add-one, length-append, get_or-append-add}
 use Rattle.std.proofs.Math.Bool.{and-eq-true_iff}
 use Rattle.std.specs.Float.{nan}
@@ -8,8 +8,7 @@ use Rattle.std.proofs.Math.ListN.{get_or-append}
 use Rattle.laws.specs.Below.{all_below, each_below}
 use Rattle.model.specs.declared.Refusal.{Refusal}
 use Rattle.model.specs.declared.Refusal.TheVariants.{BadSample}
-use Rattle.model.specs.declared.Verdict.{Verdict}
-use Rattle.model.specs.declared.Verdict.TheVariants.{Passed}
+use Rattle.model.specs.Answers.{Verdict}
 use Rattle.model.specs.Refusals.{unless, or_else, first}
 use Rattle.model.specs.Judging.{usable, sample_usable, judge_samples}
 use Rattle.judge.specs.First.{first_append, first_same, passed_over_lem}
@@ -39,10 +38,10 @@ one_more_each true false false y = refl
 one_more_each false b x y = refl
 
 -- where each test below a bound is passed, none of their refusals is told
-pub all_pass : (P : ℕ → Bool) (refusal : ℕ → Refusal) (n : ℕ) → all_below P n ≡ true → first (λ k. unless (P k) (refusal k)) n ≡ Passed
+pub all_pass : (P : ℕ → Bool) (refusal : ℕ → Refusal) (n : ℕ) → all_below P n ≡ true → first (λ k. unless (P k) (refusal k)) n ≡ Ok tt
 all_pass P refusal n h = passed_over_lem (λ k. unless (P k) (refusal k)) 0 n refl (λ k _ l. rw (each_below P n k h l)) zero-le
 
-usable_pass : (from : ℕ) (samples : List Float) (n : ℕ) → all_usable samples n ≡ true → first (usable_from from samples) n ≡ Passed
+usable_pass : (from : ℕ) (samples : List Float) (n : ℕ) → all_usable samples n ≡ true → first (usable_from from samples) n ≡ Ok tt
 usable_pass from samples = all_pass (λ k. usable (get_or samples k nan)) (λ k. BadSample (from + k))
 
 -- one list, its places counted from 0
@@ -50,7 +49,7 @@ pub from_zero : (samples : List Float) → judge_from 0 samples ≡ judge_sample
 unfolding judge_samples
 from_zero samples = first_same (usable_from 0 samples) (sample_usable samples) (length samples) (λ i h. rw zero-add)
 
-pub list_usable : (samples : List Float) → all_usable samples (length samples) ≡ true → Passed ≡ judge_samples samples
+pub list_usable : (samples : List Float) → all_usable samples (length samples) ≡ true → Ok tt ≡ judge_samples samples
 list_usable samples h = sym (usable_pass 0 samples (length samples) h) ∙ from_zero samples
 
 module _ (centre neighbours : List Float) where
@@ -68,7 +67,7 @@ module _ (centre neighbours : List Float) where
 
   pub both_usable : {a b : Bool} → a ≡ all_usable centre (length centre) → b ≡ all_usable neighbours (length neighbours)
       → (a && b) ≡ true
-      → Passed ≡ judge_samples (centre ++ neighbours)
+      → Ok tt ≡ judge_samples (centre ++ neighbours)
   both_usable {a} {b} in_centre after h =
       let parts = (and-eq-true_iff a b).0 h in
       let passed = usable_pass 0 centre (length centre) (sym in_centre ∙ parts.0) in

@@ -1,13 +1,12 @@
 -- Document 01, 'Answers by number': 5 at a named side, and that the neighbours of the sides below one that is come to are wholly there.
-use Rattle.std.specs.Prelude.{ℕ, zero, suc, ◌+◌, ◌*◌, ◌%◌, ◌≤◌, ◌<◌, ◌≡◌, Bool, true, false, cond, T, eqb, leb}
+use Rattle.std.specs.Prelude.{ℕ, zero, suc, ◌+◌, ◌*◌, ◌%◌, ◌≤◌, ◌<◌, ◌≡◌, Bool, true, false, cond, T, eqb, leb, Ok}
 use Rattle.std.proofs.Math.Path.{ap}
 use Rattle.std.proofs.Common.{subst, add-zero, add-one, eqb→eq, leb-true}
 use native.Mathlib.Omega.{arith}
 use Rattle.std.specs.Int.Count.{ones, ones_in}
 use Rattle.laws.specs.Tests.{both, below, all₂}
 use Rattle.model.specs.declared.Refusal.TheVariants.{MissingNeighbour}
-use Rattle.model.specs.declared.Verdict.{Verdict}
-use Rattle.model.specs.declared.Verdict.TheVariants.{Passed}
+use Rattle.model.specs.Answers.{Verdict}
 use Rattle.model.specs.Limits.{side_count, most_mask}
 use Rattle.model.specs.Refusals.{unless, first}
 use Rattle.model.specs.Sides.{named, named_below, neighbour_length}
@@ -41,7 +40,7 @@ module _ (mask : ℕ) (h : mask ≤ most_mask) where
   named_below_all = ap ones (omega arith)
 
   -- no neighbour of a side below this one is missing
-  pub parts_there : (n held side : ℕ) → side ≤ side_count → first (side_there n mask held) side ≡ Passed
+  pub parts_there : (n held side : ℕ) → side ≤ side_count → first (side_there n mask held) side ≡ Ok tt
       → named_below mask side * neighbour_length n ≤ held
   parts_there n held zero l e = rw named_below_none (omega arith)
   parts_there n held (suc side) l e =
@@ -52,7 +51,7 @@ module _ (mask : ℕ) (h : mask ≤ most_mask) where
       (rw counted (there (named mask side) parts.1 before))
     where
       there : (isNamed : Bool)
-          → cond isNamed (part_there n mask held side) Passed ≡ Passed
+          → cond isNamed (part_there n mask held side) (Ok tt) ≡ Ok tt
           → named_below mask side * neighbour_length n ≤ held
           → (named_below mask side + cond isNamed 1 0) * neighbour_length n ≤ held
       there true e before = leb-true _ _ (unless_passed _ (MissingNeighbour side) e)

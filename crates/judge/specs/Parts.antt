@@ -1,7 +1,7 @@
 -- The parts that a judge is worked out in. Definitions only.
 use Rattle.std.specs.Prelude.{ℕ}
 use Rattle.model.specs.declared.Vector.{Vector}
-use Rattle.model.specs.declared.Verdict.{Verdict}
+use Rattle.model.specs.Answers.{Verdict}
 use Rattle.model.specs.declared.Refusal.TheVariants.{Measure}
 use Rattle.model.specs.Refusals.{unless, or_else}
 use Rattle.model.specs.Judging.{usable, judge_subdivisions, judge_mask, judge_centre, judge_missing, judge_too_long}

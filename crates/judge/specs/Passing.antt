@@ -1,12 +1,11 @@
 -- Document 01, 'Answers by number': 1 to 6 and 1 to 7 in the parts that they are judged in, and that a block which passes them has its shape.
-use Rattle.std.specs.Prelude.{ℕ, ◌≤◌, ◌≡◌, ◌++◌, leb, Float, length}
+use Rattle.std.specs.Prelude.{ℕ, ◌≤◌, ◌≡◌, ◌++◌, leb, Float, length, Err, Ok}
 use Rattle.std.proofs.Math.Bool.{and-eq-true_iff}
 use Rattle.std.proofs.Common.{arith, leb-true, eqb-true}
 use Rattle.model.specs.declared.Block.{Block}
 use Rattle.model.specs.declared.Refusal.{Refusal}
 use Rattle.model.specs.declared.Refusal.TheVariants.{Subdivisions, Mask, CentreLength, NeighboursTooLong}
-use Rattle.model.specs.declared.Verdict.{Verdict}
-use Rattle.model.specs.declared.Verdict.TheVariants.{Passed, Refused}
+use Rattle.model.specs.Answers.{Verdict}
 use Rattle.model.specs.Refusals.{or_else}
 use Rattle.model.specs.Samples.{sample_length}
 use Rattle.model.specs.Sides.{neighbours_length}
@@ -30,11 +29,11 @@ module _ (block : Block) (mask : ℕ) (threshold : Float) (centre neighbours : �
   unfolding judge_lent
   in_parts = simp or_else_assoc
 
-  pub kind_refused : {r : Refusal} → judge_kind block.subdivisions mask ≡ Refused r
-      → judge_lent block mask threshold centre neighbours ≡ Refused r
+  pub kind_refused : {r : Refusal} → judge_kind block.subdivisions mask ≡ Err r
+      → judge_lent block mask threshold centre neighbours ≡ Err r
   kind_refused kind = rw (in_parts, kind)
 
-  pub shape_left : judge_kind block.subdivisions mask ≡ Passed
+  pub shape_left : judge_kind block.subdivisions mask ≡ Ok tt
       → judge_lent block mask threshold centre neighbours ≡ judge_shape block mask threshold centre neighbours
   shape_left kind = rw (in_parts, kind)
 
@@ -43,7 +42,7 @@ pub record Kind (n mask : ℕ) : Type 0 where
   pub few : n ≤ most_subdivisions
   pub sides : mask ≤ most_mask
 
-pub kind_passed : (n mask : ℕ) → judge_kind n mask ≡ Passed → Kind n mask
+pub kind_passed : (n mask : ℕ) → judge_kind n mask ≡ Ok tt → Kind n mask
 kind_passed n mask passed =
     let parts = both_passed (judge_subdivisions n) (judge_mask mask) passed in
     let range = (and-eq-true_iff (leb 1 n) (leb n most_subdivisions)).0 (unless_passed _ (Subdivisions n) parts.0) in
@@ -57,7 +56,7 @@ kind_passed n mask passed =
 abbrev pub lent_of : Star → Verdict
 lent_of s = judge_lent s.block s.mask s.threshold (length s.centre) (length s.neighbours)
 
-pub lent_shaped : (s : Star) → lent_of s ≡ Passed → Shaped s
+pub lent_shaped : (s : Star) → lent_of s ≡ Ok tt → Shaped s
 unfolding judge_missing
 lent_shaped s passed =
     let n = subdivisions s in
@@ -82,26 +81,26 @@ lent_shaped s passed =
     }
 
 module _ (s : Star) where
-  pub lent_refused : {r : Refusal} → lent_of s ≡ Refused r → judge_star s ≡ Refused r
+  pub lent_refused : {r : Refusal} → lent_of s ≡ Err r → judge_star s ≡ Err r
   unfolding judge_star
   lent_refused lent = rw lent
 
-  pub samples_left : lent_of s ≡ Passed → judge_star s ≡ judge_samples (s.centre ++ s.neighbours)
+  pub samples_left : lent_of s ≡ Ok tt → judge_star s ≡ judge_samples (s.centre ++ s.neighbours)
   unfolding judge_star
   samples_left lent = rw lent
 
-  pub star_lent : judge_star s ≡ Passed → lent_of s ≡ Passed
+  pub star_lent : judge_star s ≡ Ok tt → lent_of s ≡ Ok tt
   unfolding judge_star
   star_lent passed = (both_passed (lent_of s) _ passed).0
 
-  pub star_samples : judge_star s ≡ Passed → judge_samples (s.centre ++ s.neighbours) ≡ Passed
+  pub star_samples : judge_star s ≡ Ok tt → judge_samples (s.centre ++ s.neighbours) ≡ Ok tt
   unfolding judge_star
   star_samples passed = (both_passed (lent_of s) _ passed).1
 
-  pub star_measures : judge_star s ≡ Passed → judge_measures s.block s.threshold ≡ Passed
+  pub star_measures : judge_star s ≡ Ok tt → judge_measures s.block s.threshold ≡ Ok tt
   star_measures passed =
       let from1 = both_passed (judge_kind (subdivisions s) s.mask) _ (rw in_parts at (star_lent passed)) in
       (both_passed (judge_measures s.block s.threshold) _ from1.1).0
 
-  pub star_shaped : judge_star s ≡ Passed → Shaped s
+  pub star_shaped : judge_star s ≡ Ok tt → Shaped s
   star_shaped passed = lent_shaped s (star_lent passed)

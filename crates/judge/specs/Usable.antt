@@ -1,5 +1,5 @@
 -- What is usable, and a size that is, is no NaN: so its pattern has a float. What 3 and 7 let pass is usable, and 7 asks no more. Assumes nothing.
-use Rattle.std.specs.Prelude.{ℕ, ◌<◌, ◌≡◌, refl, true, not, List, T, Float, length, get_or}
+use Rattle.std.specs.Prelude.{ℕ, ◌<◌, ◌≡◌, refl, true, not, List, T, Float, length, get_or, Ok}
 use Rattle.std.proofs.Common.{zero-le, sym, subst}
 use Rattle.std.proofs.Math.Bool.{and-eq-true_iff}
 use Rattle.std.specs.Float.Ieee as Ieee
@@ -7,7 +7,6 @@ use Rattle.std.specs.Float.{nan, inf, fin}
 use Rattle.std.specs.Float.Ieee.{is_nan}
 use Rattle.model.specs.declared.Block.{Block}
 use Rattle.model.specs.declared.Refusal.TheVariants.{Measure, BadSample}
-use Rattle.model.specs.declared.Verdict.TheVariants.{Passed}
 use Rattle.model.specs.Formulas.{whole, ◌⊘◌}
 use Rattle.model.specs.Refusals.{unless}
 use Rattle.model.specs.Judging.{limit, usable, usable_size, measure_usable, judge_measures, sample_usable, judge_samples}
@@ -30,7 +29,7 @@ size_number x e = compared_number (whole 1 ⊘ whole 1024) x ((and-eq-true_iff (
 
 -- ---- 3
 
-pub measure_usable_lem : (block : Block) (threshold : Float) (k : ℕ) → judge_measures block threshold ≡ Passed → k < 5 → measure_usable block threshold k ≡ true
+pub measure_usable_lem : (block : Block) (threshold : Float) (k : ℕ) → judge_measures block threshold ≡ Ok tt → k < 5 → measure_usable block threshold k ≡ true
 unfolding judge_measures
 measure_usable_lem block threshold k e h =
     unless_passed (measure_usable block threshold k) (Measure k)
@@ -38,11 +37,11 @@ measure_usable_lem block threshold k e h =
 
 -- ---- 7
 
-pub samples_usable : (samples : List Float) (k : ℕ) → judge_samples samples ≡ Passed → k < length samples → usable (get_or samples k nan) ≡ true
+pub samples_usable : (samples : List Float) (k : ℕ) → judge_samples samples ≡ Ok tt → k < length samples → usable (get_or samples k nan) ≡ true
 unfolding judge_samples
 samples_usable samples k e h =
     unless_passed (usable (get_or samples k nan)) (BadSample k) (each_passed (sample_usable samples) (length samples) k e h)
 
-pub samples_pass : (samples : List Float) → ((k : ℕ) → k < length samples → usable (get_or samples k nan) ≡ true) → judge_samples samples ≡ Passed
+pub samples_pass : (samples : List Float) → ((k : ℕ) → k < length samples → usable (get_or samples k nan) ≡ true) → judge_samples samples ≡ Ok tt
 unfolding judge_samples
 samples_pass samples h = passed_over_lem (sample_usable samples) 0 (length samples) refl (λ k from l. rw (h k l)) zero-le

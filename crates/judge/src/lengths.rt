@@ -4,12 +4,13 @@ ghost use Rattle.model.specs.Limits.{most_subdivisions, most_mask};
 ghost use Rattle.model.specs.Judging.{judge_centre, judge_missing, judge_too_long};
 ghost use Rattle.judge.specs.Parts.{judge_lengths};
 
-use crate::{or_else, unless};
-use grid::transition_sides::{SIDES, count, count_below, next_side};
+use crate::unless;
+use grid::named_sides::named_sides;
+use grid::transition_sides::{count, count_below};
 use grid::voxel_blocks::sample_length;
-use model::{Refusal, Verdict};
+use model::Refusal;
 
-pub fn judge_centre(n: usize, held: usize) -> Verdict
+pub fn judge_centre(n: usize, held: usize) -> Result<(), Refusal>
     requires { n ≤ most_subdivisions }
     ensures { result ≡ judge_centre n held }
 {
@@ -18,23 +19,21 @@ pub fn judge_centre(n: usize, held: usize) -> Verdict
 }
 
 // The parts of the named sides lie one after another: the first that ends beyond what is held is not wholly there.
-fn judge_missing(n: usize, mask: u8, held: usize) -> Verdict
+fn judge_missing(n: usize, mask: u8, held: usize) -> Result<(), Refusal>
     requires { (n ≤ most_subdivisions) × (mask ≤ most_mask) }
     ensures { result ≡ judge_missing n mask held }
 {
     let length = sample_length(2 * n);
-    let mut side = next_side(mask, 0);
-    while side < SIDES {
+    for side in named_sides(mask) {
         let end = (count_below(mask, side) + 1) * length;
         if held < end {
-            return Verdict::Refused(Refusal::MissingNeighbour(side));
+            return Err(Refusal::MissingNeighbour(side));
         }
-        side = next_side(mask, side + 1);
     }
-    Verdict::Passed
+    Ok(())
 }
 
-fn judge_too_long(n: usize, mask: u8, held: usize) -> Verdict
+fn judge_too_long(n: usize, mask: u8, held: usize) -> Result<(), Refusal>
     requires { (n ≤ most_subdivisions) × (mask ≤ most_mask) }
     ensures { result ≡ judge_too_long n mask held }
 {
@@ -42,11 +41,11 @@ fn judge_too_long(n: usize, mask: u8, held: usize) -> Verdict
     unless(held <= wanted, Refusal::NeighboursTooLong(wanted))
 }
 
-pub fn judge_lengths(n: usize, mask: u8, centre: usize, neighbours: usize) -> Verdict
+pub fn judge_lengths(n: usize, mask: u8, centre: usize, neighbours: usize) -> Result<(), Refusal>
     requires { (n ≤ most_subdivisions) × (mask ≤ most_mask) }
     ensures { result ≡ judge_lengths n mask centre neighbours }
 {
-    let missing = judge_missing(n, mask, neighbours);
-    let too_long = judge_too_long(n, mask, neighbours);
-    or_else(judge_centre(n, centre), or_else(missing, too_long))
+    judge_centre(n, centre)?;
+    judge_missing(n, mask, neighbours)?;
+    judge_too_long(n, mask, neighbours)
 }

@@ -3,8 +3,8 @@ ghost use Rattle.std.specs.Prelude.{◌≡◌, ◌++◌, ◌+◌, ◌≤◌, ◌
 ghost use Rattle.model.specs.Judging.{judge_samples};
 ghost use Rattle.judge.specs.Counted.{all_usable, judge_from};
 
-use crate::{is_usable, or_else};
-use model::{Refusal, Verdict};
+use crate::is_usable;
+use model::Refusal;
 
 // Whether the samples of two halves can be used. It looks at them all, which the compiler does many at a time, and at both halves side by side,
 // since two streams come faster from memory than one.
@@ -32,33 +32,34 @@ fn all_usable(samples: &[f32]) -> bool
 }
 
 // The first bad one of these samples, their places counted on from another.
-fn first_bad(samples: &[f32], from: usize) -> Verdict
+fn first_bad(samples: &[f32], from: usize) -> Result<(), Refusal>
     requires { from + length samples.now < 2 ^ 64 }
     ensures { result ≡ judge_from from samples.now }
 {
-    for place in 0..samples.len() {
-        if !is_usable(samples[place]) {
-            return Verdict::Refused(Refusal::BadSample(from + place));
+    for (place, sample) in samples.iter().enumerate() {
+        if !is_usable(*sample) {
+            return Err(Refusal::BadSample(from + place));
         }
     }
-    Verdict::Passed
+    Ok(())
 }
 
 // 7 of one list.
-pub fn judge_list(samples: &[f32]) -> Verdict
+pub fn judge_list(samples: &[f32]) -> Result<(), Refusal>
     ensures { result ≡ judge_samples samples.now }
 {
     if all_usable(samples) {
-        return Verdict::Passed;
+        return Ok(());
     }
     first_bad(samples, 0)
 }
 
-pub(crate) fn judge_samples(centre: &[f32], neighbours: &[f32]) -> Verdict
+pub(crate) fn judge_samples(centre: &[f32], neighbours: &[f32]) -> Result<(), Refusal>
     ensures { result ≡ judge_samples (centre.now ++ neighbours.now) }
 {
     if all_usable(centre) & all_usable(neighbours) {
-        return Verdict::Passed;
+        return Ok(());
     }
-    or_else(first_bad(centre, 0), first_bad(neighbours, centre.len()))
+    first_bad(centre, 0)?;
+    first_bad(neighbours, centre.len())
 }

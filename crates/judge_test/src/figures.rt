@@ -3,60 +3,59 @@
 ghost use Rattle.std.specs.Prelude.{◌≤◌};
 ghost use Rattle.model.specs.Limits.{most_subdivisions};
 
-use crate::given::block;
-use crate::tally::{Tally, noted};
-use model::{Header, Vector, Xyz};
+use crate::cases::note;
+use crate::given::header;
+use filling::tally::Tally;
+use model::{Vector, Xyz};
 use points::block::regular_position;
 use points::fractions::fractions_of;
 use std::io;
 
 const LOW_X: u8 = 1;
 
-fn is_at(p: Vector, x: f32, y: f32, z: f32) -> bool {
-    (p.x == x) & (p.y == y) & (p.z == z)
-}
-
 fn position(n: usize, x: usize, y: usize, z: usize) -> Vector
     requires { ((1 ≤ n) × (n ≤ most_subdivisions)) × (x ≤ n) × (y ≤ n) × (z ≤ n) }
 {
-    let header = Header {
-        block: block(n),
-        mask: LOW_X,
-        threshold: 0.5,
-    };
+    let header = header(n, LOW_X, 0.5);
     let fractions = fractions_of(header.block.subdivisions);
     regular_position(header, &fractions, Xyz { x, y, z })
 }
 
 // By 0.15 * (1 * (1/2)), toward the inside.
-fn at_two(rt: &impl Print, t: Tally) -> io::Result<Tally> {
-    let t = noted(rt, t, is_at(position(2, 0, 1, 1), 0.075, 0.5, 0.5))?;
-    noted(rt, t, is_at(position(2, 0, 0, 1), 0.0, 0.0, 0.5))
+fn at_two(rt: &impl Print, tally: &mut Tally) -> io::Result<()> {
+    let moved = Vector {
+        x: 0.075,
+        y: 0.5,
+        z: 0.5,
+    };
+    let unmoved = Vector {
+        x: 0.0,
+        y: 0.0,
+        z: 0.5,
+    };
+    note(rt, tally, position(2, 0, 1, 1) == moved)?;
+    note(rt, tally, position(2, 0, 0, 1) == unmoved)
 }
 
-fn stays(rt: &impl Print, t: Tally, x: usize, y: usize, z: usize) -> io::Result<Tally>
+fn stays(x: usize, y: usize, z: usize) -> bool
     requires { (x ≤ 1) × (y ≤ 1) × (z ≤ 1) }
 {
-    let p = position(1, x, y, z);
-    noted(
-        rt,
-        t,
-        is_at(p, x as u16 as f32, y as u16 as f32, z as u16 as f32),
-    )
+    let grid_point = Vector {
+        x: x as u16 as f32,
+        y: y as u16 as f32,
+        z: z as u16 as f32,
+    };
+    position(1, x, y, z) == grid_point
 }
 
-fn at_one(rt: &impl Print, t: Tally) -> io::Result<Tally> {
-    let t = stays(rt, t, 0, 0, 0)?;
-    let t = stays(rt, t, 0, 0, 1)?;
-    let t = stays(rt, t, 0, 1, 0)?;
-    let t = stays(rt, t, 0, 1, 1)?;
-    let t = stays(rt, t, 1, 0, 0)?;
-    let t = stays(rt, t, 1, 0, 1)?;
-    let t = stays(rt, t, 1, 1, 0)?;
-    stays(rt, t, 1, 1, 1)
+fn at_one(rt: &impl Print, tally: &mut Tally) -> io::Result<()> {
+    for corner in 0..8 {
+        note(rt, tally, stays(corner / 4, corner / 2 % 2, corner % 2))?;
+    }
+    Ok(())
 }
 
-pub fn run(rt: &impl Print, t: Tally) -> io::Result<Tally> {
-    let t = at_two(rt, t)?;
-    at_one(rt, t)
+pub fn run(rt: &impl Print, tally: &mut Tally) -> io::Result<()> {
+    at_two(rt, tally)?;
+    at_one(rt, tally)
 }

@@ -3,52 +3,47 @@ ghost use Rattle.std.specs.Prelude.{◌≡◌};
 
 use agreement::judge_faces;
 use judge::judge_star;
-use model::{Block, Header, Vector, Verdict};
+use model::{Block, Header, Lent, Refusal, Vector};
 
-// At the origin, of size 1.
-pub fn block(n: usize) -> Block
-    ensures { result.subdivisions ≡ n }
+// Of a block at the origin, of size 1.
+pub fn header(n: usize, mask: u8, threshold: f32) -> Header
+    ensures { result.block.subdivisions ≡ n }
 {
-    Block {
-        base: Vector {
-            x: 0.0,
-            y: 0.0,
-            z: 0.0,
-        },
+    let base = Vector {
+        x: 0.0,
+        y: 0.0,
+        z: 0.0,
+    };
+    let block = Block {
+        base,
         size: 1.0,
         subdivisions: n,
-    }
-}
-
-pub fn judged(
-    block: Block,
-    mask: u8,
-    threshold: f32,
-    centre: &[f32],
-    neighbours: &[f32],
-) -> Verdict {
-    let header = Header {
+    };
+    Header {
         block,
         mask,
         threshold,
-    };
-    let verdict = judge_star(header, centre, neighbours);
-    if let Verdict::Refused(r) = verdict {
-        return Verdict::Refused(r);
     }
-    judge_faces(header, centre, neighbours)
+}
+
+pub fn judged(header: Header, centre: &[f32], neighbours: &[f32]) -> Result<(), Refusal> {
+    let lent = Lent {
+        header,
+        centre,
+        neighbours,
+    };
+    judge_star(&lent)?;
+    judge_faces(&lent)
 }
 
 // With no neighbour lent, and every sample of the centre 0.
-pub fn judged_alone(block: Block, mask: u8, threshold: f32) -> Verdict {
-    let centre = [0f32; 81];
-    let none = [0f32; 1];
-    judged(block, mask, threshold, &centre, &none[..0])
+pub fn judged_alone(header: Header) -> Result<(), Refusal> {
+    judged(header, &[0.0; 81], &[])
 }
 
 // A sample is set; at a place past the list nothing is.
 pub fn put(samples: &mut [f32], place: usize, x: f32) {
-    if place < samples.len() {
-        samples[place] = x;
+    if let Some(sample) = samples.get_mut(place) {
+        *sample = x;
     }
 }

@@ -2,6 +2,7 @@
 // says of it.
 #![tactic(auto)]
 
+mod cases;
 mod faces;
 mod figures;
 mod given;
@@ -9,21 +10,17 @@ mod lengths;
 mod ranges;
 mod reads;
 mod samples;
-mod tally;
 
+use filling::tally::Tally;
 use std::io;
-use tally::Tally;
 
 fn main(rt: HostRuntime) -> io::Result<()> {
-    let t = Tally {
-        passed: 0,
-        failed: 0,
-    };
-    let t = ranges::run(&rt, t)?;
-    let t = lengths::run(&rt, t)?;
-    let t = samples::run(&rt, t)?;
-    let t = faces::run(&rt, t)?;
-    let t = reads::run(&rt, t)?;
-    let t = figures::run(&rt, t)?;
-    println!(rt; "{} passed, {} failed", t.passed, t.failed)
+    let mut tally = Tally::default();
+    ranges::run(&rt, &mut tally)?;
+    lengths::run(&rt, &mut tally)?;
+    samples::run(&rt, &mut tally)?;
+    faces::run(&rt, &mut tally)?;
+    reads::run(&rt, &mut tally)?;
+    figures::run(&rt, &mut tally)?;
+    println!(rt; "{tally}")
 }

@@ -5,66 +5,85 @@
 ghost use Rattle.std.specs.Prelude.{◌<◌, ◌≤◌};
 ghost use Rattle.model.specs.Limits.{most_subdivisions};
 
-use crate::tally::{Tally, read_gives, read_refuses};
+use crate::cases::{compare, note, refused};
+use filling::tally::Tally;
 use judge::point_read::read_point;
+use model::{Numbers, PlaceKind, Refusal};
 use std::io;
 
 // x runs from -2 to 18, y and z from -2 to 29.
 const NUMBERS: usize = 21504;
 
-const SIGNED: [i32; 32] = [
-    -2, -1, 0, 1, 2, 3, 4, 5, 6, 7, 8, 9, 10, 11, 12, 13, 14, 15, 16, 17, 18, 19, 20, 21, 22, 23,
-    24, 25, 26, 27, 28, 29,
+// In the order in which their samples are listed: x = -1, x = n + 1, y = -1 and so on after the block.
+const PARTS: [PlaceKind; 7] = [
+    PlaceKind::InBlock,
+    PlaceKind::Face(0),
+    PlaceKind::Face(1),
+    PlaceKind::Face(2),
+    PlaceKind::Face(3),
+    PlaceKind::Face(4),
+    PlaceKind::Face(5),
 ];
 
-// What a coordinate is, two up: 0 in 0..n, 1 the step below, 2 the step above, 3 farther.
-fn outside(n: usize, c: usize) -> usize
-    requires { n ≤ most_subdivisions }
-    ensures { result ≤ 3 }
-{
-    if c == 1 {
-        return 1;
-    }
-    if c == n + 3 {
-        return 2;
-    }
-    if (2 <= c) & (c <= n + 2) {
-        return 0;
-    }
-    3
+// A coordinate beside 0..n.
+#[derive(Clone, Copy, PartialEq)]
+enum Reach {
+    Inside,
+    StepBelow,
+    StepAbove,
+    Farther,
 }
 
-// Where a point's sample stands: 1 in the block, 2 to 7 on a face, in the order x=-1, x=n+1, y=-1, y=n+1, z=-1, z=n+1; 0 nowhere.
-fn part(n: usize, number: usize) -> usize
+// Of a coordinate that is told two up.
+fn reach_of(n: usize, digit: usize) -> Reach
     requires { n ≤ most_subdivisions }
 {
-    let x = outside(n, number / 1024);
-    let y = outside(n, number / 32 % 32);
-    let z = outside(n, number % 32);
-    if (y == 0) & (z == 0) & (x < 3) {
-        return 1 + x;
+    if digit == 1 {
+        Reach::StepBelow
+    } else if digit == n + 3 {
+        Reach::StepAbove
+    } else if (2 <= digit) & (digit <= n + 2) {
+        Reach::Inside
+    } else {
+        Reach::Farther
     }
-    if (x == 0) & (z == 0) & (y < 3) {
-        return 3 + y;
-    }
-    if (x == 0) & (y == 0) & (z < 3) {
-        return 5 + z;
-    }
-    0
 }
 
-fn one_outside(n: usize, c: usize) -> usize
+// Of x, y and z.
+fn reaches(n: usize, number: usize) -> [Reach; 3]
     requires { n ≤ most_subdivisions }
-    ensures { result ≤ 1 }
 {
-    if outside(n, c) == 0 { 0 } else { 1 }
+    [
+        reach_of(n, number / 1024),
+        reach_of(n, number / 32 % 32),
+        reach_of(n, number % 32),
+    ]
+}
+
+// Where a point's sample stands, if it has one.
+fn part_of(n: usize, number: usize) -> Option<PlaceKind>
+    requires { n ≤ most_subdivisions }
+{
+    match reaches(n, number) {
+        [Reach::Inside, Reach::Inside, Reach::Inside] => Some(PlaceKind::InBlock),
+        [Reach::StepBelow, Reach::Inside, Reach::Inside] => Some(PlaceKind::Face(0)),
+        [Reach::StepAbove, Reach::Inside, Reach::Inside] => Some(PlaceKind::Face(1)),
+        [Reach::Inside, Reach::StepBelow, Reach::Inside] => Some(PlaceKind::Face(2)),
+        [Reach::Inside, Reach::StepAbove, Reach::Inside] => Some(PlaceKind::Face(3)),
+        [Reach::Inside, Reach::Inside, Reach::StepBelow] => Some(PlaceKind::Face(4)),
+        [Reach::Inside, Reach::Inside, Reach::StepAbove] => Some(PlaceKind::Face(5)),
+        _ => None,
+    }
 }
 
 // How many coordinates are outside 0..n.
 fn outside_count(n: usize, number: usize) -> usize
     requires { n ≤ most_subdivisions }
 {
-    one_outside(n, number / 1024) + one_outside(n, number / 32 % 32) + one_outside(n, number % 32)
+    reaches(n, number)
+        .iter()
+        .filter(|&reach| *reach != Reach::Inside)
+        .count()
 }
 
 fn mark(number: usize) -> f32
@@ -73,26 +92,16 @@ fn mark(number: usize) -> f32
     number as u16 as f32
 }
 
-// One sample, if its point is of the part that is wanted. Answers the next place.
-fn lay_one(n: usize, wanted: usize, samples: &mut [f32], at: usize, number: usize) -> usize
-    requires { (n ≤ most_subdivisions) × (number < 21504) }
-{
-    if part(n, number) == wanted {
-        if at < samples.len() {
-            samples[at] = mark(number);
-            return at + 1;
-        }
-    }
-    at
-}
-
 // The samples of one part, from a place on. Answers the place after them.
-fn lay(n: usize, wanted: usize, samples: &mut [f32], from: usize) -> usize
+fn lay(n: usize, part: PlaceKind, samples: &mut [f32], from: usize) -> usize
     requires { n ≤ most_subdivisions }
 {
     let mut at = from;
     for number in 0..NUMBERS {
-        at = lay_one(n, wanted, samples, at, number);
+        if part_of(n, number) == Some(part) && at < samples.len() {
+            samples[at] = mark(number);
+            at += 1;
+        }
     }
     at
 }
@@ -102,87 +111,69 @@ fn lay_all(n: usize, samples: &mut [f32])
     requires { n ≤ most_subdivisions }
 {
     let mut at = 0;
-    for wanted in 1..8 {
-        at = lay(n, wanted, samples, at);
+    for part in PARTS {
+        at = lay(n, part, samples, at);
     }
 }
 
-fn read_back(
-    rt: &impl Print,
-    t: Tally,
-    n: usize,
-    samples: &[f32],
-    number: usize,
-) -> io::Result<Tally>
+fn signed(digit: usize) -> i32
+    requires { digit < 32 }
+{
+    digit as i32 - 2
+}
+
+fn reads_back(n: usize, samples: &[f32], number: usize) -> bool
     requires { (n ≤ most_subdivisions) × (number < 21504) }
 {
-    let x = SIGNED[number / 1024];
-    let y = SIGNED[number / 32 % 32];
-    let z = SIGNED[number % 32];
-    let read = read_point(n, samples, x, y, z);
-    let from = part(n, number);
-    if from == 0 {
-        return read_refuses(rt, t, read, 15, outside_count(n, number));
-    }
-    read_gives(rt, t, read, mark(number), from)
+    let x = signed(number / 1024);
+    let y = signed(number / 32 % 32);
+    let z = signed(number % 32);
+    let wanted = match part_of(n, number) {
+        Some(part) => Ok((mark(number), part)),
+        None => refused(15, outside_count(n, number), 0, 0),
+    };
+    read_point(n, samples, x, y, z).map_err(Numbers::from) == wanted
 }
 
-fn read_all(rt: &impl Print, t: Tally, n: usize, samples: &[f32]) -> io::Result<Tally>
+fn read_all(rt: &impl Print, tally: &mut Tally, n: usize, samples: &[f32]) -> io::Result<()>
     requires { n ≤ most_subdivisions }
 {
-    let mut t = t;
     for number in 0..NUMBERS {
-        t = read_back(rt, t, n, samples, number)?;
+        note(rt, tally, reads_back(n, samples, number))?;
     }
-    Ok(t)
+    Ok(())
 }
 
 // 1 and 4 are judged before 15, and coordinates may be as far out as they go.
-fn refusals(rt: &impl Print, t: Tally) -> io::Result<Tally> {
+fn refusals(rt: &impl Print, tally: &mut Tally) -> io::Result<()> {
     let samples = [0f32; 82];
-    let t = read_refuses(rt, t, read_point(0, &samples[..81], -5, 0, 0), 1, 0)?;
-    let t = read_refuses(rt, t, read_point(65, &samples[..81], 0, 0, 0), 1, 65)?;
-    let t = read_refuses(rt, t, read_point(64, &samples[..81], 0, 0, 0), 4, 299975)?;
-    let t = read_refuses(rt, t, read_point(2, &samples[..80], -5, 0, 0), 4, 81)?;
-    let t = read_refuses(rt, t, read_point(2, &samples[..82], 0, 0, 0), 4, 81)?;
-    let t = read_refuses(rt, t, read_point(2, &samples[..81], -1, -1, 0), 15, 2)?;
-    let t = read_refuses(
-        rt,
-        t,
-        read_point(2, &samples[..81], 2147483647, 0, 0),
-        15,
-        1,
-    )?;
-    read_refuses(
-        rt,
-        t,
-        read_point(2, &samples[..81], 0, 0, -2147483648),
-        15,
-        1,
-    )
+    let short = &samples[..80];
+    let two = &samples[..81];
+    let cases = [
+        (read_point(0, two, -5, 0, 0), refused(1, 0, 0, 0)),
+        (read_point(65, two, 0, 0, 0), refused(1, 65, 0, 0)),
+        (read_point(64, two, 0, 0, 0), refused(4, 299975, 0, 0)),
+        (read_point(2, short, -5, 0, 0), refused(4, 81, 0, 0)),
+        (read_point(2, &samples, 0, 0, 0), refused(4, 81, 0, 0)),
+        (read_point(2, two, -1, -1, 0), refused(15, 2, 0, 0)),
+        (read_point(2, two, i32::MAX, 0, 0), refused(15, 1, 0, 0)),
+        (read_point(2, two, 0, 0, i32::MIN), refused(15, 1, 0, 0)),
+    ];
+    compare(rt, tally, &cases)
 }
 
-fn smallest(rt: &impl Print, t: Tally) -> io::Result<Tally> {
-    let mut samples = [0f32; 32];
-    lay_all(1, &mut samples);
-    read_all(rt, t, 1, &samples)
+// Of n subdivisions, whose samples are so many.
+fn around<const LENGTH: usize>(rt: &impl Print, tally: &mut Tally, n: usize) -> io::Result<()>
+    requires { (n ≤ most_subdivisions) × (LENGTH ≤ 6647) }
+{
+    let mut samples = [0f32; LENGTH];
+    lay_all(n, &mut samples);
+    read_all(rt, tally, n, &samples)
 }
 
-fn small(rt: &impl Print, t: Tally) -> io::Result<Tally> {
-    let mut samples = [0f32; 81];
-    lay_all(2, &mut samples);
-    read_all(rt, t, 2, &samples)
-}
-
-fn large(rt: &impl Print, t: Tally) -> io::Result<Tally> {
-    let mut samples = [0f32; 6647];
-    lay_all(16, &mut samples);
-    read_all(rt, t, 16, &samples)
-}
-
-pub fn run(rt: &impl Print, t: Tally) -> io::Result<Tally> {
-    let t = refusals(rt, t)?;
-    let t = smallest(rt, t)?;
-    let t = small(rt, t)?;
-    large(rt, t)
+pub fn run(rt: &impl Print, tally: &mut Tally) -> io::Result<()> {
+    refusals(rt, tally)?;
+    around::<32>(rt, tally, 1)?;
+    around::<81>(rt, tally, 2)?;
+    around::<6647>(rt, tally, 16)
 }

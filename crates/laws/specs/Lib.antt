@@ -18,3 +18,4 @@ pub mod Counting
 pub mod Ranges
 -- bits of a number
 pub mod Bits
+pub mod Exits

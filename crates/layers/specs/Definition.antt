@@ -1,14 +1,13 @@
 -- Document 02, [12]: making a summary by layer and setting one sample: what each refuses and when, and what it leaves. What a layer's least and greatest
 -- sample are, what the mark is and when extraction refuses a summary stands in the model's Layers. Definitions only.
-use Rattle.std.specs.Prelude.{ℕ, ◌+◌, ◌-◌, ◌*◌, cond, List, [], ◌∷◌, ltb, ℤ, Float, length, set}
+use Rattle.std.specs.Prelude.{ℕ, ◌+◌, ◌-◌, ◌*◌, cond, List, [], ◌∷◌, ltb, ℤ, Float, length, set, Err, Ok}
 use Rattle.std.proofs.lemmas.List.Edits.{sets}
 use Rattle.laws.specs.Counting.{gather}
 use Rattle.model.specs.declared.Xyz.{Xyz}
 use Rattle.model.specs.declared.PlaceKind.{PlaceKind}
 use Rattle.model.specs.declared.PlaceKind.TheVariants.{InBlock, Face}
 use Rattle.model.specs.declared.Refusal.TheVariants.{BadSample, PointNeverSampled}
-use Rattle.model.specs.declared.Verdict.{Verdict}
-use Rattle.model.specs.declared.Verdict.TheVariants.{Passed, Refused}
+use Rattle.model.specs.Answers.{Verdict}
 use Rattle.model.specs.Samples.{place_of, sampled, kind_of, outside_count, one_up}
 use Rattle.model.specs.Refusals.{unless, or_else}
 use Rattle.model.specs.Judging.{judge_subdivisions, judge_centre, usable, judge_samples, judge_buffer}
@@ -37,8 +36,8 @@ pub record MakeOutcome : Type 0 where
   pub summary : List Float
 
 abbrev pub make_answer : ℕ → List Float → List Float → Verdict → MakeOutcome
-make_answer n samples summary Passed = record { answer = Passed; summary = layers_made n samples 0 n summary }
-make_answer n samples summary (Refused r) = record { answer = Refused r; summary = summary }
+make_answer n samples summary (Ok _) = record { answer = Ok tt; summary = layers_made n samples 0 n summary }
+make_answer n samples summary (Err r) = record { answer = Err r; summary = summary }
 
 unfoldable pub make_summary : ℕ → List Float → List Float → MakeOutcome
 make_summary n samples summary = make_answer n samples summary (judge_making n samples (length summary))
@@ -86,10 +85,10 @@ pub record SetOutcome : Type 0 where
   pub summary : List Float
 
 abbrev pub set_answer : ℕ → List Float → Xyz → Float → List Float → Verdict → SetOutcome
-set_answer n samples p value summary Passed =
+set_answer n samples p value summary (Ok _) =
     let after = set samples (place_up n p) value in
-    record { answer = Passed; samples = after; summary = renewed (kind_of n p.x p.y p.z) n after (p.x - 1) summary }
-set_answer n samples p value summary (Refused r) = record { answer = Refused r; samples = samples; summary = summary }
+    record { answer = Ok tt; samples = after; summary = renewed (kind_of n p.x p.y p.z) n after (p.x - 1) summary }
+set_answer n samples p value summary (Err r) = record { answer = Err r; samples = samples; summary = summary }
 
 unfoldable pub set_sample : ℕ → List Float → ℤ → ℤ → ℤ → Float → List Float → SetOutcome
 set_sample n samples x y z value summary =

@@ -1,5 +1,5 @@
 -- Document 02, [12]: the layers that hold the plane x of a block: those that are made afresh where a sample of it is set, and no others.
-use Rattle.std.specs.Prelude.{ℕ, ◌+◌, ◌-◌, ◌≤◌, ◌<◌, ◌≡◌, refl, ◌⊎◌, Bool, true, false, cond, ltb}
+use Rattle.std.specs.Prelude.{ℕ, ◌+◌, ◌≤◌, ◌<◌, ◌≡◌, refl, ◌⊎◌, Bool, true, false, cond, ltb}
 use Rattle.std.proofs.Common.{arith, inl, inr, ⊎_elim, ltb-true, ltb-false}
 use Rattle.layers.specs.Definition.{first_holding, end_holding}
 

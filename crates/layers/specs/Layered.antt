@@ -3,13 +3,12 @@
 use Prim.Native.Nat.{ℕ, zero, suc, ◌<◌, zero-le}
 use Rattle.std.proofs.Common.{le_refl, sym, ◌∙◌}
 use Rattle.std.proofs.Math.Nat.{le_step}
-use Rattle.std.specs.Prelude.{◌≡◌, Bool, List, [], ◌++◌, Float, length}
+use Rattle.std.specs.Prelude.{◌≡◌, Bool, List, [], ◌++◌, Float, length, Err, Ok}
 use Rattle.std.proofs.Math.Path.{refl, ap}
 use Rattle.std.proofs.Math.Bool.{true, false, cond}
 use Rattle.laws.specs.Steps.{iterate, listed}
 use Rattle.laws.specs.Iterated.{iterate_same}
-use Rattle.model.specs.declared.Verdict.{Verdict}
-use Rattle.model.specs.declared.Verdict.TheVariants.{Passed, Refused}
+use Rattle.model.specs.Answers.{Verdict}
 use Rattle.model.specs.Limits.{side_count}
 use Rattle.model.specs.Sides.{named}
 use Rattle.model.specs.Refusals.{or_else}
@@ -153,16 +152,16 @@ module _ (s : Star) (summary : List Float) (store : List ℕ) (vertices : List F
       (or_else (judge_edges (length m.made) (length edges)) (judge_room (length m.made) (length m.triangles) (length vertices) (length triangles)))
 
   -- a refusal leaves the same of every mesh
-  by_first : (v : Verdict) {m m' : Mesh} → (v ≡ Passed → m ≡ m') → whole m (or_else v (rest m)) ≡ whole m' (or_else v (rest m'))
+  by_first : (v : Verdict) {m m' : Mesh} → (v ≡ Ok tt → m ≡ m') → whole m (or_else v (rest m)) ≡ whole m' (or_else v (rest m'))
   unfolding outcome edges_left
-  by_first Passed same = ap (λ (m : Mesh). whole m (rest m)) (same refl)
-  by_first (Refused r) same = refl
+  by_first (Ok _) same = ap (λ (m : Mesh). whole m (rest m)) (same refl)
+  by_first (Err r) same = refl
 
   -- 1 to 8, 14 and 26
   abbrev first_part : Verdict
   first_part = or_else (judge_star s) (or_else (judge_faces s) (judge_summary (subdivisions s) s.centre summary))
 
-  trust : first_part ≡ Passed → Trusted (subdivisions s) s.centre summary
+  trust : first_part ≡ Ok tt → Trusted (subdivisions s) s.centre summary
   unfolding judge_summary
   trust e =
       let star = both_passed (judge_star s) _ e in

@@ -10,3 +10,4 @@ pub mod Holding
 pub mod Setting
 pub mod Over
 pub mod Layered
+pub mod LayersLeft

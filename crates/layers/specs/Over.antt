@@ -1,12 +1,11 @@
 -- Document 02, [12]: what extraction asks of a summary and what it trusts then; and the step to the next layer that is not passed over.
-use Rattle.std.specs.Prelude.{ℕ, ◌≤◌, ◌<◌, ◌≡◌, refl, Bool, true, false, cond, List, [], ltb, Float, length}
+use Rattle.std.specs.Prelude.{ℕ, ◌≤◌, ◌<◌, ◌≡◌, refl, Bool, true, false, cond, List, [], ltb, Float, length, Ok}
 use Rattle.std.proofs.Common.{zero-le, arith, sym, ap, ◌∙◌, ltb-true, ltb-false}
 use Rattle.std.proofs.lemmas.Bool.{false≢true}
 use Rattle.std.specs.Float.Ieee.{is_nan}
 use Rattle.std.specs.Float.Ieee.Bits.{is_false}
 use Rattle.model.specs.declared.Extent.{Extent}
-use Rattle.model.specs.declared.Verdict.{Verdict}
-use Rattle.model.specs.declared.Verdict.TheVariants.{Passed}
+use Rattle.model.specs.Answers.{Verdict}
 use Rattle.model.specs.declared.Refusal.TheVariants.{LayerDiffers}
 use Rattle.model.specs.Refusals.{unless, or_else}
 use Rattle.model.specs.Judging.{judge_star, judge_buffer}
@@ -21,10 +20,10 @@ use Rattle.layers.specs.Setting.{each_stands}
 
 -- 14, where a summary is asked for, and then 26
 abbrev pub summary_judged : Bool → ℕ → List Float → List Float → Verdict
-summary_judged asked n samples summary = or_else (cond asked (judge_buffer (summary_length n) (length summary)) Passed) (judge_layers n samples summary)
+summary_judged asked n samples summary = or_else (cond asked (judge_buffer (summary_length n) (length summary)) (Ok tt)) (judge_layers n samples summary)
 
 -- a list with no place tells of no layer
-pub no_summary : (n : ℕ) (samples : List Float) → summary_judged false n samples [] ≡ Passed
+pub no_summary : (n : ℕ) (samples : List Float) → summary_judged false n samples [] ≡ Ok tt
 unfolding judge_layers is_nan
 no_summary n samples = passed_over_lem (λ x. unless (layer_stands n samples [] x) (LayerDiffers x)) 0 n refl (λ x from h. refl) zero-le
 
@@ -43,7 +42,7 @@ pub record Trusted (n : ℕ) (samples summary : List Float) : Type 0 where
   pub stands : (x : ℕ) → x < n → layer_stands n samples summary x ≡ true
 
 -- of a block that 1 to 7 let pass
-module _ (s : Star) (passed : judge_star s ≡ Passed) where
+module _ (s : Star) (passed : judge_star s ≡ Ok tt) where
   pub held_there : Held (subdivisions s) s.centre
   held_there =
       let shaped = star_shaped s passed in
@@ -55,7 +54,7 @@ module _ (s : Star) (passed : judge_star s ≡ Passed) where
   pub threshold_number : Number s.threshold
   threshold_number = is_false _ (usable_number _ (measure_usable_lem s.block s.threshold 4 (star_measures s passed) (omega arith)))
 
-  pub trusted : (summary : List Float) → judge_layers (subdivisions s) s.centre summary ≡ Passed → Trusted (subdivisions s) s.centre summary
+  pub trusted : (summary : List Float) → judge_layers (subdivisions s) s.centre summary ≡ Ok tt → Trusted (subdivisions s) s.centre summary
   trusted summary e = record { held = held_there; numbers = numbers_there; stands = each_stands (subdivisions s) s.centre summary e }
 
 -- the first layer from one on that is not passed over, or n

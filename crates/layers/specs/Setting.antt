@@ -2,7 +2,7 @@
 -- and those layers are as made afresh where they were. So a summary that 26 lets pass is let pass afterwards.
 use Prim.Native.Nat.{ℕ, ◌+◌, ◌-◌, ◌*◌, ◌≤◌, ◌<◌, zero-le}
 use Rattle.std.proofs.Common.{arith, sym, ap₂, ◌∙◌, subst, inr}
-use Rattle.std.specs.Prelude.{◌≡◌, ◌⊎◌, Bool, true, ◌&&◌, ◌||◌, List, Float, length, get_or, set}
+use Rattle.std.specs.Prelude.{◌≡◌, ◌⊎◌, Bool, true, ◌&&◌, ◌||◌, List, Float, length, get_or, set, Ok}
 use Rattle.std.proofs.Math.Path.{refl, ap}
 use Rattle.std.proofs.Math.Bool.{or-true}
 use Rattle.std.specs.Float.{nan}
@@ -12,7 +12,6 @@ use Rattle.model.specs.declared.Xyz.{Xyz}
 use Rattle.model.specs.declared.PlaceKind.{PlaceKind}
 use Rattle.model.specs.declared.PlaceKind.TheVariants.{InBlock, Face}
 use Rattle.model.specs.declared.Refusal.TheVariants.{LayerDiffers}
-use Rattle.model.specs.declared.Verdict.TheVariants.{Passed}
 use Rattle.model.specs.Refusals.{unless}
 use Rattle.model.specs.Layers.{layer_extent, entry_of, marked, agree, layer_stands, judge_layers}
 use Rattle.judge.specs.First.{unless_passed, each_passed, passed_over_lem}
@@ -32,13 +31,13 @@ abbrev stands_by : Extent → Extent → Bool
 stands_by e fresh = marked e || agree e fresh
 
 module _ (n : ℕ) (samples summary : List Float) where
-  pub all_stand : ((x : ℕ) → x < n → layer_stands n samples summary x ≡ true) → judge_layers n samples summary ≡ Passed
+  pub all_stand : ((x : ℕ) → x < n → layer_stands n samples summary x ≡ true) → judge_layers n samples summary ≡ Ok tt
   unfolding judge_layers
   all_stand stands =
       passed_over_lem (λ x. unless (layer_stands n samples summary x) (LayerDiffers x)) 0 n refl
       (λ x from l. ap (λ (b : Bool). unless b (LayerDiffers x)) (stands x l)) zero-le
 
-  pub each_stands : judge_layers n samples summary ≡ Passed → (x : ℕ) → x < n → layer_stands n samples summary x ≡ true
+  pub each_stands : judge_layers n samples summary ≡ Ok tt → (x : ℕ) → x < n → layer_stands n samples summary x ≡ true
   unfolding judge_layers
   each_stands e x h =
       unless_passed _ (LayerDiffers x) (each_passed (λ x. unless (layer_stands n samples summary x) (LayerDiffers x)) n x e h)

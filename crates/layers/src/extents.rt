@@ -8,6 +8,7 @@ use grid::readings::value_in_block;
 use grid::voxel_blocks::in_block;
 use model::Extent;
 
+// Of +0 and -0 the first is kept, which f32::min and f32::max do not promise. One generic function, lent the test, would be no shorter than the two.
 fn lesser(best: f32, next: f32) -> f32
     ensures { result ≡ better less best next }
 {
@@ -20,7 +21,7 @@ fn greater(best: f32, next: f32) -> f32
     if best < next { next } else { best }
 }
 
-// Of so many samples from a place on.
+// Of so many samples from a place on, each read by its place: grid::readings alone reads samples ([4]).
 fn extent_from(samples: &[f32], from: usize, count: usize) -> Extent
     requires { (from < length samples.now) × (from + count ≤ length samples.now) }
     ensures { result ≡ extent_of (samples_from samples.now from) count }

@@ -1,11 +1,8 @@
 // Refusals 14 and 26 of a summary that extraction is lent, and which layers it passes over. A layer's numbers are not worked out again: of all its samples,
 // many at a time, it is asked whether none is less than the one that the summary tells, none more than the other, and each equals one.
-ghost use Rattle.std.specs.Prelude.{◌≡◌, ◌+◌, ◌≤◌, ◌<◌, length, get_or, cond};
+ghost use Rattle.std.specs.Prelude.{◌≡◌, ◌+◌, ◌≤◌, ◌<◌, length, get_or, true};
 ghost use Rattle.std.specs.Float.{nan};
-ghost use Rattle.std.specs.Float.Ieee.{is_nan};
-ghost use Rattle.model.specs.declared.Verdict.TheVariants.{Passed};
 ghost use Rattle.model.specs.Limits.{most_subdivisions};
-ghost use Rattle.model.specs.Judging.{judge_buffer};
 ghost use Rattle.model.specs.Layers.{extent_of, entry_of, marked, agree, layer_stands, judge_layers, passed_over};
 ghost use Rattle.layers.specs.Held.{Held, AllNumbers, samples_from};
 ghost use Rattle.layers.specs.Over.{summary_judged, NextLayer};
@@ -14,22 +11,16 @@ use crate::extents::{layer_count, summary_length};
 use grid::readings::value_in_block;
 use grid::voxel_blocks::{in_block, inside};
 use judge::judge_buffer;
-use model::{Extent, Refusal, Verdict};
-
-fn is_nan(x: f32) -> bool
-    ensures { result ≡ is_nan x }
-{
-    x != x
-}
+use model::{Extent, Refusal};
 
 // Beyond its last place a summary tells nothing.
 fn told_at(summary: &[f32], at: usize) -> f32
     ensures { result ≡ get_or summary.now at nan }
 {
-    if at < summary.len() {
-        return summary[at];
+    match summary.get(at) {
+        Some(told) => *told,
+        None => f32::NAN,
     }
-    0.0 / 0.0
 }
 
 // What a summary tells of a layer.
@@ -47,10 +38,11 @@ fn entry(summary: &[f32], x: usize) -> Extent
 fn is_marked(told: Extent) -> bool
     ensures { result ≡ marked told }
 {
-    is_nan(told.least) | is_nan(told.greatest)
+    told.least.is_nan() | told.greatest.is_nan()
 }
 
-// Whether these are in value the least and the greatest of so many samples from a place on.
+// Whether these are in value the least and the greatest of so many samples from a place on, each read by its place: grid::readings alone
+// reads samples ([4]). No branch, so that many samples are asked at a time.
 fn is_extent(samples: &[f32], from: usize, count: usize, told: Extent) -> bool
     requires { AllNumbers samples.now × ((0 < count) × (from + count ≤ length samples.now)) }
     ensures { result ≡ agree told (extent_of (samples_from samples.now from) count) }
@@ -81,37 +73,24 @@ fn layer_stands(n: usize, samples: &[f32], summary: &[f32], x: usize) -> bool
     is_extent(samples, in_block(n, x, 0, 0), layer_count(n), told)
 }
 
-fn judge_layers(n: usize, samples: &[f32], summary: &[f32]) -> Verdict
+fn judge_layers(n: usize, samples: &[f32], summary: &[f32]) -> Result<(), Refusal>
     requires { Held n samples.now × AllNumbers samples.now }
     ensures { result ≡ judge_layers n samples.now summary.now }
 {
     for x in 0..n {
         if !layer_stands(n, samples, summary, x) {
-            return Verdict::Refused(Refusal::LayerDiffers(x));
+            return Err(Refusal::LayerDiffers(x));
         }
     }
-    Verdict::Passed
+    Ok(())
 }
 
-// 14, where a summary is asked for.
-fn judge_places(asked: bool, wanted: usize, held: usize) -> Verdict
-    ensures { result ≡ cond asked (judge_buffer wanted held) Passed }
-{
-    if asked {
-        return judge_buffer(wanted, held);
-    }
-    Verdict::Passed
-}
-
-// 14, 26. A summary that is not asked for has no place, and so tells of no layer.
-pub fn judge_summary(n: usize, samples: &[f32], summary: &[f32], asked: bool) -> Verdict
+// 14, 26.
+pub fn judge_summary(n: usize, samples: &[f32], summary: &[f32]) -> Result<(), Refusal>
     requires { Held n samples.now × AllNumbers samples.now }
-    ensures { result ≡ summary_judged asked n samples.now summary.now }
+    ensures { result ≡ summary_judged true n samples.now summary.now }
 {
-    let places = judge_places(asked, summary_length(n), summary.len());
-    if let Verdict::Refused(r) = places {
-        return Verdict::Refused(r);
-    }
+    judge_buffer(summary_length(n), summary.len())?;
     judge_layers(n, samples, summary)
 }
 
@@ -127,15 +106,12 @@ fn is_passed_over(threshold: f32, summary: &[f32], x: usize) -> bool
     inside(threshold, told.least) | (told.greatest < threshold)
 }
 
-// The first layer from one on that is not passed over, or n.
+// The first layer from one on that is not passed over, or n, which NextLayer says for none; LayersLeft makes an Option of it.
 pub fn next_layer(n: usize, threshold: f32, summary: &[f32], from: usize) -> usize
     requires { (from ≤ n) × (n ≤ most_subdivisions) }
     ensures { NextLayer n threshold summary.now from result }
 {
-    for x in from..n {
-        if !is_passed_over(threshold, summary, x) {
-            return x;
-        }
-    }
-    n
+    (from..n)
+        .find(|x| !is_passed_over(threshold, summary, *x))
+        .unwrap_or(n)
 }

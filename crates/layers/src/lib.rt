@@ -5,6 +5,7 @@
 
 mod extents;
 pub mod judging;
+pub mod layers_left;
 pub mod making;
 mod putting;
 pub mod setting;

@@ -8,16 +8,13 @@ ghost use Rattle.layers.specs.Definition.{layer_floats, layers_made, judge_own};
 use crate::extents::layer_extent;
 use judge::point_read::judge_block;
 use judge::samples::judge_list;
-use model::Verdict;
+use model::Refusal;
 
 // 1, 4, 7.
-pub fn judge_own(n: usize, samples: &[f32]) -> Verdict
+pub fn judge_own(n: usize, samples: &[f32]) -> Result<(), Refusal>
     ensures { result ≡ judge_own n samples.now }
 {
-    let block = judge_block(n, samples.len());
-    if let Verdict::Refused(r) = block {
-        return Verdict::Refused(r);
-    }
+    judge_block(n, samples.len())?;
     judge_list(samples)
 }
 

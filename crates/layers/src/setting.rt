@@ -10,7 +10,7 @@ use crate::extents::summary_length;
 use crate::putting::{judge_own, put_layers};
 use grid::voxel_blocks::{is_sampled, kind, one_up, outside_count, place};
 use judge::{is_usable, judge_buffer};
-use model::{PlaceKind, Refusal, Verdict, Xyz};
+use model::{PlaceKind, Refusal, Xyz};
 
 fn point_up(n: usize, x: i32, y: i32, z: i32) -> Xyz
     requires { n ≤ most_subdivisions }
@@ -24,15 +24,15 @@ fn point_up(n: usize, x: i32, y: i32, z: i32) -> Xyz
 }
 
 // 15, 7 of the new value, 14.
-fn judge_change(n: usize, p: Xyz, value: f32, room: usize) -> Verdict
+fn judge_change(n: usize, p: Xyz, value: f32, room: usize) -> Result<(), Refusal>
     requires { n ≤ most_subdivisions }
     ensures { result ≡ judge_change n p value room }
 {
     if !is_sampled(n, p.x, p.y, p.z) {
-        return Verdict::Refused(Refusal::PointNeverSampled(outside_count(n, p.x, p.y, p.z)));
+        return Err(Refusal::PointNeverSampled(outside_count(n, p.x, p.y, p.z)));
     }
     if !is_usable(value) {
-        return Verdict::Refused(Refusal::BadSample(place(n, p.x, p.y, p.z)));
+        return Err(Refusal::BadSample(place(n, p.x, p.y, p.z)));
     }
     judge_buffer(summary_length(n), room)
 }
@@ -40,12 +40,13 @@ fn judge_change(n: usize, p: Xyz, value: f32, room: usize) -> Verdict
 fn first_holding(x: usize) -> usize
     ensures { result ≡ first_holding x }
 {
-    if x == 0 { 0 } else { x - 1 }
+    x.saturating_sub(1)
 }
 
 fn end_holding(n: usize, x: usize) -> usize
     ensures { result ≡ end_holding n x }
 {
+    // As plain as `min`, which would need a sum that saturates.
     if x < n { x + 1 } else { n }
 }
 
@@ -77,19 +78,13 @@ pub fn set_sample(
     z: i32,
     value: f32,
     summary: &mut [f32],
-) -> Verdict
+) -> Result<(), Refusal>
     ensures { record { answer = result; samples = samples.new; summary = summary.new } ≡ set_sample n samples.old x y z value summary.old }
 {
-    let own = judge_own(n, samples);
-    if let Verdict::Refused(r) = own {
-        return Verdict::Refused(r);
-    }
+    judge_own(n, samples)?;
     let p = point_up(n, x, y, z);
-    let change = judge_change(n, p, value, summary.len());
-    if let Verdict::Refused(r) = change {
-        return Verdict::Refused(r);
-    }
+    judge_change(n, p, value, summary.len())?;
     put_sample(n, samples, p, value);
     renew(n, samples, p, summary);
-    Verdict::Passed
+    Ok(())
 }

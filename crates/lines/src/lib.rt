@@ -6,14 +6,13 @@ ghost use Rattle.std.specs.Prelude.{◌≡◌, ◌*◌, ◌≤◌, get_or};
 ghost use Rattle.std.specs.Float.{nan};
 ghost use Rattle.model.specs.Record.{count_of, samples_of};
 ghost use Rattle.grid.specs.RotationLaws.{OnSide};
-ghost use Rattle.record.specs.Accepted.{Accepted};
 ghost use Rattle.lines.specs.Lines.{place_on, OnLine, face_line, NamedSide, coarse_line, fine_line};
 
 use grid::face_walk::{Stride, along, face_walk};
 use grid::transition_sides::count_below;
 use grid::voxel_blocks::sample_length;
 use model::Header;
-use record::fields::sample_of;
+use record::passed::Record;
 
 // So many samples: the first stands at `first` among those that begin at `start`.
 #[derive(Clone, Copy)]
@@ -27,12 +26,11 @@ pub struct Line {
 // One place after another.
 pub const NEXT: Stride = Stride { up: 1, down: 0 };
 
-pub fn sample_on(src: &[u8], line: Line, k: usize) -> f32
-    requires { Accepted src.now × OnLine (count_of src.now) line k }
-    ensures { result ≡ get_or (samples_of src.now) (place_on line k) nan }
+pub fn sample_on(src: &Record<'_>, line: Line, k: usize) -> f32
+    requires { OnLine (count_of src.now.bytes.now) line k }
+    ensures { result ≡ get_or (samples_of src.now.bytes.now) (place_on line k) nan }
 {
-    let place = line.start + along(line.first, line.step, k);
-    sample_of(src, place)
+    src.sample(line.start + along(line.first, line.step, k))
 }
 
 // The points at the step u along U of a side's face, in a block of m subdivisions whose samples begin at a place.

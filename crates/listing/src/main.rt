@@ -2,12 +2,12 @@
 #![tactic(auto)]
 
 use filling::read_full;
-use printing::print_listing;
+use printing::{MOST_BYTES, print_listing};
 use std::io;
 
 fn main(rt: HostRuntime) -> io::Result<()> {
     // A byte more than the longest record has.
-    let mut input = [0u8; 65537];
+    let mut input = [0u8; MOST_BYTES + 1];
     let n = read_full(&mut rt.reader(), &mut input)?;
     print_listing(&rt, &input[..n])
 }

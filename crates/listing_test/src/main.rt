@@ -2,17 +2,15 @@
 // can come to, and the longest record that is read. tools/listing_vectors.py makes the records, and the lines that must be printed.
 #![tactic(auto)]
 
-ghost use Rattle.std.specs.Prelude.{◌<◌};
-ghost use Rattle.std.specs.Str.{IsAscii};
-
+use filling::names::Name;
 use filling::read_full;
-use printing::print_listing;
+use printing::{MOST_BYTES, print_listing};
 use std::io::Read;
 use std::rt::Files;
 use std::{fs, io};
 
 fn print_file(rt: &impl Print, name: &str, file: &mut impl Read) -> io::Result<()> {
-    let mut input = [0u8; 65537];
+    let mut input = [0u8; MOST_BYTES + 1];
     let n = read_full(file, &mut input)?;
     println!(rt; "{name}")?;
     print_listing(rt, &input[..n])
@@ -27,17 +25,10 @@ fn open_and_print(rt: &(impl Files + Print), name: &str) -> io::Result<()> {
     print_file(rt, name, &mut file)
 }
 
-fn name_of(k: u8) -> [u8; 3]
-    requires { k < 100 }
-    ensures { IsAscii result }
-{
-    [b'r', b'0' + k / 10, b'0' + k % 10]
-}
-
 fn main(rt: HostRuntime) -> io::Result<()> {
     for k in 0u8..100 {
-        let name = name_of(k);
-        open_and_print(&rt, str::from_utf8(&name).unwrap())?;
+        let name = Name::new(b'r', k);
+        open_and_print(&rt, name.as_str())?;
     }
     Ok(())
 }

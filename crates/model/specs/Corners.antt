@@ -2,7 +2,7 @@
 -- weld judge. Definitions only.
 use Rattle.std.specs.Prelude.{ℕ, ◌+◌, ◌*◌, ◌/◌, Bool, ◌&&◌, List, ltb, length, get_or}
 use Rattle.model.specs.declared.Refusal.TheVariants.{NoVertex}
-use Rattle.model.specs.declared.Verdict.{Verdict}
+use Rattle.model.specs.Answers.{Verdict}
 use Rattle.model.specs.Refusals.{unless, first}
 
 -- a last part triangle is not read

@@ -1,10 +1,9 @@
 -- Document 02, [10]: the number of each vertex's grid edge as a further list that extraction writes, in the first places of what is lent;
 -- refusal 23 for a list too short, after 9 and before 10. Definitions only.
-use Rattle.std.specs.Prelude.{ℕ, List, [], ◌∷◌, leb, Float, length}
+use Rattle.std.specs.Prelude.{ℕ, List, [], ◌∷◌, leb, Float, length, Err, Ok}
 use Rattle.laws.specs.Steps.{each, laid}
 use Rattle.model.specs.declared.Refusal.TheVariants.{EdgesTooShort}
-use Rattle.model.specs.declared.Verdict.{Verdict}
-use Rattle.model.specs.declared.Verdict.TheVariants.{Passed, Refused}
+use Rattle.model.specs.Answers.{Verdict}
 use Rattle.model.specs.Refusals.{unless, or_else}
 use Rattle.model.specs.Judging.{judge_star, judge_faces, judge_store, judge_room}
 use Rattle.model.specs.Star.{Star, subdivisions}
@@ -34,8 +33,8 @@ judge_whole s heldStore heldVertices heldTriangles heldEdges =
     (judge_room (length (mesh_of s).made) (length (mesh_of s).triangles) heldVertices heldTriangles))))
 
 unfoldable pub edges_left : Mesh → List ℕ → Verdict → List ℕ
-edges_left m edges Passed = laid (each edge_number m.made) edges
-edges_left m edges (Refused r) = edges
+edges_left m edges (Ok _) = laid (each edge_number m.made) edges
+edges_left m edges (Err r) = edges
 
 unfoldable pub extract_whole : Star → List ℕ → List Float → List ℕ → List ℕ → WholeOutcome
 extract_whole s store vertices triangles edges =

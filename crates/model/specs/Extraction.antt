@@ -1,16 +1,12 @@
 -- Document 01, 'Answers by number': extraction and the point read, from their inputs and the lent buffers at entry to the answer
 -- and the buffers at exit. Definitions only.
-use Rattle.std.specs.Prelude.{ℕ, List, [], ◌∷◌, ℤ, Float, length}
+use Rattle.std.specs.Prelude.{ℕ, List, [], ◌∷◌, ℤ, Float, length, Err, Ok}
 use Rattle.model.specs.declared.Triangle.{Triangle}
 use Rattle.model.specs.declared.Refusal.TheVariants.{PointNeverSampled}
-use Rattle.model.specs.declared.Reading.{Reading}
-use Rattle.model.specs.declared.Reading.TheVariants as Reading
-use Rattle.model.specs.declared.Verdict.{Verdict}
-use Rattle.model.specs.declared.Verdict.TheVariants as Verdict
-use Rattle.model.specs.declared.PointRead.{PointRead}
-use Rattle.model.specs.declared.PointRead.TheVariants as PointRead
-use Rattle.model.specs.declared.Extraction.{Extraction}
-use Rattle.model.specs.declared.Extraction.TheVariants as Extraction
+use Rattle.model.specs.Answers.{Reading}
+use Rattle.model.specs.Answers.{Verdict}
+use Rattle.model.specs.Answers.{PointRead}
+use Rattle.model.specs.Answers.{Extraction}
 use Rattle.laws.specs.Steps.{each, laid}
 use Rattle.model.specs.Samples.{reading_at, one_up}
 use Rattle.model.specs.Refusals.{or_else}
@@ -45,16 +41,16 @@ judge_extraction s heldStore heldVertices heldTriangles =
 
 -- the mesh in the first places of the buffers and the reads of its steps, or every place as it was and no read
 unfoldable pub outcome : Mesh → List ℕ → List Float → List ℕ → Verdict → Outcome
-outcome m store vertices triangles Verdict.Passed =
+outcome m store vertices triangles (Ok _) =
     record {
-      answer = Extraction.Mesh (record { vertices = length m.made; triangles = length m.triangles });
+      answer = Ok (record { vertices = length m.made; triangles = length m.triangles });
       store = laid m.store store;
       vertices = laid (each vertex_floats m.made) vertices;
       triangles = laid (each triangle_indices m.triangles) triangles;
       reads = m.reads;
     }
-outcome m store vertices triangles (Verdict.Refused r) =
-    record { answer = Extraction.Refused r; store = store; vertices = vertices; triangles = triangles; reads = 0 }
+outcome m store vertices triangles (Err r) =
+    record { answer = Err r; store = store; vertices = vertices; triangles = triangles; reads = 0 }
 
 unfoldable pub extract : Star → List ℕ → List Float → List ℕ → Outcome
 extract s store vertices triangles =
@@ -64,9 +60,9 @@ extract s store vertices triangles =
 -- ---- the point read: 1, 4, 15, the last with how many coordinates are outside
 
 abbrev pub point_answer : Verdict → Reading → PointRead
-point_answer (Verdict.Refused r) reading = PointRead.Refused r
-point_answer Verdict.Passed (Reading.Value v kind) = PointRead.Value v kind
-point_answer Verdict.Passed (Reading.NeverSampled count) = PointRead.Refused (PointNeverSampled count)
+point_answer (Err r) reading = Err r
+point_answer (Ok _) (Ok (v, kind)) = Ok (v, kind)
+point_answer (Ok _) (Err count) = Err (PointNeverSampled count)
 
 unfoldable pub read_point : ℕ → List Float → ℤ → ℤ → ℤ → PointRead
 read_point n samples x y z =

@@ -1,12 +1,10 @@
 -- Document 01, 'Figures to agree with': those it marks with a star, worked out by the definitions, beside what it states. Of the limit of
 -- subdivisions and of a point never sampled stands what document 02, [9] and [4], makes of it: 64 passes, and 65 takes the place of 17.
-use Rattle.std.specs.Prelude.{ℕ, ◌+◌, ◌*◌, ◌≡◌, refl, List, [], ◌∷◌, map, ℤ, pos, negsuc}
+use Rattle.std.specs.Prelude.{ℕ, ◌+◌, ◌*◌, ◌≡◌, refl, List, [], ◌∷◌, map, ℤ, pos, negsuc, Err, Ok}
 use Rattle.tables.specs.Codes.{point_a, point_b, step_x, step_y, step_z, is_new, reuse_index}
 use Rattle.model.specs.declared.Xyz.{Xyz}
-use Rattle.model.specs.declared.Reading.{Reading}
-use Rattle.model.specs.declared.Reading.TheVariants.{Value, NeverSampled}
-use Rattle.model.specs.declared.Verdict.{Verdict}
-use Rattle.model.specs.declared.Verdict.TheVariants.{Passed, Refused}
+use Rattle.model.specs.Answers.{Reading}
+use Rattle.model.specs.Answers.{Verdict}
 use Rattle.model.specs.Samples.{sample_length, place_of, outside, sampled, kind_of, outside_count, reading_at, one_up}
 use Rattle.model.specs.Rotations.{rotations, rotation_of, point_from, neighbour_point}
 use Rattle.model.specs.Refusals.{numbers_of}
@@ -21,8 +19,8 @@ figure worked stated = record { worked = worked; stated = stated }
 
 -- the number of a refusal, 0 for none
 abbrev pub number_of : Verdict → ℕ
-number_of Passed = 0
-number_of (Refused r) = (numbers_of r).number
+number_of (Ok _) = 0
+number_of (Err r) = (numbers_of r).number
 
 -- the place of a point, by its signed coordinates
 abbrev pub place_at : ℕ → ℤ → ℤ → ℤ → ℕ
@@ -33,8 +31,8 @@ abbrev pub never_at : ℕ → ℤ → ℤ → ℤ → List ℕ
 never_at n x y z = counts (reading_at n [] (one_up n x) (one_up n y) (one_up n z))
   where
     counts : Reading → List ℕ
-    counts (Value v kind) = []
-    counts (NeverSampled count) = count ∷ []
+    counts (Ok (v, kind)) = []
+    counts (Err count) = count ∷ []
 
 abbrev pub point : Xyz → List ℕ
 point p = p.x ∷ p.y ∷ p.z ∷ []

@@ -1,13 +1,12 @@
 -- Document 01, 'Answers by number': when each of 1 to 10 and 14 is met, and 1 to 6 and 1 to 7 in their order. What judges several takes the first
 -- that is met. Definitions only.
-use Rattle.std.specs.Prelude.{ℕ, zero, suc, ◌+◌, ◌*◌, ◌/◌, Bool, cond, ◌&&◌, List, ◌++◌, eqb, leb, Float, length, get_or}
+use Rattle.std.specs.Prelude.{ℕ, zero, suc, ◌+◌, ◌*◌, ◌/◌, Bool, cond, ◌&&◌, List, ◌++◌, eqb, leb, Float, length, get_or, Ok}
 use Rattle.std.specs.Bool.{beq}
 use Rattle.std.specs.Float.Ieee as Ieee
 use Rattle.std.specs.Float.{nan}
 use Rattle.model.specs.declared.Block.{Block}
 use Rattle.model.specs.declared.Refusal.TheVariants.{Subdivisions, Mask, Measure, CentreLength, MissingNeighbour, NeighboursTooLong, BadSample, FaceMismatch, IndexStoreTooShort, NoRoom, BufferTooShort}
-use Rattle.model.specs.declared.Verdict.{Verdict}
-use Rattle.model.specs.declared.Verdict.TheVariants.{Passed}
+use Rattle.model.specs.Answers.{Verdict}
 use Rattle.model.specs.Limits.{most_subdivisions, most_mask, side_count, most_size, least_part}
 use Rattle.model.specs.Samples.{sample_length, sample_of}
 use Rattle.model.specs.Sides.{named, named_below, neighbour_length, neighbours_length}
@@ -55,7 +54,7 @@ judge_centre n held = unless (eqb held (sample_length n)) (CentreLength (sample_
 abbrev pub side_there : ℕ → ℕ → ℕ → ℕ → Verdict
 side_there n mask held side =
     cond (named mask side)
-    (unless (leb ((named_below mask side + 1) * neighbour_length n) held) (MissingNeighbour side)) Passed
+    (unless (leb ((named_below mask side + 1) * neighbour_length n) held) (MissingNeighbour side)) (Ok tt)
 
 unfoldable pub judge_missing : ℕ → ℕ → ℕ → Verdict
 judge_missing n mask held = first (side_there n mask held) side_count
@@ -106,7 +105,7 @@ abbrev pub face_side : Star → ℕ → ℕ → Verdict
 face_side s side = first (λ u. face_row s side u (subdivisions s + 1))
 
 abbrev pub face_sides : Star → ℕ → Verdict
-face_sides s = first (λ side. cond (named s.mask side) (face_side s side (subdivisions s + 1)) Passed)
+face_sides s = first (λ side. cond (named s.mask side) (face_side s side (subdivisions s + 1)) (Ok tt))
 
 unfoldable pub judge_faces : Star → Verdict
 judge_faces s = face_sides s side_count

@@ -2,7 +2,7 @@
 -- read nothing and make nothing. 14 and 26 of the summary are judged after 8 and before 9. Definitions only.
 use Rattle.std.specs.Prelude.{ℕ, cond, List, Float, length}
 use Rattle.laws.specs.Steps.{iterate, total}
-use Rattle.model.specs.declared.Verdict.{Verdict}
+use Rattle.model.specs.Answers.{Verdict}
 use Rattle.model.specs.Limits.{side_count}
 use Rattle.model.specs.Refusals.{or_else}
 use Rattle.model.specs.Judging.{judge_star, judge_faces, judge_store, judge_room}

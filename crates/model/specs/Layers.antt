@@ -6,7 +6,7 @@ use Rattle.std.specs.Float.{nan}
 use Rattle.std.specs.Float.Ieee.{is_nan}
 use Rattle.model.specs.declared.Extent.{Extent}
 use Rattle.model.specs.declared.Refusal.TheVariants.{LayerDiffers}
-use Rattle.model.specs.declared.Verdict.{Verdict}
+use Rattle.model.specs.Answers.{Verdict}
 use Rattle.laws.specs.Steps.{iterate}
 use Rattle.model.specs.Samples.{in_block}
 use Rattle.model.specs.Formulas.{inside}

@@ -3,8 +3,10 @@ pub mod Samples
 pub mod Sides
 pub mod Rotations
 pub mod Formulas
+pub mod Answers
 pub mod Refusals
 pub mod Star
+pub mod Lists
 pub mod Points
 pub mod Mesh
 pub mod OverCells

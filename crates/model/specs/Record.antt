@@ -1,13 +1,10 @@
 -- Document 01, 'Block record': its bytes, big-endian, what reading them answers, and what writing them leaves. Definitions only.
-use Rattle.std.specs.Prelude.{ℕ, ◌+◌, ◌-◌, ◌*◌, ◌&&◌, List, [], ◌∷◌, ◌++◌, eqb, leb, Float, length, get_or, take, drop}
+use Rattle.std.specs.Prelude.{ℕ, ◌+◌, ◌-◌, ◌*◌, ◌&&◌, List, [], ◌∷◌, ◌++◌, eqb, leb, Float, length, get_or, take, drop, Err, Ok}
 use Rattle.model.specs.declared.Header.{Header}
 use Rattle.model.specs.declared.Refusal.TheVariants.{RecordLength, Version, SampleCount}
-use Rattle.model.specs.declared.Verdict.{Verdict}
-use Rattle.model.specs.declared.Verdict.TheVariants as Verdict
-use Rattle.model.specs.declared.RecordRead.{RecordRead}
-use Rattle.model.specs.declared.RecordRead.TheVariants as RecordRead
-use Rattle.model.specs.declared.RecordWritten.{RecordWritten}
-use Rattle.model.specs.declared.RecordWritten.TheVariants as RecordWritten
+use Rattle.model.specs.Answers.{Verdict}
+use Rattle.model.specs.Answers.{RecordRead}
+use Rattle.model.specs.Answers.{RecordWritten}
 use Rattle.laws.specs.Steps.{listed, each, laid}
 use Rattle.model.specs.Samples.{sample_length}
 use Rattle.model.specs.Sides.{sample_count}
@@ -100,9 +97,9 @@ pub record ReadOutcome : Type 0 where
   pub samples : List Float
 
 abbrev pub read_answer : List ℕ → List Float → Verdict → ReadOutcome
-read_answer bytes samples Verdict.Passed =
-    record { answer = RecordRead.Block (header_of bytes); samples = laid (samples_of bytes) samples }
-read_answer bytes samples (Verdict.Refused r) = record { answer = RecordRead.Refused r; samples = samples }
+read_answer bytes samples (Ok _) =
+    record { answer = Ok (header_of bytes); samples = laid (samples_of bytes) samples }
+read_answer bytes samples (Err r) = record { answer = Err r; samples = samples }
 
 -- and 14
 unfoldable pub read_record : List ℕ → List Float → ReadOutcome
@@ -125,12 +122,12 @@ pub record WriteOutcome : Type 0 where
   pub bytes : List ℕ
 
 abbrev pub write_answer : Header → List Float → List ℕ → Verdict → WriteOutcome
-write_answer h samples bytes Verdict.Passed =
+write_answer h samples bytes (Ok _) =
     record {
-      answer = RecordWritten.Bytes (sample_from (length samples));
+      answer = Ok (sample_from (length samples));
       bytes = laid (record_of h samples) bytes;
     }
-write_answer h samples bytes (Verdict.Refused r) = record { answer = RecordWritten.Refused r; bytes = bytes }
+write_answer h samples bytes (Err r) = record { answer = Err r; bytes = bytes }
 
 -- 1 to 7, then 14
 unfoldable pub write_record : Header → List Float → List Float → List ℕ → WriteOutcome

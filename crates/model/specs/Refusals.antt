@@ -1,11 +1,10 @@
 -- Document 01, 'Answers by number', and document 02: the number and three numbers of each refusal, and the first refusal of several.
 -- Definitions only.
-use Rattle.std.specs.Prelude.{ℕ, zero, suc, Bool, true, false}
+use Rattle.std.specs.Prelude.{ℕ, zero, suc, Bool, true, false, Err, Ok}
 use Rattle.model.specs.declared.Refusal.{Refusal}
 use Rattle.model.specs.declared.Refusal.TheVariants.{Subdivisions, Mask, Measure, CentreLength, MissingNeighbour, NeighboursTooLong, BadSample, FaceMismatch, IndexStoreTooShort, NoRoom, RecordLength, Version, SampleCount, BufferTooShort, PointNeverSampled, StlLength, NoVertex, BadFiller, ChangesTooShort, VolumeSize, VolumeLength, FirstPoint, EdgesTooShort, LayerDiffers}
 use Rattle.model.specs.declared.Numbers.{Numbers}
-use Rattle.model.specs.declared.Verdict.{Verdict}
-use Rattle.model.specs.declared.Verdict.TheVariants.{Passed, Refused}
+use Rattle.model.specs.Answers.{Verdict}
 
 abbrev pub numbers : ℕ → ℕ → ℕ → ℕ → Numbers
 numbers number first second third = record { number = number; first = first; second = second; third = third }
@@ -38,14 +37,14 @@ numbers_of (LayerDiffers layer) = numbers 26 layer 0 0
 
 -- the refusal, unless the test holds
 abbrev pub unless : Bool → Refusal → Verdict
-unless true r = Passed
-unless false r = Refused r
+unless true r = Ok tt
+unless false r = Err r
 
 abbrev pub or_else : Verdict → Verdict → Verdict
-or_else (Refused r) v = Refused r
-or_else Passed v = v
+or_else (Err r) v = Err r
+or_else (Ok _) v = v
 
 -- the first refusal of f 0, f 1, .., f (k - 1)
 abbrev pub first : (ℕ → Verdict) → ℕ → Verdict
-first f zero = Passed
+first f zero = Ok tt
 first f (suc k) = or_else (first f k) (f k)

@@ -1,12 +1,11 @@
 -- Document 01, 'The block and its samples', and document 02, [4]: where a grid point's sample stands, and what reading it answers.
 -- A coordinate is kept one up, so that -1 is 0 and 0..n is 1..n+1. Definitions only.
-use Rattle.std.specs.Prelude.{ℕ, zero, suc, ◌+◌, ◌-◌, ◌*◌, Bool, cond, List, eqb, leb, ℤ, pos, negsuc, Float, get_or}
+use Rattle.std.specs.Prelude.{ℕ, zero, suc, ◌+◌, ◌-◌, ◌*◌, Bool, cond, List, eqb, leb, ℤ, pos, negsuc, Float, get_or, Err, Ok}
 use Rattle.std.specs.Float.{nan}
 use Rattle.model.specs.declared.Xyz.{Xyz}
 use Rattle.model.specs.declared.PlaceKind.{PlaceKind}
 use Rattle.model.specs.declared.PlaceKind.TheVariants.{InBlock, Face}
-use Rattle.model.specs.declared.Reading.{Reading}
-use Rattle.model.specs.declared.Reading.TheVariants.{Value, NeverSampled}
+use Rattle.model.specs.Answers.{Reading}
 
 -- a block's samples: m^3 in the block and six faces of m^2, with m = n + 1
 abbrev pub sample_length : ℕ → ℕ
@@ -56,12 +55,12 @@ outside_count n x y z = is_outside n x + is_outside n y + is_outside n z
 -- a sample's value together with its place kind, or how many coordinates of a point never sampled are outside
 unfoldable pub reading_at : ℕ → List Float → ℕ → ℕ → ℕ → Reading
 reading_at n samples x y z =
-    cond (sampled n x y z) (Value (get_or samples (place_of n x y z) nan) (kind_of n x y z)) (NeverSampled (outside_count n x y z))
+    cond (sampled n x y z) (Ok ((get_or samples (place_of n x y z) nan), (kind_of n x y z))) (Err (outside_count n x y z))
 
 -- the value that a reading carries: a NaN for a point never sampled, which has none
 abbrev pub value_of : Reading → Float
-value_of (Value v kind) = v
-value_of (NeverSampled count) = nan
+value_of (Ok (v, kind)) = v
+value_of (Err count) = nan
 
 -- the sample of a point, its coordinates kept one up: all that extraction reads is read so
 unfoldable pub value_at : ℕ → List Float → ℕ → ℕ → ℕ → Float

@@ -1,12 +1,10 @@
 -- Document 01, 'Block record', with document 02, [3]: the three calls that serve the viewer, from record bytes to a packed number; and document 02, [4]:
 -- the point read of a record. Definitions only.
-use Rattle.std.specs.Prelude.{ℕ, ◌+◌, ◌*◌, ◌^◌, cond, List, ℤ}
+use Rattle.std.specs.Prelude.{ℕ, ◌+◌, ◌*◌, ◌^◌, cond, List, ℤ, Err, Ok}
 use Rattle.std.specs.Float.Ieee as Ieee
 use Rattle.std.specs.Float.{binary32}
-use Rattle.model.specs.declared.PointRead.{PointRead}
-use Rattle.model.specs.declared.PointRead.TheVariants as PointRead
-use Rattle.model.specs.declared.Verdict.{Verdict}
-use Rattle.model.specs.declared.Verdict.TheVariants.{Passed, Refused}
+use Rattle.model.specs.Answers.{PointRead}
+use Rattle.model.specs.Answers.{Verdict}
 use Rattle.model.specs.Samples.{reading_at, one_up}
 use Rattle.model.specs.Refusals.{numbers_of}
 use Rattle.model.specs.Extraction.{point_answer}
@@ -15,8 +13,8 @@ use Rattle.model.specs.Blank.{is_blank, blank_before}
 
 -- the answer, or a base plus the refusal's number
 abbrev pub packed : ℕ → Verdict → ℕ → ℕ
-packed base Passed answer = answer
-packed base (Refused r) answer = base + (numbers_of r).number
+packed base (Ok _) answer = answer
+packed base (Err r) answer = base + (numbers_of r).number
 
 unfoldable pub subdivisions_answer : List ℕ → ℕ
 subdivisions_answer bytes = packed 100 (judge_record bytes) (header_of bytes).block.subdivisions
@@ -39,8 +37,8 @@ record_point bytes x y z =
 
 -- the sample's bits, or 2^32 plus the refusal's number
 abbrev pub point_bits : PointRead → ℕ
-point_bits (PointRead.Value v kind) = Ieee.to_bits binary32 v
-point_bits (PointRead.Refused r) = 2 ^ 32 + (numbers_of r).number
+point_bits (Ok (v, kind)) = Ieee.to_bits binary32 v
+point_bits (Err r) = 2 ^ 32 + (numbers_of r).number
 
 unfoldable pub sample_answer : List ℕ → ℤ → ℤ → ℤ → ℕ
 sample_answer bytes x y z = point_bits (record_point bytes x y z)

@@ -1,9 +1,14 @@
 // What a reader must believe: the plain types here, and in specs/ the definition of everything that the other crates
 // are proved against, in document 01's words. Those marked repr(C) pass between this code and its callers in C and Rust.
 
-// What stands in the place of a grid edge's number for a transition vertex, which is given none, also where it lies on one.
 #![tactic(auto)]
 
+ghost use Rattle.std.specs.Prelude.{◌≡◌, ◌+◌, ◌<◌, ◌^◌};
+ghost use Rattle.model.specs.Refusals.{numbers, numbers_of};
+
+use std::ops::Add;
+
+// What stands in the place of a grid edge's number for a transition vertex, which is given none, also where it lies on one.
 pub const NO_EDGE: u32 = 4294967295;
 
 // Three whole numbers, one for each axis: a grid point, a cell, an origin, the sizes of a volume.
@@ -17,7 +22,7 @@ pub struct Xyz {
 
 // A position or a gradient.
 #[repr(C)]
-#[derive(Clone, Copy)]
+#[derive(Clone, Copy, PartialEq)]
 pub struct Vector {
     pub x: f32,
     pub y: f32,
@@ -53,13 +58,6 @@ pub struct Triangle {
     pub c: u32,
 }
 
-// A cell's vertex indices, the first count of the twelve places.
-#[derive(Clone, Copy)]
-pub struct CellVertices {
-    pub index: [u32; 12],
-    pub count: usize,
-}
-
 // A unit vector: what it adds on each axis, and what it takes away.
 #[derive(Clone, Copy)]
 pub struct Direction {
@@ -76,17 +74,10 @@ pub struct Rotation {
 }
 
 // Where a sample is stored: in the block, or on one of the six extension faces, by its number.
-#[derive(Clone, Copy)]
+#[derive(Clone, Copy, PartialEq)]
 pub enum PlaceKind {
     InBlock,
     Face(usize),
-}
-
-// A sample's value and where it is stored; or, of a point that was never sampled, how many of its coordinates are outside.
-#[derive(Clone, Copy)]
-pub enum Reading {
-    Value(f32, PlaceKind),
-    NeverSampled(usize),
 }
 
 // The least and the greatest sample of a layer of cells.
@@ -108,6 +99,33 @@ pub struct FacePoint {
 pub struct Counts {
     pub vertices: usize,
     pub triangles: usize,
+}
+
+pub const NO_COUNTS: Counts = Counts {
+    vertices: 0,
+    triangles: 0,
+};
+
+impl Add for Counts {
+    type Output = Counts;
+
+    ghost can_add = { λ a b. (a.vertices + b.vertices < 2 ^ 64) × (a.triangles + b.triangles < 2 ^ 64) };
+
+    ghost add_gives = { λ a b c. c ≡ record { vertices = a.vertices + b.vertices; triangles = a.triangles + b.triangles } };
+
+    fn add(self, rhs: Counts) -> Counts {
+        Counts {
+            vertices: self.vertices + rhs.vertices,
+            triangles: self.triangles + rhs.triangles,
+        }
+    }
+}
+
+// A cell's vertex indices, at most twelve, kept together with their count.
+#[derive(Clone, Copy)]
+pub struct CellVertices {
+    pub index: [u32; 12],
+    pub count: usize,
 }
 
 // The refusals, in the order of their numbers. An STL of too many triangles to write wants no length: 0.
@@ -141,7 +159,7 @@ pub enum Refusal {
 
 // A refusal as document 01 gives it out.
 #[repr(C)]
-#[derive(Clone, Copy)]
+#[derive(Clone, Copy, PartialEq)]
 pub struct Numbers {
     pub number: usize,
     pub first: usize,
@@ -149,28 +167,27 @@ pub struct Numbers {
     pub third: usize,
 }
 
+// A block as it is lent: its header, its own samples and those of its finer neighbours.
 #[derive(Clone, Copy)]
-pub enum Verdict {
-    Passed,
-    Refused(Refusal),
+pub struct Lent<'a> {
+    pub header: Header,
+    pub centre: &'a [f32],
+    pub neighbours: &'a [f32],
 }
 
-#[derive(Clone, Copy)]
-pub enum PointRead {
-    Value(f32, PlaceKind),
-    Refused(Refusal),
-}
-
-#[derive(Clone, Copy)]
-pub enum Extraction {
-    Mesh(Counts),
-    Refused(Refusal),
+// The buffers that a mesh is written into.
+#[derive(Drop)]
+pub struct Buffers<'a> {
+    pub store: &'a mut [u32],
+    pub vertices: &'a mut [f32],
+    pub triangles: &'a mut [u32],
+    pub edges: &'a mut [u32],
 }
 
 // What extraction reports: its answer, and the sample reads that it has made once every check has passed.
 #[derive(Clone, Copy)]
 pub struct Report {
-    pub answer: Extraction,
+    pub answer: Result<Counts, Refusal>,
     pub reads: u64,
 }
 
@@ -183,15 +200,49 @@ pub struct Header {
     pub threshold: f32,
 }
 
-#[derive(Clone, Copy)]
-pub enum RecordRead {
-    Block(Header),
-    Refused(Refusal),
+impl Numbers {
+    fn new(number: usize, first: usize, second: usize, third: usize) -> Numbers
+        ensures { result ≡ numbers number first second third }
+    {
+        Numbers {
+            number,
+            first,
+            second,
+            third,
+        }
+    }
 }
 
-// The length of the record that was written.
-#[derive(Clone, Copy)]
-pub enum RecordWritten {
-    Bytes(usize),
-    Refused(Refusal),
+// The number of a refusal, and its three numbers.
+impl From<Refusal> for Numbers {
+    ghost from_gives = { λ refusal told. told ≡ numbers_of refusal };
+
+    fn from(refusal: Refusal) -> Numbers {
+        match refusal {
+            Refusal::Subdivisions(n) => Numbers::new(1, n, 0, 0),
+            Refusal::Mask(mask) => Numbers::new(2, mask, 0, 0),
+            Refusal::Measure(which) => Numbers::new(3, which, 0, 0),
+            Refusal::CentreLength(wanted) => Numbers::new(4, wanted, 0, 0),
+            Refusal::MissingNeighbour(side) => Numbers::new(5, side, 0, 0),
+            Refusal::NeighboursTooLong(wanted) => Numbers::new(6, wanted, 0, 0),
+            Refusal::BadSample(place) => Numbers::new(7, place, 0, 0),
+            Refusal::FaceMismatch(at) => Numbers::new(8, at.side, at.u, at.v),
+            Refusal::IndexStoreTooShort(wanted) => Numbers::new(9, wanted, 0, 0),
+            Refusal::NoRoom(wanted) => Numbers::new(10, wanted.vertices, wanted.triangles, 0),
+            Refusal::RecordLength => Numbers::new(11, 0, 0, 0),
+            Refusal::Version(byte) => Numbers::new(12, byte, 0, 0),
+            Refusal::SampleCount(wanted) => Numbers::new(13, wanted, 0, 0),
+            Refusal::BufferTooShort(wanted) => Numbers::new(14, wanted, 0, 0),
+            Refusal::PointNeverSampled(count) => Numbers::new(15, count, 0, 0),
+            Refusal::StlLength(wanted) => Numbers::new(16, wanted, 0, 0),
+            Refusal::NoVertex(triangle) => Numbers::new(17, triangle, 0, 0),
+            Refusal::BadFiller => Numbers::new(18, 0, 0, 0),
+            Refusal::ChangesTooShort(wanted) => Numbers::new(19, wanted, 0, 0),
+            Refusal::VolumeSize => Numbers::new(20, 0, 0, 0),
+            Refusal::VolumeLength => Numbers::new(21, 0, 0, 0),
+            Refusal::FirstPoint => Numbers::new(22, 0, 0, 0),
+            Refusal::EdgesTooShort(wanted) => Numbers::new(23, wanted, 0, 0),
+            Refusal::LayerDiffers(layer) => Numbers::new(26, layer, 0, 0),
+        }
+    }
 }

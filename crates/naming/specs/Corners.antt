@@ -2,7 +2,7 @@
 -- with each corner.
 use Prim.Native.Nat.{ℕ, zero, suc, ◌+◌, ◌*◌, ◌/◌, ◌%◌, ◌<◌, zero-le}
 use Rattle.std.proofs.Common.{add-zero, arith, subst}
-use Rattle.std.specs.Prelude.{◌≡◌, Bool, ◌&&◌, List, get_or}
+use Rattle.std.specs.Prelude.{◌≡◌, Bool, ◌&&◌, List, get_or, Ok}
 use Rattle.std.proofs.Math.Path.{refl}
 use Rattle.std.proofs.Math.Bool.{true, and-eq-true_iff}
 use borrow.Author.Tests.{ltb-true, lt-ltb}
@@ -10,8 +10,7 @@ use Rattle.std.proofs.Math.Dec.{ltb}
 use Rattle.laws.specs.Below.{all_below, each_below}
 use Rattle.laws.specs.Ranges.{hold_all}
 use Rattle.model.specs.declared.Refusal.TheVariants.{NoVertex}
-use Rattle.model.specs.declared.Verdict.{Verdict}
-use Rattle.model.specs.declared.Verdict.TheVariants.{Passed}
+use Rattle.model.specs.Answers.{Verdict}
 use Rattle.model.specs.Refusals.{unless}
 use Rattle.model.specs.Corners.{triangle_count, corner_of, named, judge_named}
 use Rattle.judge.specs.First.{unless_passed, each_passed, passed_over_lem}
@@ -33,7 +32,7 @@ module _ (held : ℕ) (triangles : List ℕ) where
   abbrev count : ℕ
   count = triangle_count triangles
 
-  pub all_named_lem : all_named held triangles (3 * count) ≡ true → judge_named held triangles ≡ Passed
+  pub all_named_lem : all_named held triangles (3 * count) ≡ true → judge_named held triangles ≡ Ok tt
   unfolding judge_named
   all_named_lem h =
       let corner : (t k : ℕ) → t < count → k < 3 → ltb (corner_of triangles t k) held ≡ true =
@@ -43,7 +42,7 @@ module _ (held : ℕ) (triangles : List ℕ) where
 
   -- ---- what passes
 
-  three_named : judge_named held triangles ≡ Passed → (t : ℕ) → t < count
+  three_named : judge_named held triangles ≡ Ok tt → (t : ℕ) → t < count
       → (corner_of triangles t 0 < held) × (corner_of triangles t 1 < held) × (corner_of triangles t 2 < held)
   unfolding judge_named
   three_named e t h =
@@ -55,7 +54,7 @@ module _ (held : ℕ) (triangles : List ℕ) where
       let both = (and-eq-true_iff a b).0 third.0 in
       (ltb-true _ held both.0, ltb-true _ held both.1, ltb-true _ held third.1)
 
-  pub corner_named : judge_named held triangles ≡ Passed → (t corner : ℕ) → t < count → corner < 3 → corner_of triangles t corner < held
+  pub corner_named : judge_named held triangles ≡ Ok tt → (t corner : ℕ) → t < count → corner < 3 → corner_of triangles t corner < held
   corner_named e t zero h small = (three_named e t h).0
   corner_named e t (suc zero) h small = (three_named e t h).1
   corner_named e t (suc (suc zero)) h small = (three_named e t h).2
@@ -67,8 +66,8 @@ module _ (held : ℕ) (triangles : List ℕ) where
       let q : 3 * (p / 3) + p % 3 ≡ p = omega arith in
       subst (λ (k : ℕ). get_or triangles k 0 < held) q (named (p / 3) (p % 3) (omega arith) (omega arith))
 
-  pub place_named : judge_named held triangles ≡ Passed → (p : ℕ) → p < 3 * count → get_or triangles p 0 < held
+  pub place_named : judge_named held triangles ≡ Ok tt → (p : ℕ) → p < 3 * count → get_or triangles p 0 < held
   place_named e = by_place (corner_named e)
 
-  pub places_named : ((p : ℕ) → p < 3 * count → get_or triangles p 0 < held) → judge_named held triangles ≡ Passed
+  pub places_named : ((p : ℕ) → p < 3 * count → get_or triangles p 0 < held) → judge_named held triangles ≡ Ok tt
   places_named h = all_named_lem (hold_all (λ k. ltb (get_or triangles k 0) held) (3 * count) (λ p l. lt-ltb _ held (h p l)))

@@ -1,12 +1,12 @@
 -- Pairs of two layers of points, and that the case numbers that are made of pairs are the model's.
-use Prim.Native.Nat.{ℕ, ◌+◌, ◌-◌, ◌*◌, ◌/◌, ◌≤◌, ◌<◌}
+use Prim.Native.Nat.{ℕ, ◌+◌, ◌-◌, ◌*◌, ◌≤◌, ◌<◌}
 use mathlib.Core.Path.{◌≡◌, sym, ap, ◌∙◌}
 use mathlib.Core.List.{List}
 use native.Mathlib.Nat.{zero-add}
 use native.Mathlib.Omega.{arith}
 use lib.Ieee.{Float, nan}
 use lib.ListN.{get_or, length}
-use Rattle.model.specs.declared.Reading.{Reading}
+use Rattle.model.specs.Answers.{Reading}
 use Rattle.model.specs.Samples.{value_of, value_at}
 use Rattle.model.specs.Formulas.{inside_bit}
 use Rattle.model.specs.Star.{Star, subdivisions}
@@ -40,11 +40,6 @@ module _ (s : Star) (x : ℕ) (layer : List Float) (p : Plane s x layer) where
       }
 
 -- ---- pairs
-
--- a place that was not reached yet makes the pair that it made before
-pub paired_still : (t : Float) (samples : List Float) (before pairs : List ℕ) (m i : ℕ)
-    → RowPut (paired_with t samples before) 0 m before pairs → m ≤ i → paired_with t samples pairs i ≡ paired_with t samples before i
-paired_still t samples before pairs m i put l = ap (λ (p : ℕ). p / 2 + 2 * inside_bit t (get_or samples i nan)) (put.beyond i (omega arith))
 
 module _ {n : ℕ} {low high : ℕ → ℕ → ℕ} {pairs : List ℕ} (p : Pairs n low high pairs) (low_bit : (y z : ℕ) → low y z ≤ 1) where
   pub pairs_small : ((y z : ℕ) → high y z ≤ 1) → Small ((n + 1) * (n + 1)) pairs

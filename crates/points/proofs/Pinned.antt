@@ -52,5 +52,5 @@ vertex_inside_pinned κs a r r' e e' h k = pinned (h []) (k [])
 pub transition_point_pinned : (κs : Lfts 3) (a : _) (r r' : _) (e e' : _) → transition-point.Asked κs a
     → transition-point.Learnt κs a r e → transition-point.Learnt κs a r' e' → r ≡ r'
 transition_point_pinned κs a r r' e e' asked h k =
-    let part = is_part _ _ _ _ asked.1.0.fine_is in
+    let part = is_part _ _ _ _ asked.0.fine_is in
     pinned (h _ part) (k _ part)

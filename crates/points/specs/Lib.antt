@@ -3,3 +3,4 @@ pub mod Positions
 pub mod Steps
 pub mod StepKinds
 pub mod CellPoints
+pub mod Grids

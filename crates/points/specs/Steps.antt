@@ -1,12 +1,11 @@
 -- Document 01, 'The block and its samples': the places of the two points one step along an axis from an in-block point, and what they read as.
 -- In the block they are one stride from its place; beyond it they are on the axis's two extension faces, low and low + 1. Definitions only.
-use Rattle.std.specs.Prelude.{ℕ, ◌+◌, ◌-◌, ◌≤◌, ◌<◌, cond, List, ltb, Float, get_or}
+use Rattle.std.specs.Prelude.{ℕ, ◌+◌, ◌-◌, ◌≤◌, ◌<◌, cond, List, ltb, Float, get_or, Ok}
 use Rattle.std.specs.Float.{nan}
 use Rattle.model.specs.declared.Xyz.{Xyz}
 use Rattle.model.specs.declared.PlaceKind.{PlaceKind}
 use Rattle.model.specs.declared.PlaceKind.TheVariants.{InBlock, Face}
-use Rattle.model.specs.declared.Reading.{Reading}
-use Rattle.model.specs.declared.Reading.TheVariants.{Value}
+use Rattle.model.specs.Answers.{Reading}
 use Rattle.model.specs.Limits.{most_fine, side_count}
 use Rattle.model.specs.Samples.{sample_length, on_face, value_of}
 use Rattle.model.specs.Formulas.{◌⊖◌}
@@ -36,10 +35,10 @@ down_kind c low = cond (ltb 0 c) InBlock (Face low)
 
 -- what they read as
 abbrev pub up_reading : List Float → ℕ → ℕ → ℕ → ℕ → ℕ → ℕ → ℕ → Reading
-up_reading samples n at stride low c i j = Value (get_or samples (up_from n c at stride (on_face n (low + 1) i j)) nan) (up_kind n c (low + 1))
+up_reading samples n at stride low c i j = Ok ((get_or samples (up_from n c at stride (on_face n (low + 1) i j)) nan), (up_kind n c (low + 1)))
 
 abbrev pub down_reading : List Float → ℕ → ℕ → ℕ → ℕ → ℕ → ℕ → ℕ → Reading
-down_reading samples n at stride low c i j = Value (get_or samples (down_from c at stride (on_face n low i j)) nan) (down_kind c low)
+down_reading samples n at stride low c i j = Ok ((get_or samples (down_from c at stride (on_face n low i j)) nan), (down_kind c low))
 
 -- the sample one step up minus the one a step down
 abbrev pub difference_at : List Float → ℕ → ℕ → ℕ → ℕ → ℕ → ℕ → ℕ → Float

@@ -42,10 +42,7 @@ fn touches(mask: u8, side: usize, index: usize, face: usize) -> bool
     requires { side < side_count }
     ensures { result ≡ (eqb index face && not (named mask side)) }
 {
-    if index == face {
-        return !is_named(mask, side);
-    }
-    false
+    index == face && !is_named(mask, side)
 }
 
 // low is the axis's Low side, and low + 1 its High side.
@@ -53,22 +50,13 @@ fn held_by(n: usize, mask: u8, low: usize, index: usize) -> bool
     requires { low + 1 < side_count }
     ensures { result ≡ Formulas.held_by n mask low index }
 {
-    if touches(mask, low, index, 0) {
-        return true;
-    }
-    touches(mask, low + 1, index, n)
+    touches(mask, low, index, 0) || touches(mask, low + 1, index, n)
 }
 
 fn held(n: usize, mask: u8, p: Xyz) -> bool
     ensures { result ≡ Formulas.held n mask p }
 {
-    if held_by(n, mask, 0, p.x) {
-        return true;
-    }
-    if held_by(n, mask, 2, p.y) {
-        return true;
-    }
-    held_by(n, mask, 4, p.z)
+    held_by(n, mask, 0, p.x) || held_by(n, mask, 2, p.y) || held_by(n, mask, 4, p.z)
 }
 
 fn moved(n: usize, amount: f32, index: usize, at: f32) -> f32

@@ -7,80 +7,72 @@ ghost use Rattle.model.specs.Samples.{sample_length};
 ghost use Rattle.model.specs.Formulas.{gradient_at, vertex_between};
 ghost use Rattle.model.specs.Rotations.{neighbour_point};
 ghost use Rattle.model.specs.Sides.{neighbour_of};
-ghost use Rattle.model.specs.Star.{star};
 ghost use Rattle.model.specs.Points.{regular_point, fine_grid_point, transition_point};
 ghost use Rattle.grid.specs.Places.{Within};
 ghost use Rattle.grid.specs.RotationLaws.{OnFineFace};
-ghost use Rattle.points.specs.CellPoints.{Centred, Bordered, InCell, fine_gradient};
+ghost use Rattle.points.specs.CellPoints.{Bordered, InCell, fine_gradient};
+ghost use Rattle.points.specs.Grids.{subdivisions_of, star_with};
 ghost use Rattle.points.specs.Steps.{Reach, up_reading, down_reading, difference_at, Inside, difference_inside};
 
 use crate::block::{fine_position, original_position, regular_position};
 use crate::formulas::{between_vectors, weight};
-use crate::fractions::FRACTIONS;
+use crate::fractions::Grid;
 use grid::readings::{reading_at, value_in_block, value_of};
 use grid::rotation::{face_point, fine_points};
 use grid::voxel_blocks::{in_block, on_face, sample};
-use model::{FacePoint, GridPoint, Header, PlaceKind, Reading, Vector, Vertex, Xyz};
+use model::{FacePoint, GridPoint, Lent, PlaceKind, Vector, Vertex, Xyz};
 use tables::aux_tables::CellPoint;
 
-// What the point one step up on an axis from the in-block place at reads as: one stride on, or where the point is the axis's last one on the
-// extension face low + 1. There c is the point's coordinate, and i and j are the two others.
-fn reading_above(
-    samples: &[f32],
-    n: usize,
+// One step along an axis from an in-block point: the point's place, how many places the step leads on, the axis's extension face on the low
+// side, the point's coordinate along the axis and its two others. n and the samples stay beside it: as fields they would be named again for
+// each of a gradient's three axes.
+#[derive(Clone, Copy)]
+struct AxisStep {
     at: usize,
     stride: usize,
     low: usize,
-    c: usize,
+    along: usize,
     i: usize,
     j: usize,
-) -> Reading
-    requires { (length samples.now ≡ sample_length n) × Reach n at stride low c i j }
-    ensures { result ≡ up_reading samples.now n at stride low c i j }
+}
+
+// What the point one step up reads as: one stride on, or where the point is the axis's last one on the extension face low + 1.
+fn reading_above(samples: &[f32], n: usize, step: AxisStep) -> Result<(f32, PlaceKind), usize>
+    requires { (length samples.now ≡ sample_length n) × Reach n step.at step.stride step.low step.along step.i step.j }
+    ensures { result ≡ up_reading samples.now n step.at step.stride step.low step.along step.i step.j }
 {
-    if c < n {
-        return reading_at(samples, at + stride, PlaceKind::InBlock);
+    if step.along < n {
+        return reading_at(samples, step.at + step.stride, PlaceKind::InBlock);
     }
-    let high = low + 1;
-    reading_at(samples, on_face(n, high, i, j), PlaceKind::Face(high))
+    let high = step.low + 1;
+    reading_at(
+        samples,
+        on_face(n, high, step.i, step.j),
+        PlaceKind::Face(high),
+    )
 }
 
 // The same one step down, with the extension face low.
-fn reading_below(
-    samples: &[f32],
-    n: usize,
-    at: usize,
-    stride: usize,
-    low: usize,
-    c: usize,
-    i: usize,
-    j: usize,
-) -> Reading
-    requires { (length samples.now ≡ sample_length n) × Reach n at stride low c i j }
-    ensures { result ≡ down_reading samples.now n at stride low c i j }
+fn reading_below(samples: &[f32], n: usize, step: AxisStep) -> Result<(f32, PlaceKind), usize>
+    requires { (length samples.now ≡ sample_length n) × Reach n step.at step.stride step.low step.along step.i step.j }
+    ensures { result ≡ down_reading samples.now n step.at step.stride step.low step.along step.i step.j }
 {
-    if 0 < c {
-        return reading_at(samples, at - stride, PlaceKind::InBlock);
+    if 0 < step.along {
+        return reading_at(samples, step.at - step.stride, PlaceKind::InBlock);
     }
-    reading_at(samples, on_face(n, low, i, j), PlaceKind::Face(low))
+    reading_at(
+        samples,
+        on_face(n, step.low, step.i, step.j),
+        PlaceKind::Face(step.low),
+    )
 }
 
 // The sample one step up minus the one a step down.
-fn difference(
-    samples: &[f32],
-    n: usize,
-    at: usize,
-    stride: usize,
-    low: usize,
-    c: usize,
-    i: usize,
-    j: usize,
-) -> f32
-    requires { (length samples.now ≡ sample_length n) × Reach n at stride low c i j }
-    ensures { result ≡ difference_at samples.now n at stride low c i j }
+fn difference(samples: &[f32], n: usize, step: AxisStep) -> f32
+    requires { (length samples.now ≡ sample_length n) × Reach n step.at step.stride step.low step.along step.i step.j }
+    ensures { result ≡ difference_at samples.now n step.at step.stride step.low step.along step.i step.j }
 {
-    value_of(reading_above(samples, n, at, stride, low, c, i, j))
-        - value_of(reading_below(samples, n, at, stride, low, c, i, j))
+    value_of(reading_above(samples, n, step)) - value_of(reading_below(samples, n, step))
 }
 
 // Steps along x, y and z lead m * m, m and 1 places on; the faces are 0 and 1, 2 and 3, 4 and 5.
@@ -91,10 +83,34 @@ fn gradient(n: usize, samples: &[f32], p: Xyz) -> Vector
 {
     let m = n + 1;
     let at = in_block(n, p.x, p.y, p.z);
+    let x = AxisStep {
+        at,
+        stride: m * m,
+        low: 0,
+        along: p.x,
+        i: p.y,
+        j: p.z,
+    };
+    let y = AxisStep {
+        at,
+        stride: m,
+        low: 2,
+        along: p.y,
+        i: p.x,
+        j: p.z,
+    };
+    let z = AxisStep {
+        at,
+        stride: 1,
+        low: 4,
+        along: p.z,
+        i: p.x,
+        j: p.y,
+    };
     Vector {
-        x: difference(samples, n, at, m * m, 0, p.x, p.y, p.z),
-        y: difference(samples, n, at, m, 2, p.y, p.x, p.z),
-        z: difference(samples, n, at, 1, 4, p.z, p.x, p.y),
+        x: difference(samples, n, x),
+        y: difference(samples, n, y),
+        z: difference(samples, n, z),
     }
 }
 
@@ -120,12 +136,13 @@ fn gradient_inside(n: usize, samples: &[f32], p: Xyz) -> Vector
     }
 }
 
-fn regular_point(header: Header, fractions: &[f32; FRACTIONS], centre: &[f32], p: Xyz) -> GridPoint
-    requires { Centred header.block.subdivisions fractions.now centre.now × Within header.block.subdivisions p }
-    ensures { (ns : List Float) → result ≡ regular_point (star header centre.now ns) p }
+fn regular_point(grid: &Grid<'_>, p: Xyz) -> GridPoint
+    requires { Within (subdivisions_of grid.now) p }
+    ensures { (ns : List Float) → result ≡ regular_point (star_with grid.now ns) p }
 {
+    let Lent { header, centre, .. } = grid.lent;
     let n = header.block.subdivisions;
-    let position = regular_position(header, fractions, p);
+    let position = regular_position(header, &grid.fractions, p);
     let slope = gradient(n, centre, p);
     let value = sample(n, centre, p);
     GridPoint {
@@ -136,22 +153,17 @@ fn regular_point(header: Header, fractions: &[f32; FRACTIONS], centre: &[f32], p
 }
 
 // The vertex between two of the block's grid points. It makes no GridPoint: one returned through memory costs a stall.
-pub fn regular_vertex_between(
-    header: Header,
-    fractions: &[f32; FRACTIONS],
-    centre: &[f32],
-    a: Xyz,
-    b: Xyz,
-) -> Vertex
-    requires { Centred header.block.subdivisions fractions.now centre.now × (Within header.block.subdivisions a × Within header.block.subdivisions b) }
-    ensures { (ns : List Float) → result ≡ vertex_between header.threshold (regular_point (star header centre.now ns) a) (regular_point (star header centre.now ns) b) }
+pub fn regular_vertex_between(grid: &Grid<'_>, a: Xyz, b: Xyz) -> Vertex
+    requires { Within (subdivisions_of grid.now) a × Within (subdivisions_of grid.now) b }
+    ensures { (ns : List Float) → result ≡ vertex_between grid.now.lent.header.threshold (regular_point (star_with grid.now ns) a) (regular_point (star_with grid.now ns) b) }
 {
+    let Lent { header, centre, .. } = grid.lent;
     let n = header.block.subdivisions;
     let w = weight(sample(n, centre, a), sample(n, centre, b), header.threshold);
     let position = between_vectors(
         w,
-        regular_position(header, fractions, a),
-        regular_position(header, fractions, b),
+        regular_position(header, &grid.fractions, a),
+        regular_position(header, &grid.fractions, b),
     );
     let slope = between_vectors(w, gradient(n, centre, a), gradient(n, centre, b));
     Vertex {
@@ -161,22 +173,17 @@ pub fn regular_vertex_between(
 }
 
 // The same between two points that no block face touches: shrinking moves neither, and both gradients are read in the block.
-pub fn vertex_inside(
-    header: Header,
-    fractions: &[f32; FRACTIONS],
-    centre: &[f32],
-    a: Xyz,
-    b: Xyz,
-) -> Vertex
-    requires { Centred header.block.subdivisions fractions.now centre.now × (Inside header.block.subdivisions a × Inside header.block.subdivisions b) }
-    ensures { (ns : List Float) → result ≡ vertex_between header.threshold (regular_point (star header centre.now ns) a) (regular_point (star header centre.now ns) b) }
+pub fn vertex_inside(grid: &Grid<'_>, a: Xyz, b: Xyz) -> Vertex
+    requires { Inside (subdivisions_of grid.now) a × Inside (subdivisions_of grid.now) b }
+    ensures { (ns : List Float) → result ≡ vertex_between grid.now.lent.header.threshold (regular_point (star_with grid.now ns) a) (regular_point (star_with grid.now ns) b) }
 {
+    let Lent { header, centre, .. } = grid.lent;
     let n = header.block.subdivisions;
     let w = weight(sample(n, centre, a), sample(n, centre, b), header.threshold);
     let position = between_vectors(
         w,
-        original_position(header.block, fractions, a),
-        original_position(header.block, fractions, b),
+        original_position(header.block, &grid.fractions, a),
+        original_position(header.block, &grid.fractions, b),
     );
     let slope = between_vectors(
         w,
@@ -203,21 +210,15 @@ fn fine_gradient(n: usize, centre: &[f32], fine: &[f32], at: FacePoint, there: X
     gradient(2 * n, fine, there)
 }
 
-fn fine_grid_point(
-    header: Header,
-    fractions: &[f32; FRACTIONS],
-    centre: &[f32],
-    fine: &[f32],
-    at: FacePoint,
-) -> GridPoint
-    requires centred { Centred header.block.subdivisions fractions.now centre.now }
-    requires fine_len { length fine.now ≡ sample_length (2 * header.block.subdivisions) }
-    requires on_fine_face { OnFineFace header.block.subdivisions at.side at.u at.v }
-    ensures { (ns : List Float) → fine.now ≡ neighbour_of header.block.subdivisions header.mask ns at.side → result ≡ fine_grid_point (star header centre.now ns) at.side at.u at.v }
+fn fine_grid_point(grid: &Grid<'_>, fine: &[f32], at: FacePoint) -> GridPoint
+    requires fine_len { length fine.now ≡ sample_length (2 * subdivisions_of grid.now) }
+    requires on_fine_face { OnFineFace (subdivisions_of grid.now) at.side at.u at.v }
+    ensures { (ns : List Float) → fine.now ≡ neighbour_of (subdivisions_of grid.now) grid.now.lent.header.mask ns at.side → result ≡ fine_grid_point (star_with grid.now ns) at.side at.u at.v }
 {
+    let Lent { header, centre, .. } = grid.lent;
     let n = header.block.subdivisions;
     let k = fine_points(n, at.side, at.u, at.v);
-    let position = fine_position(header.block, fractions, k.here);
+    let position = fine_position(header.block, &grid.fractions, k.here);
     let slope = fine_gradient(n, centre, fine, at, k.there);
     let value = sample(2 * n, fine, k.there);
     GridPoint {
@@ -228,34 +229,26 @@ fn fine_grid_point(
 }
 
 // A point of a transition cell.
-pub fn transition_point(
-    header: Header,
-    fractions: &[f32; FRACTIONS],
-    centre: &[f32],
-    fine: &[f32],
-    cell: FacePoint,
-    p: CellPoint,
-) -> GridPoint
-    requires centred { Centred header.block.subdivisions fractions.now centre.now }
-    requires bordered { Bordered header.block.subdivisions fine.now cell }
+pub fn transition_point(grid: &Grid<'_>, fine: &[f32], cell: FacePoint, p: CellPoint) -> GridPoint
+    requires bordered { Bordered (subdivisions_of grid.now) fine.now cell }
     requires in_cell { InCell p }
-    ensures { (ns : List Float) → fine.now ≡ neighbour_of header.block.subdivisions header.mask ns cell.side → result ≡ transition_point (star header centre.now ns) cell.side cell.u cell.v p }
+    ensures { (ns : List Float) → fine.now ≡ neighbour_of (subdivisions_of grid.now) grid.now.lent.header.mask ns cell.side → result ≡ transition_point (star_with grid.now ns) cell.side cell.u cell.v p }
 {
     let side = cell.side;
     match p {
         CellPoint::Fine(offset) => {
             let u = 2 * cell.u + offset.u;
             let v = 2 * cell.v + offset.v;
-            fine_grid_point(header, fractions, centre, fine, FacePoint { side, u, v })
+            fine_grid_point(grid, fine, FacePoint { side, u, v })
         }
         CellPoint::Coarse(corner) => {
             let at = face_point(
-                header.block.subdivisions,
+                grid.lent.header.block.subdivisions,
                 side,
                 cell.u + corner.u,
                 cell.v + corner.v,
             );
-            regular_point(header, fractions, centre, at)
+            regular_point(grid, at)
         }
     }
 }

@@ -6,9 +6,9 @@ ghost use Rattle.record.specs.Reading.{Held};
 
 use grid::transition_sides::sample_count;
 use grid::voxel_blocks::sample_length;
-use model::{Counts, Extraction, Header, RecordRead, Refusal};
+use model::{Counts, Header, Numbers, Refusal};
 use record::reader::read_record;
-use std::io;
+use std::{fmt, io};
 
 // What document 01 gives the program: the longest record, and the places of its buffers.
 pub const MOST_BYTES: usize = 65536;
@@ -21,110 +21,65 @@ const VERTICES: usize = 12000;
 
 const TRIANGLES: usize = 12000;
 
-fn print_number(rt: &impl Print, n: usize) -> io::Result<()> {
-    print!(rt; " {n}")
-}
+// A float as its bits. No vertex of an accepted block holds a NaN, which has no bits of its own here.
+#[derive(Clone, Copy)]
+struct Bits(f32);
 
-fn print_bits(rt: &impl Print, bits: u32) -> io::Result<()> {
-    print!(rt; " {bits:08x}")
-}
-
-// No vertex of an accepted block holds a NaN, which has no bits of its own here.
-fn print_float(rt: &impl Print, x: f32) -> io::Result<()> {
-    if x != x {
-        return print!(rt; " nan");
+impl fmt::Display for Bits {
+    fn fmt<W: fmt::Write>(&self, f: &mut fmt::Formatter<W>) -> fmt::Result {
+        let x = self.0;
+        if x.is_nan() {
+            return write!(f, "nan");
+        }
+        let bits = x.to_bits();
+        write!(f, "{bits:08x}")
     }
-    print_bits(rt, f32::to_bits(x))
 }
 
 fn print_refusal(rt: &impl Print, refusal: Refusal) -> io::Result<()> {
-    let numbers = judge::numbers_of(refusal);
-    print!(rt; "refused")?;
-    print_number(rt, numbers.number)?;
-    print_number(rt, numbers.first)?;
-    print_number(rt, numbers.second)?;
-    print_number(rt, numbers.third)?;
-    println!(rt)
-}
-
-fn print_counts(rt: &impl Print, counts: Counts) -> io::Result<()> {
-    print!(rt; "mesh")?;
-    print_number(rt, counts.vertices)?;
-    print_number(rt, counts.triangles)?;
-    println!(rt)
-}
-
-// One of the six numbers of a vertex: the first opens the line, the last ends it.
-fn print_vertex_number(rt: &impl Print, which: usize, x: f32) -> io::Result<()> {
-    if which == 0 {
-        print!(rt; "v")?;
-    }
-    print_float(rt, x)?;
-    if which == 5 {
-        println!(rt)?;
-    }
-    Ok(())
+    let Numbers {
+        number,
+        first,
+        second,
+        third,
+    } = Numbers::from(refusal);
+    println!(rt; "refused {number} {first} {second} {third}")
 }
 
 fn print_vertices(rt: &impl Print, vertices: &[f32], count: usize) -> io::Result<()> {
-    let mut i = 0;
-    while i < vertices.len() {
-        if i / 6 >= count {
-            return Ok(());
-        }
-        print_vertex_number(rt, i % 6, vertices[i])?;
-        i += 1;
-    }
-    Ok(())
-}
-
-// One of the three corners of a triangle: the first opens the line, the last ends it.
-fn print_corner(rt: &impl Print, which: usize, index: u32) -> io::Result<()> {
-    if which == 0 {
-        print!(rt; "t")?;
-    }
-    print_number(rt, index as usize)?;
-    if which == 2 {
-        println!(rt)?;
+    let (vertices, _) = vertices.as_chunks::<6>();
+    for vertex in vertices.iter().take(count) {
+        let [x, y, z, gx, gy, gz] = vertex.map(Bits);
+        println!(rt; "v {x} {y} {z} {gx} {gy} {gz}")?;
     }
     Ok(())
 }
 
 fn print_triangles(rt: &impl Print, triangles: &[u32], count: usize) -> io::Result<()> {
-    let mut i = 0;
-    while i < triangles.len() {
-        if i / 3 >= count {
-            return Ok(());
-        }
-        print_corner(rt, i % 3, triangles[i])?;
-        i += 1;
+    let (triangles, _) = triangles.as_chunks::<3>();
+    for [a, b, c] in triangles.iter().take(count) {
+        println!(rt; "t {a} {b} {c}")?;
     }
     Ok(())
 }
 
-fn print_answer(
+fn print_mesh(
     rt: &impl Print,
-    answer: Extraction,
+    counts: Counts,
     vertices: &[f32],
     triangles: &[u32],
 ) -> io::Result<()> {
-    match answer {
-        Extraction::Refused(refusal) => print_refusal(rt, refusal),
-        Extraction::Mesh(counts) => {
-            print_counts(rt, counts)?;
-            print_vertices(rt, vertices, counts.vertices)?;
-            print_triangles(rt, triangles, counts.triangles)
-        }
-    }
+    println!(rt; "mesh {} {}", counts.vertices, counts.triangles)?;
+    print_vertices(rt, vertices, counts.vertices)?;
+    print_triangles(rt, triangles, counts.triangles)
 }
 
 // A block whose samples stand in the first places of a list, the centre's first.
 fn print_block(rt: &impl Print, header: Header, samples: &[f32]) -> io::Result<()>
     requires { Held header (length samples.now) }
 {
-    let n = header.block.subdivisions;
-    let own = sample_length(n);
-    let all = sample_count(n, header.mask);
+    let own = sample_length(header.block.subdivisions);
+    let all = sample_count(header.block.subdivisions, header.mask);
     let mut store = [0u32; STORE];
     let mut vertices = [0f32; VERTICES];
     let mut triangles = [0u32; TRIANGLES];
@@ -136,8 +91,10 @@ fn print_block(rt: &impl Print, header: Header, samples: &[f32]) -> io::Result<(
         &mut vertices,
         &mut triangles,
     );
-    let answer = report.answer;
-    print_answer(rt, answer, &vertices, &triangles)
+    match report.answer {
+        Ok(counts) => print_mesh(rt, counts, &vertices, &triangles),
+        Err(refusal) => print_refusal(rt, refusal),
+    }
 }
 
 pub fn print_listing(rt: &impl Print, bytes: &[u8]) -> io::Result<()> {
@@ -145,9 +102,8 @@ pub fn print_listing(rt: &impl Print, bytes: &[u8]) -> io::Result<()> {
         return print_refusal(rt, Refusal::RecordLength);
     }
     let mut samples = [0f32; SAMPLES];
-    let read = read_record(bytes, &mut samples);
-    match read {
-        RecordRead::Refused(refusal) => print_refusal(rt, refusal),
-        RecordRead::Block(header) => print_block(rt, header, &samples),
+    match read_record(bytes, &mut samples) {
+        Ok(header) => print_block(rt, header, &samples),
+        Err(refusal) => print_refusal(rt, refusal),
     }
 }

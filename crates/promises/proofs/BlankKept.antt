@@ -1,15 +1,12 @@
 -- What was promised of blank holds: blankness has it of a block, and here it is carried to the records that hold one.
-use Rattle.std.specs.Prelude.{ℕ, ◌+◌, ◌*◌, ◌≡◌, refl, Bool, true, false, cond, ◌||◌, List, ◌↔◌, eqb, Float, length, take, drop}
+use Rattle.std.specs.Prelude.{ℕ, ◌+◌, ◌*◌, ◌≡◌, refl, Bool, true, false, cond, ◌||◌, List, ◌↔◌, eqb, Float, length, take, drop, Err, Ok}
 use Rattle.std.proofs.Common.{arith, sym, ◌∙◌, subst, take-append-drop, length-take-le, get_or-take}
 use Rattle.std.proofs.Math.Path.{ap}
 use Rattle.std.specs.Float.{nan}
 use Rattle.laws.specs.Sums.{total_same}
 use Rattle.model.specs.declared.Counts.{Counts}
 use Rattle.model.specs.declared.Header.{Header}
-use Rattle.model.specs.declared.Extraction.TheVariants as Extraction
-use Rattle.model.specs.declared.RecordRead.TheVariants as RecordRead
-use Rattle.model.specs.declared.Verdict.{Verdict}
-use Rattle.model.specs.declared.Verdict.TheVariants.{Passed, Refused}
+use Rattle.model.specs.Answers.{Verdict}
 use Rattle.model.specs.Samples.{sample_length}
 use Rattle.model.specs.Formulas.{inside_bit}
 use Rattle.model.specs.Star.{Star, star}
@@ -33,23 +30,23 @@ is_one true = (λ e. refl, λ e. refl)
 is_one false = (λ e. absurd (omega arith), λ e. cc)
 
 accepted_one : (v : Verdict) (b : Bool) → packed 100 v (cond b 1 0) ≡ 1 → b ≡ true
-accepted_one Passed b e = (is_one b).0 e
-accepted_one (Refused r) b e = absurd (omega arith)
+accepted_one (Ok _) b e = (is_one b).0 e
+accepted_one (Err r) b e = absurd (omega arith)
 
 module _ (bytes : List ℕ) where
-  judged : in_order (record_judges bytes) ≡ Passed → judge_record bytes ≡ Passed
+  judged : in_order (record_judges bytes) ≡ Ok tt → judge_record bytes ≡ Ok tt
   judged e = sym (record_in_order bytes) ∙ e
 
-  pub block_passed : judge_record bytes ≡ Passed → judge_star (star_of bytes) ≡ Passed
+  pub block_passed : judge_record bytes ≡ Ok tt → judge_star (star_of bytes) ≡ Ok tt
   block_passed e =
       let own = sample_length (header_of bytes).block.subdivisions in
       let long : length (take own (samples_of bytes)) ≡ own = length-take-le own (samples_of bytes) (rw (length_samples bytes) (omega arith)) in
       star_passes bytes (accepted bytes e) (take own (samples_of bytes)) (drop own (samples_of bytes)) (take-append-drop own (samples_of bytes)) long
 
-  block_passes : in_order (record_judges bytes) ≡ Passed → in_order (block_judges (star_of bytes)) ≡ Passed
+  block_passes : in_order (record_judges bytes) ≡ Ok tt → in_order (block_judges (star_of bytes)) ≡ Ok tt
   block_passes e = block_in_order (star_of bytes) ∙ block_passed (judged e)
 
-  exactly : judge_record bytes ≡ Passed → judge_faces (star_of bytes) ≡ Passed → (blank_answer bytes ≡ 1) ↔ ((counts (star_of bytes)).triangles ≡ 0)
+  exactly : judge_record bytes ≡ Ok tt → judge_faces (star_of bytes) ≡ Ok tt → (blank_answer bytes ≡ 1) ↔ ((counts (star_of bytes)).triangles ≡ 0)
   unfolding blank_answer
   exactly passed agree =
       let blank = blank_exactly (star_of bytes) (accepted bytes passed).some agree in
@@ -74,12 +71,12 @@ module _ (bytes : List ℕ) where
   unfolding blank_answer blank_answer_before
   as_before e = ap (packed 100 (judge_record bytes)) (mask_zero (star_of bytes) e ∙ same_before)
 
-  by_calls : (samples : List Float) (h : Header) (lent : Lent) (c : Counts) → (read_record bytes samples).answer ≡ RecordRead.Block h
+  by_calls : (samples : List Float) (h : Header) (lent : Lent) (c : Counts) → (read_record bytes samples).answer ≡ Ok h
       → let read = (read_record bytes samples).samples in
-      answered (star h (centre_of h read) (neighbours_of h read)) lent ≡ Extraction.Mesh c → (blank_answer bytes ≡ 1) ↔ (c.triangles ≡ 0)
+      answered (star h (centre_of h read) (neighbours_of h read)) lent ≡ Ok c → (blank_answer bytes ≡ 1) ↔ (c.triangles ≡ 0)
   by_calls samples h lent c read made =
       let passed = passes bytes (was_read bytes samples h read).whole in
-      let mesh = subst (λ (s : Star). answered s lent ≡ Extraction.Mesh c) (read_star bytes samples h read) made in
+      let mesh = subst (λ (s : Star). answered s lent ≡ Ok c) (read_star bytes samples h read) made in
       rw (equal_mesh (star_of bytes) lent c mesh).counted (exactly passed (faces_passed (star_of bytes) lent c mesh))
 
 pub blank_kept : BlankPromises

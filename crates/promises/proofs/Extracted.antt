@@ -1,6 +1,6 @@
 -- Extraction, by the two things that its judges can come to, passed and refused. What it leaves when it is accepted is laid by the definition's own
 -- words, into buffers in which 9 and 10 have found room.
-use Rattle.std.specs.Prelude.{◌*◌, ◌/◌, ◌≤◌, ◌≡◌, leb}
+use Rattle.std.specs.Prelude.{◌*◌, ◌/◌, ◌≤◌, ◌≡◌, leb, Err, Ok}
 use Rattle.std.proofs.Common.{arith, sym, ◌∙◌, length-append}
 use Rattle.std.proofs.Math.Path.{refl, ap}
 use Rattle.std.proofs.Math.Bool.{and-eq-true_iff}
@@ -11,9 +11,7 @@ use Rattle.laws.specs.Lists.{length_each}
 use Rattle.model.specs.declared.Counts.{Counts}
 use Rattle.model.specs.declared.Refusal.{Refusal}
 use Rattle.model.specs.declared.Refusal.TheVariants.{NoRoom, IndexStoreTooShort}
-use Rattle.model.specs.declared.Verdict.{Verdict}
-use Rattle.model.specs.declared.Verdict.TheVariants.{Passed, Refused}
-use Rattle.model.specs.declared.Extraction.TheVariants as Extraction
+use Rattle.model.specs.Answers.{Verdict}
 use Rattle.model.specs.Star.{Star, subdivisions}
 use Rattle.model.specs.Judging.{judge_star, judge_faces, judge_store}
 use Rattle.model.specs.Mesh.{Mesh, store_length, regular_mesh, mesh_of}
@@ -34,44 +32,44 @@ module _ (m : Mesh) (lent : Lent) where
   abbrev meshed : Counts
   meshed = record { vertices = length m.made; triangles = length m.triangles }
 
-  pub mesh_answered : (v : Verdict) (c : Counts) → (came v).answer ≡ Extraction.Mesh c → (v ≡ Passed) × (c ≡ meshed)
+  pub mesh_answered : (v : Verdict) (c : Counts) → (came v).answer ≡ Ok c → (v ≡ Ok tt) × (c ≡ meshed)
   unfolding outcome
-  mesh_answered Passed c e = (refl, cc)
-  mesh_answered (Refused q) c e = (cc, cc)
+  mesh_answered (Ok _) c e = (refl, cc)
+  mesh_answered (Err q) c e = (cc, cc)
 
 module _ (s : Star) (lent : Lent) where
   abbrev verdict : Verdict
   verdict = judge_extraction s (length lent.store) (length lent.vertices) (length lent.triangles)
 
-  pub extraction : Judged (extraction_judges s lent) (λ r. answered s lent ≡ Extraction.Refused r) (answered s lent ≡ Extraction.Mesh (counts s))
+  pub extraction : Judged (extraction_judges s lent) (λ r. answered s lent ≡ Err r) (answered s lent ≡ Ok (counts s))
   unfolding extract outcome
   extraction =
-      judged Extraction.Refused (Extraction.Mesh (counts s)) (λ v. (came (mesh_of s) lent v).answer) refl (λ r. refl) (λ q r e. cc) (λ r e. cc)
+      judged Err (Ok (counts s)) (λ v. (came (mesh_of s) lent v).answer) refl (λ r. refl) (λ q r e. cc) (λ r e. cc)
       (extraction_judges s lent) verdict (extraction_in_order s lent) (extraction_numbered s lent)
 
-  pub extraction_untouched : (r : Refusal) → answered s lent ≡ Extraction.Refused r → left s lent ≡ lent
+  pub extraction_untouched : (r : Refusal) → answered s lent ≡ Err r → left s lent ≡ lent
   unfolding extract outcome
   extraction_untouched r e =
       ap (λ (v : Verdict). let o = came (mesh_of s) lent v in record { store = o.store; vertices = o.vertices; triangles = o.triangles })
       (sym (extraction_in_order s lent) ∙ (extraction.refused_by_first r).0 e)
 
-  pub wanted : (c : Counts) → answered s lent ≡ Extraction.Refused (NoRoom c) → c ≡ counts s
+  pub wanted : (c : Counts) → answered s lent ≡ Err (NoRoom c) → c ≡ counts s
   wanted c e = no_room s lent c ((extraction.refused_by_first (NoRoom c)).0 e)
 
   -- ---- an accepted one
 
-  module _ (c : Counts) (e : answered s lent ≡ Extraction.Mesh c) where
-    accepted : (verdict ≡ Passed) × (c ≡ counts s)
+  module _ (c : Counts) (e : answered s lent ≡ Ok c) where
+    accepted : (verdict ≡ Ok tt) × (c ≡ counts s)
     unfolding extract
     accepted = mesh_answered (mesh_of s) lent verdict c e
 
     -- 1 to 7 have passed
-    pub passed : judge_star s ≡ Passed
+    pub passed : judge_star s ≡ Ok tt
     unfolding judge_extraction
     passed = (both_passed (judge_star s) _ accepted.0).0
 
     -- 8 has passed
-    pub faces_passed : judge_faces s ≡ Passed
+    pub faces_passed : judge_faces s ≡ Ok tt
     unfolding judge_extraction
     faces_passed = (both_passed (judge_faces s) _ (both_passed (judge_star s) _ accepted.0).1).0
 

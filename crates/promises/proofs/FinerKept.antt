@@ -1,13 +1,11 @@
 -- What stands in the buffers, read back vertex by vertex and triangle by triangle, is the labelled mesh; an accepted block's faces agree. So no gap is
 -- left at a finer face; and two vertices there on one grid edge are near each other.
-use Rattle.std.specs.Prelude.{ℕ, ◌<◌, ◌≡◌, Bool, true, false, cond, List, Float, length, get_or}
+use Rattle.std.specs.Prelude.{ℕ, ◌<◌, ◌≡◌, Bool, true, false, cond, List, Float, length, get_or, Ok}
 use Rattle.std.proofs.Common.{arith, sym, ap, ◌∙◌, subst, subst₂}
 use Rattle.laws.specs.Steps.{listed, each, laid}
 use Rattle.laws.specs.Lists.{length_listed, listed_is}
 use Rattle.model.specs.declared.Counts.{Counts}
 use Rattle.model.specs.declared.Triangle.{Triangle}
-use Rattle.model.specs.declared.Verdict.TheVariants.{Passed}
-use Rattle.model.specs.declared.Extraction.TheVariants as Extraction
 use Rattle.model.specs.Star.{Star}
 use Rattle.model.specs.Points.{regular_point}
 use Rattle.model.specs.Judging.{judge_star}
@@ -43,7 +41,7 @@ as_left s m made triangles store e f h =
     })
 
 -- two vertices on one grid edge: the one of the side is worked out from the high end, or from the low one as the regular vertex is
-near_by : (s : Star) → AreF32 s → judge_star s ≡ Passed → NearBy s (labelled_mesh s).made
+near_by : (s : Star) → AreF32 s → judge_star s ≡ Ok tt → NearBy s (labelled_mesh s).made
 near_by s fit sound side i j e h by he ei ej =
     let o = on_one_edge s side i j e h by he ei ej in
     rw (o.regular_is, o.side_is) (go (runs_down side e.axis) o.crossed)
@@ -81,10 +79,10 @@ module _ (s : Star) (b : Lent) (vertices : List Float) (triangles : List ℕ)
   same_bits_in : SameBits s (labelled_part s b).made
   same_bits_in = subst (SameBits s) (sym made_back) (same_bits s)
 
-  near_by_in : AreF32 s → judge_star s ≡ Passed → NearBy s (labelled_part s b).made
+  near_by_in : AreF32 s → judge_star s ≡ Ok tt → NearBy s (labelled_part s b).made
   near_by_in fit sound = subst (NearBy s) (sym made_back) (near_by s fit sound)
 
-pub no_gap_is_left : (s : Star) (lent : Lent) (c : Counts) → answered s lent ≡ Extraction.Mesh c → NoGapIsLeft s lent c
+pub no_gap_is_left : (s : Star) (lent : Lent) (c : Counts) → answered s lent ≡ Ok c → NoGapIsLeft s lent c
 no_gap_is_left s lent c e =
     let vl = vertices_left s lent c e in
     let tl = triangles_left s lent c e in

@@ -1,6 +1,6 @@
 -- Laws of the orders: each comes to what the model says of the call, a call that says what its judges come to is judged by them, each judge refuses with
 -- its own number, and so a refusal with a number is that judge's.
-use Rattle.std.specs.Prelude.{ℕ, zero, suc, ◌+◌, ◌-◌, ◌*◌, ◌/◌, ◌≡◌, refl, ◌↔◌, ◌⊎◌, Bool, true, false, cond, not, ◌&&◌, List, [], ◌∷◌, ◌++◌, T, eqb, leb, ℤ, Float, length, get_or, take, drop}
+use Rattle.std.specs.Prelude.{ℕ, zero, suc, ◌+◌, ◌-◌, ◌*◌, ◌/◌, ◌≡◌, refl, ◌↔◌, ◌⊎◌, Bool, true, false, cond, not, ◌&&◌, List, [], ◌∷◌, ◌++◌, T, eqb, leb, ℤ, Float, length, get_or, take, drop, Err, Ok}
 use Rattle.std.proofs.Common.{sym, ap, ◌∙◌, inl, inr, ⊎_elim, T_not}
 use Rattle.std.specs.Float.{nan}
 use Rattle.laws.specs.Tests.{eq→eqb, both, both_left, both_right}
@@ -9,8 +9,7 @@ use Rattle.model.specs.declared.Counts.{Counts}
 use Rattle.model.specs.declared.Header.{Header}
 use Rattle.model.specs.declared.Refusal.{Refusal}
 use Rattle.model.specs.declared.Refusal.TheVariants.{Subdivisions, Mask, Measure, CentreLength, MissingNeighbour, NeighboursTooLong, BadSample, FaceMismatch, IndexStoreTooShort, NoRoom, RecordLength, Version, SampleCount, BufferTooShort, PointNeverSampled}
-use Rattle.model.specs.declared.Verdict.{Verdict}
-use Rattle.model.specs.declared.Verdict.TheVariants.{Passed, Refused}
+use Rattle.model.specs.Answers.{Verdict}
 use Rattle.model.specs.Sides.{named, named_below, neighbour_length, neighbours_length}
 use Rattle.model.specs.Refusals.{numbers_of, unless, or_else, first}
 use Rattle.model.specs.Samples.{sample_length, sampled, outside_count, one_up}
@@ -77,19 +76,19 @@ extraction_in_order s lent = simp (or_else_assoc, or_else_passed)
 -- ---- a call that says what its judges come to
 
 -- its answer to a refusal tells which it is, and is never the one when all pass
-module _ {A : Type 0} (refuse : Refusal → A) (accept : A) (answer : Verdict → A) (passed : answer Passed ≡ accept)
-    (refused : (r : Refusal) → answer (Refused r) ≡ refuse r) (which : (q r : Refusal) → refuse q ≡ refuse r → q ≡ r)
-    (never : (r : Refusal) → accept ≡ refuse r → Passed ≡ Refused r) where
-  refused_so : (v : Verdict) (r : Refusal) → (answer v ≡ refuse r) ↔ (v ≡ Refused r)
-  refused_so Passed r = (λ e. never r (sym passed ∙ e), λ e. cc)
-  refused_so (Refused q) r = (
-    λ e. ap Refused (which q r (sym (refused q) ∙ e)),
+module _ {A : Type 0} (refuse : Refusal → A) (accept : A) (answer : Verdict → A) (passed : answer (Ok tt) ≡ accept)
+    (refused : (r : Refusal) → answer (Err r) ≡ refuse r) (which : (q r : Refusal) → refuse q ≡ refuse r → q ≡ r)
+    (never : (r : Refusal) → accept ≡ refuse r → ◌≡◌ {A = Verdict} (Ok tt) (Err r)) where
+  refused_so : (v : Verdict) (r : Refusal) → (answer v ≡ refuse r) ↔ (v ≡ Err r)
+  refused_so (Ok _) r = (λ e. never r (sym passed ∙ e), λ e. cc)
+  refused_so (Err q) r = (
+    λ e. ap Err (which q r (sym (refused q) ∙ e)),
     λ e. let same : q ≡ r = cc in refused q ∙ ap refuse same,
   )
 
-  accepted_so : (v : Verdict) → (answer v ≡ accept) ↔ (v ≡ Passed)
-  accepted_so Passed = (λ e. refl, λ e. passed)
-  accepted_so (Refused q) = (λ e. sym (never q (sym e ∙ refused q)), λ e. cc)
+  accepted_so : (v : Verdict) → (answer v ≡ accept) ↔ (v ≡ Ok tt)
+  accepted_so (Ok _) = (λ e. refl, λ e. passed)
+  accepted_so (Err q) = (λ e. sym (never q (sym e ∙ refused q)), λ e. cc)
 
   pub judged : (judges : List Judge) (v : Verdict) → in_order judges ≡ v → Numbered judges → Judged judges (λ r. answer v ≡ refuse r) (answer v ≡ accept)
   judged judges v order numbered =
@@ -100,28 +99,28 @@ module _ {A : Type 0} (refuse : Refusal → A) (accept : A) (answer : Verdict �
       }
 
 -- the refusal of two judges is the one's or the other's
-pub one_or_other : (v w : Verdict) (r : Refusal) → or_else v w ≡ Refused r → (v ≡ Refused r) ⊎ (w ≡ Refused r)
-one_or_other (Refused q) w r e = inl e
-one_or_other Passed w r e = inr e
+pub one_or_other : (v w : Verdict) (r : Refusal) → or_else v w ≡ Err r → (v ≡ Err r) ⊎ (w ≡ Err r)
+one_or_other (Err q) w r e = inl e
+one_or_other (Ok _) w r e = inr e
 
 -- ---- numbers
 
 -- it refuses with the number k alone
 abbrev pub Refuses : ℕ → Verdict → Type 0
-Refuses k v = (r : Refusal) → v ≡ Refused r → (numbers_of r).number ≡ k
+Refuses k v = (r : Refusal) → v ≡ Err r → (numbers_of r).number ≡ k
 
 pub by_unless : (b : Bool) (q : Refusal) → Refuses (numbers_of q).number (unless b q)
 by_unless true q r e = cc
 by_unless false q r e = let same : q ≡ r = cc in ap (λ (p : Refusal). (numbers_of p).number) (sym same)
 
-passing : (k : ℕ) → Refuses k Passed
+passing : (k : ℕ) → Refuses k (Ok tt)
 passing k r e = cc
 
 pub by_first : (k : ℕ) (f : ℕ → Verdict) → ((j : ℕ) → Refuses k (f j)) → (n : ℕ) → Refuses k (first f n)
 by_first k f each zero r e = passing k r e
 by_first k f each (suc n) r e = ⊎_elim (by_first k f each n r) (each n r) (one_or_other (first f n) (f n) r e)
 
-if_named : (k : ℕ) (b : Bool) (v : Verdict) → Refuses k v → Refuses k (cond b v Passed)
+if_named : (k : ℕ) (b : Bool) (v : Verdict) → Refuses k v → Refuses k (cond b v (Ok tt))
 if_named k true v h = h
 if_named k false v h = passing k
 
@@ -224,7 +223,7 @@ others k [] = true
 others k (j ∷ rest) = both (not (eqb j.number k)) (others k rest)
 
 past : (k : ℕ) (before after : List Judge) (r : Refusal) → (numbers_of r).number ≡ k → Numbered before → T (others k before)
-    → in_order (before ++ after) ≡ Refused r → in_order after ≡ Refused r
+    → in_order (before ++ after) ≡ Err r → in_order after ≡ Err r
 unfolding others
 past k [] after r n p t e = e
 past k (j ∷ rest) after r n p t e =
@@ -233,23 +232,23 @@ past k (j ∷ rest) after r n p t e =
 
 -- 15 is that of the last judge, where no other has its number
 pub never_sampled : (before : List Judge) (n : ℕ) (x y z : ℤ) (c : ℕ) → Numbered before → T (others 15 before)
-    → in_order (before ++ point_judge n x y z ∷ []) ≡ Refused (PointNeverSampled c)
+    → in_order (before ++ point_judge n x y z ∷ []) ≡ Err (PointNeverSampled c)
     → (sampled n (one_up n x) (one_up n y) (one_up n z) ≡ false) × (c ≡ outside_count n (one_up n x) (one_up n y) (one_up n z))
 never_sampled before n x y z c p t e =
     go (sampled n (one_up n x) (one_up n y) (one_up n z)) (past 15 before (point_judge n x y z ∷ []) (PointNeverSampled c) refl p t e)
   where
-    go : (b : Bool) → or_else (unless b (PointNeverSampled (outside_count n (one_up n x) (one_up n y) (one_up n z)))) Passed ≡ Refused (PointNeverSampled c)
+    go : (b : Bool) → or_else (unless b (PointNeverSampled (outside_count n (one_up n x) (one_up n y) (one_up n z)))) (Ok tt) ≡ Err (PointNeverSampled c)
         → (b ≡ false) × (c ≡ outside_count n (one_up n x) (one_up n y) (one_up n z))
     go true e = (cc, cc)
     go false e = (refl, cc)
 
-pub no_room : (s : Star) (lent : Lent) (c : Counts) → in_order (extraction_judges s lent) ≡ Refused (NoRoom c) → c ≡ counts s
+pub no_room : (s : Star) (lent : Lent) (c : Counts) → in_order (extraction_judges s lent) ≡ Err (NoRoom c) → c ≡ counts s
 unfolding others both
 no_room s lent c e =
     let judges = extraction_judges s lent in
     go (leb (counts s).vertices (length lent.vertices / 6) && leb (counts s).triangles (length lent.triangles / 3))
     (past 10 (take 9 judges) (drop 9 judges) (NoRoom c) refl (numbered_take 9 judges (extraction_numbered s lent)) tt e)
   where
-    go : (b : Bool) → or_else (unless b (NoRoom (counts s))) Passed ≡ Refused (NoRoom c) → c ≡ counts s
+    go : (b : Bool) → or_else (unless b (NoRoom (counts s))) (Ok tt) ≡ Err (NoRoom c) → c ≡ counts s
     go true e = cc
     go false e = cc

@@ -1,6 +1,6 @@
 -- What was promised of sixty-four subdivisions holds: the verdict on 1 is the only thing in which the calls differ, and each number grows with n and with the
 -- sides that are named.
-use Rattle.std.specs.Prelude.{ℕ, ◌+◌, ◌-◌, ◌*◌, ◌≤◌, ◌<◌, ◌≡◌, refl, List, length}
+use Rattle.std.specs.Prelude.{ℕ, ◌+◌, ◌-◌, ◌*◌, ◌≤◌, ◌<◌, ◌≡◌, refl, List, length, Err, Ok}
 use Rattle.std.proofs.Math.Nat.{mul-le-mul}
 use native.Mathlib.Omega.{arith}
 use Rattle.std.proofs.Common.{le-leb}
@@ -8,8 +8,7 @@ use Rattle.std.proofs.lemmas.Bool.{lt-leb}
 use Rattle.std.specs.Int.Count.{ones, ones_in}
 use Rattle.std.proofs.lemmas.Nat.{ones-le}
 use Rattle.model.specs.declared.Refusal.TheVariants.{Subdivisions}
-use Rattle.model.specs.declared.Verdict.{Verdict}
-use Rattle.model.specs.declared.Verdict.TheVariants.{Passed, Refused}
+use Rattle.model.specs.Answers.{Verdict}
 use Rattle.model.specs.Limits.{most_subdivisions, most_fine, most_mask, side_count}
 use Rattle.model.specs.Refusals.{or_else}
 use Rattle.model.specs.Samples.{sample_length}
@@ -57,12 +56,12 @@ same_verdict n h = rw (le-leb n most_subdivisions (omega arith), le-leb n former
 
 -- ---- a larger one was refused
 
-was_refused : (n : ℕ) → former_most < n → former_verdict n ≡ Refused (Subdivisions n)
+was_refused : (n : ℕ) → former_most < n → former_verdict n ≡ Err (Subdivisions n)
 was_refused n h = rw (le-leb 1 n (omega arith), lt-leb n former_most h)
 
-record_was_refused : (bytes : List ℕ) → judge_length bytes ≡ Passed → judge_version bytes ≡ Passed
+record_was_refused : (bytes : List ℕ) → judge_length bytes ≡ Ok tt → judge_version bytes ≡ Ok tt
     → let n = (header_of bytes).block.subdivisions in
-    former_most < n → record_by (former_verdict n) bytes ≡ Refused (Subdivisions n)
+    former_most < n → record_by (former_verdict n) bytes ≡ Err (Subdivisions n)
 record_was_refused bytes length-right version-right h = rw (length-right, version-right, was_refused (header_of bytes).block.subdivisions h)
 
 larger_refused : LargerRefused

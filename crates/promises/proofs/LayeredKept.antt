@@ -1,6 +1,6 @@
 -- What was promised of extraction with a summary by layer holds: layers' `extract_spared` says that it is extraction of the whole mesh but for the reads, and
 -- the model's LayeredReads what these come to.
-use Rattle.std.specs.Prelude.{ℕ, ◌+◌, ◌*◌, ◌/◌, ◌≤◌, ◌<◌, ◌≡◌, Bool, true, ◌&&◌, ◌||◌, List, Float, length, drop}
+use Rattle.std.specs.Prelude.{ℕ, ◌+◌, ◌*◌, ◌/◌, ◌≤◌, ◌<◌, ◌≡◌, Bool, true, ◌&&◌, ◌||◌, List, Float, length, drop, Err, Ok}
 use Rattle.std.proofs.Common.{arith, ◌∙◌, subst, le-leb}
 use Rattle.std.proofs.Math.Path.{refl, sym, ap}
 use Rattle.std.proofs.Math.Bool.{not}
@@ -9,9 +9,7 @@ use Rattle.std.proofs.Math.Dec.{leb}
 use Rattle.model.specs.declared.Counts.{Counts}
 use Rattle.model.specs.declared.Refusal.{Refusal}
 use Rattle.model.specs.declared.Refusal.TheVariants.{IndexStoreTooShort, NoRoom, EdgesTooShort, BufferTooShort, LayerDiffers}
-use Rattle.model.specs.declared.Verdict.{Verdict}
-use Rattle.model.specs.declared.Verdict.TheVariants.{Passed, Refused}
-use Rattle.model.specs.declared.Extraction.TheVariants as Extraction
+use Rattle.model.specs.Answers.{Verdict}
 use Rattle.model.specs.Limits.{most_mask, side_count}
 use Rattle.model.specs.Star.{Star, subdivisions}
 use Rattle.model.specs.Refusals.{unless, or_else}
@@ -80,25 +78,25 @@ module _ (s : Star) (summary : List Float) (lent : LentWhole) where
       by_unless (leb wanted (length lent.mesh.store)) (IndexStoreTooShort wanted) &
       by_unless (leb made (length lent.edges)) (EdgesTooShort made) & by_unless room (NoRoom (counts s)) & tt)
 
-  by_verdict : Judged (layered_judges s summary lent) (λ r. (came (spared s summary) verdict).mesh.answer ≡ Extraction.Refused r)
-      ((came (spared s summary) verdict).mesh.answer ≡ Extraction.Mesh (counts s))
+  by_verdict : Judged (layered_judges s summary lent) (λ r. (came (spared s summary) verdict).mesh.answer ≡ Err r)
+      ((came (spared s summary) verdict).mesh.answer ≡ Ok (counts s))
   unfolding outcome
   by_verdict =
-      judged Extraction.Refused (Extraction.Mesh (counts s)) (λ v. (came (spared s summary) v).mesh.answer) refl (λ r. refl) (λ q r e. cc) (λ r e. cc)
+      judged Err (Ok (counts s)) (λ v. (came (spared s summary) v).mesh.answer) refl (λ r. refl) (λ q r e. cc) (λ r e. cc)
       (layered_judges s summary lent) verdict in_order_lem numbered
 
-  extraction : Judged (layered_judges s summary lent) (λ r. answered_layered s summary lent ≡ Extraction.Refused r)
-      (answered_layered s summary lent ≡ Extraction.Mesh (counts s))
+  extraction : Judged (layered_judges s summary lent) (λ r. answered_layered s summary lent ≡ Err r)
+      (answered_layered s summary lent ≡ Ok (counts s))
   extraction =
-      subst (λ (w : WholeOutcome). Judged (layered_judges s summary lent) (λ r. w.mesh.answer ≡ Extraction.Refused r) (w.mesh.answer ≡ Extraction.Mesh (counts s)))
+      subst (λ (w : WholeOutcome). Judged (layered_judges s summary lent) (λ r. w.mesh.answer ≡ Err r) (w.mesh.answer ≡ Ok (counts s)))
       (sym comes) by_verdict
 
-  untouched : (r : Refusal) → answered_layered s summary lent ≡ Extraction.Refused r → left_layered s summary lent ≡ lent
+  untouched : (r : Refusal) → answered_layered s summary lent ≡ Err r → left_layered s summary lent ≡ lent
   unfolding outcome edges_left
   untouched r e =
       ap left_of comes ∙ ap (λ (v : Verdict). left_of (came (spared s summary) v)) (sym in_order_lem ∙ (extraction.refused_by_first r).0 e)
 
-  refused : (r : Refusal) → answered_layered s summary lent ≡ Extraction.Refused r → reported_layered s summary lent ≡ 0
+  refused : (r : Refusal) → answered_layered s summary lent ≡ Err r → reported_layered s summary lent ≡ 0
   refused r e =
       ap (λ (w : WholeOutcome). w.mesh.reads) comes
       ∙ came_refused (spared s summary) lent.mesh verdict r (sym (ap (λ (w : WholeOutcome). w.mesh.answer) comes) ∙ e)
@@ -107,13 +105,13 @@ module _ (s : Star) (summary : List Float) (lent : LentWhole) where
 
   same_answer : (v : Verdict) → (came (spared s summary) v).mesh.answer ≡ (came (mesh_of s) v).mesh.answer
   unfolding outcome
-  same_answer Passed = refl
-  same_answer (Refused r) = refl
+  same_answer (Ok _) = refl
+  same_answer (Err r) = refl
 
   same_left : (v : Verdict) → left_of (came (spared s summary) v) ≡ left_of (came (mesh_of s) v)
   unfolding outcome edges_left
-  same_left Passed = refl
-  same_left (Refused r) = refl
+  same_left (Ok _) = refl
+  same_left (Err r) = refl
 
   abbrev without : Verdict
   without = judge_whole s (length lent.mesh.store) (length lent.mesh.vertices) (length lent.mesh.triangles) (length lent.edges)
@@ -139,17 +137,17 @@ module _ (s : Star) (summary : List Float) (lent : LentWhole) where
 
   -- ---- the reads
 
-  trust : verdict ≡ Passed → Trusted n s.centre summary
+  trust : verdict ≡ Ok tt → Trusted n s.centre summary
   unfolding judge_summary
   trust e =
       let star = both_passed (judge_star s) _ e in
       let told = (both_passed (judge_summary n s.centre summary) rest (both_passed (judge_faces s) _ star.1).1).0 in
       trusted s star.0 summary (both_passed (judge_buffer (summary_length n) (length summary)) (judge_layers n s.centre summary) told).1
 
-  sides : verdict ≡ Passed → s.mask ≤ most_mask
+  sides : verdict ≡ Ok tt → s.mask ≤ most_mask
   sides e = (star_shaped s (both_passed (judge_star s) _ e).0).sides
 
-  layered_total : verdict ≡ Passed
+  layered_total : verdict ≡ Ok tt
       → (layered_mesh s summary).reads + 8 * (n * n) * layers_over s summary n ≡ reads_total n (ones s.mask) (counts s).vertices
   layered_total e =
       omega (
@@ -161,7 +159,7 @@ module _ (s : Star) (summary : List Float) (lent : LentWhole) where
         ap (λ (k : ℕ). transition_reads * n * n * k) (sides_named s.mask (sides e)),
       )
 
-  reads : (c : Counts) → answered_layered s summary lent ≡ Extraction.Mesh c
+  reads : (c : Counts) → answered_layered s summary lent ≡ Ok c
       → reported_layered s summary lent + 8 * (n * n) * layers_over s summary n ≡ reads_total n (ones s.mask) c.vertices
   unfolding outcome
   reads c e =
@@ -179,7 +177,7 @@ module _ (s : Star) (summary : List Float) (lent : LentWhole) where
   -- ---- with all layers marked
 
   module _ (long : summary_length n ≤ length summary) (all : (x : ℕ) → x < n → marked (entry_of summary x) ≡ true) where
-    marked_passed : judge_summary n s.centre summary ≡ Passed
+    marked_passed : judge_summary n s.centre summary ≡ Ok tt
     unfolding judge_summary
     marked_passed =
         ap (λ (b : Bool). or_else (unless b (BufferTooShort (summary_length n))) (judge_layers n s.centre summary)) (le-leb _ _ long)

@@ -1,6 +1,6 @@
 -- What was promised of summaries by layer holds: the two calls are judged by their judges in order, what they leave is read off place by place, and a layer
 -- passed over makes nothing since none of its cells is cut; one on one side has its least sample there, and its greatest.
-use Rattle.std.specs.Prelude.{ℕ, ◌+◌, ◌-◌, ◌*◌, ◌/◌, ◌%◌, ◌≤◌, ◌<◌, ◌⊎◌, Bool, cond, ◌||◌, List, eqb, ℤ, pos, negsuc, Float, length, get_or, set}
+use Rattle.std.specs.Prelude.{ℕ, ◌+◌, ◌-◌, ◌*◌, ◌/◌, ◌%◌, ◌≤◌, ◌<◌, ◌⊎◌, Bool, cond, ◌||◌, List, eqb, ℤ, pos, negsuc, Float, length, get_or, set, Err, Ok}
 use Rattle.std.proofs.Common.{zero-le, div-add-mod', add-mul, mul_assoc, mul_comm, mod-lt, div-lt_iff_lt-mul, arith, ◌∙◌, inl, inr, ⊎_elim, eqb-true, length-set, get_or-set_same, get_or-set_other}
 use Rattle.std.proofs.Math.Nat.{div-div-eq-div-mul}
 use Rattle.std.proofs.Math.Path.{◌≡◌, refl, sym, ap, subst}
@@ -14,8 +14,7 @@ use Rattle.model.specs.declared.Refusal.{Refusal}
 use Rattle.model.specs.declared.Refusal.TheVariants.{BadSample, LayerDiffers}
 use Rattle.model.specs.declared.PlaceKind.{PlaceKind}
 use Rattle.model.specs.declared.PlaceKind.TheVariants.{InBlock, Face}
-use Rattle.model.specs.declared.Verdict.{Verdict}
-use Rattle.model.specs.declared.Verdict.TheVariants.{Passed, Refused}
+use Rattle.model.specs.Answers.{Verdict}
 use Rattle.model.specs.Samples.{one_up}
 use Rattle.model.specs.Formulas.{inside}
 use Rattle.model.specs.Refusals.{unless, first}
@@ -54,18 +53,18 @@ module _ (n : ℕ) (samples summary : List Float) where
   making_numbered =
       subdivisions_number n & centre_number n (length samples) & samples_number samples & buffer_number (summary_length n) (length summary) & tt
 
-  making : Judged (making_judges n samples summary) (λ r. (make_summary n samples summary).answer ≡ Refused r) ((make_summary n samples summary).answer ≡ Passed)
+  making : Judged (making_judges n samples summary) (λ r. (make_summary n samples summary).answer ≡ Err r) ((make_summary n samples summary).answer ≡ Ok tt)
   unfolding make_summary
   making =
-      judged Refused Passed (λ v. (make_answer n samples summary v).answer) refl (λ r. refl) (λ q r e. cc) (λ r e. e) _ _ making_in_order making_numbered
+      judged Err (Ok tt) (λ v. (make_answer n samples summary v).answer) refl (λ r. refl) (λ q r e. cc) (λ r e. e) _ _ making_in_order making_numbered
 
-  making_untouched : (r : Refusal) → (make_summary n samples summary).answer ≡ Refused r → (make_summary n samples summary).summary ≡ summary
+  making_untouched : (r : Refusal) → (make_summary n samples summary).answer ≡ Err r → (make_summary n samples summary).summary ≡ summary
   unfolding make_summary
   making_untouched r e = ap (λ (v : Verdict). (make_answer n samples summary v).summary) (sym making_in_order ∙ (making.refused_by_first r).0 e)
 
   -- what was made
-  module _ (e : (make_summary n samples summary).answer ≡ Passed) where
-    passed : judge_making n samples (length summary) ≡ Passed
+  module _ (e : (make_summary n samples summary).answer ≡ Ok tt) where
+    passed : judge_making n samples (length summary) ≡ Ok tt
     passed = sym making_in_order ∙ making.accepted_by_all.0 e
 
     left : (make_summary n samples summary).summary ≡ layers_made n samples 0 n summary
@@ -114,14 +113,14 @@ module _ (n : ℕ) (samples : List Float) (x y z : ℤ) (value : Float) (summary
       subdivisions_number n & centre_number n (length samples) & samples_number samples & point_number n x y z &
       by_unless (usable value) (BadSample (place_up n p)) & buffer_number (summary_length n) (length summary) & tt
 
-  setting : Judged (setting_judges n samples x y z value summary) (λ r. (set_sample n samples x y z value summary).answer ≡ Refused r)
-      ((set_sample n samples x y z value summary).answer ≡ Passed)
+  setting : Judged (setting_judges n samples x y z value summary) (λ r. (set_sample n samples x y z value summary).answer ≡ Err r)
+      ((set_sample n samples x y z value summary).answer ≡ Ok tt)
   unfolding set_sample
   setting =
-      judged Refused Passed (λ v. (set_answer n samples p value summary v).answer) refl (λ r. refl) (λ q r e. cc) (λ r e. e) _ _ setting_in_order
+      judged Err (Ok tt) (λ v. (set_answer n samples p value summary v).answer) refl (λ r. refl) (λ q r e. cc) (λ r e. e) _ _ setting_in_order
       setting_numbered
 
-  setting_untouched : (r : Refusal) → (set_sample n samples x y z value summary).answer ≡ Refused r
+  setting_untouched : (r : Refusal) → (set_sample n samples x y z value summary).answer ≡ Err r
       → ((set_sample n samples x y z value summary).samples ≡ samples) × ((set_sample n samples x y z value summary).summary ≡ summary)
   unfolding set_sample
   setting_untouched r e =
@@ -131,8 +130,8 @@ module _ (n : ℕ) (samples : List Float) (x y z : ℤ) (value : Float) (summary
       )
 
   -- what was set
-  module _ (e : (set_sample n samples x y z value summary).answer ≡ Passed) where
-    was_passed : judge_setting n samples p value (length summary) ≡ Passed
+  module _ (e : (set_sample n samples x y z value summary).answer ≡ Ok tt) where
+    was_passed : judge_setting n samples p value (length summary) ≡ Ok tt
     was_passed = sym setting_in_order ∙ setting.accepted_by_all.0 e
 
     abbrev after : List Float
@@ -144,7 +143,7 @@ module _ (n : ℕ) (samples : List Float) (x y z : ℤ) (value : Float) (summary
     change : Changeable n p value (length summary)
     change = changeable n p value (length summary) (setting_passed n p value (length summary) samples was_passed).1
 
-    own_before : judge_own n samples ≡ Passed
+    own_before : judge_own n samples ≡ Ok tt
     own_before = (setting_passed n p value (length summary) samples was_passed).0
 
     place_there : place_up n p < length samples
@@ -152,7 +151,7 @@ module _ (n : ℕ) (samples : List Float) (x y z : ℤ) (value : Float) (summary
         let inside = place_in n (one_up n x) (one_up n y) (one_up n z) change.was_sampled in
         omega (arith, inside, (own n samples own_before).held.long)
 
-    own_after : judge_own n after ≡ Passed
+    own_after : judge_own n after ≡ Ok tt
     own_after = set_own samples (place_up n p) value place_there change.is_usable n own_before
 
     stand : (layer : ℕ) → layer < n → layer_stands n samples summary layer ≡ true → layer_stands n after summary_after layer ≡ true
@@ -330,13 +329,13 @@ module _ (n : ℕ) (samples summary : List Float) where
   abbrev spot : ℕ → Verdict
   spot x = unless (layer_stands n samples summary x) (LayerDiffers x)
 
-  differs_first : (layer : ℕ) → judge_layers n samples summary ≡ Refused (LayerDiffers layer) → DiffersFirst n samples summary layer
+  differs_first : (layer : ℕ) → judge_layers n samples summary ≡ Err (LayerDiffers layer) → DiffersFirst n samples summary layer
   unfolding judge_layers
   differs_first layer e =
       let w = found spot n (LayerDiffers layer) e in
       go w.0 w.1 w.2 (layer_stands n samples summary w.0) refl w.3
     where
-      go : (k : ℕ) → k < n → first spot k ≡ Passed → (b : Bool) → layer_stands n samples summary k ≡ b → unless b (LayerDiffers k) ≡ Refused (LayerDiffers layer)
+      go : (k : ℕ) → k < n → first spot k ≡ Ok tt → (b : Bool) → layer_stands n samples summary k ≡ b → unless b (LayerDiffers k) ≡ Err (LayerDiffers layer)
           → DiffersFirst n samples summary layer
       go k l before true stood e = absurd (let z : ◌≡◌ {A = ℕ} 0 1 = cc in omega arith)
       go k l before false stood e =
@@ -352,7 +351,7 @@ module _ (n : ℕ) (samples summary : List Float) where
 
 -- ---- layers passed over
 
-module _ (s : Star) (summary : List Float) (x : ℕ) (passed : judge_star s ≡ Passed) (right : judge_layers (subdivisions s) s.centre summary ≡ Passed)
+module _ (s : Star) (summary : List Float) (x : ℕ) (passed : judge_star s ≡ Ok tt) (right : judge_layers (subdivisions s) s.centre summary ≡ Ok tt)
     (hx : x < subdivisions s) (over : passed_over s.threshold summary x ≡ true) where
   right_there : Trusted (subdivisions s) s.centre summary
   right_there = trusted s passed summary right
@@ -375,8 +374,8 @@ module _ (s : Star) (summary : List Float) (x : ℕ) (passed : judge_star s ≡ 
         step = layer_nothing s summary right_there x hx over;
       }
 
-all_over : (s : Star) (summary : List Float) (x : ℕ) (b : Bool) → judge_star s ≡ Passed
-    → judge_layers (subdivisions s) s.centre summary ≡ Passed → x < subdivisions s → marked (entry_of summary x) ≡ false
+all_over : (s : Star) (summary : List Float) (x : ℕ) (b : Bool) → judge_star s ≡ Ok tt
+    → judge_layers (subdivisions s) s.centre summary ≡ Ok tt → x < subdivisions s → marked (entry_of summary x) ≡ false
     → ((k : ℕ) → k < layer_count (subdivisions s) → inside s.threshold (layer_sample (subdivisions s) s.centre x k) ≡ b)
     → passed_over s.threshold summary x ≡ true
 all_over s summary x b passed right hx unmarked side =

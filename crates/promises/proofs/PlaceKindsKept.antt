@@ -1,5 +1,5 @@
 -- What was promised of place kinds holds: a coordinate by itself, then the seven ways in which a point was sampled, then what the calls answer.
-use Rattle.std.specs.Prelude.{ℕ, zero, suc, ◌+◌, ◌-◌, ◌*◌, ◌≤◌, ◌<◌, ◌≡◌, ◌⊎◌, Bool, not, List, [], ◌∷◌, ◌++◌, T, eqb, leb, ℤ, negsuc, Float, take}
+use Rattle.std.specs.Prelude.{ℕ, zero, suc, ◌+◌, ◌-◌, ◌*◌, ◌≤◌, ◌<◌, ◌≡◌, ◌⊎◌, Bool, not, List, [], ◌∷◌, ◌++◌, T, eqb, leb, ℤ, negsuc, Float, take, Err, Ok}
 use Rattle.std.proofs.Math.Path.{refl, ap, subst}
 use Rattle.std.proofs.Common.{sym, ◌∙◌, ⊎_elim, mul-le-mul_left, mul-add}
 use Rattle.std.proofs.Math.Logic.{inl, inr}
@@ -8,14 +8,13 @@ use native.Mathlib.Omega.{arith}
 use borrow.Author.Tests.{leb-true, leb-false, eq-eqb, ne_eqb}
 use Rattle.std.proofs.Math.IntN.{pos}
 use Rattle.laws.specs.Tests.{both}
+use Rattle.laws.specs.Exits.{ok_same}
 use Rattle.model.specs.declared.Xyz.{Xyz}
 use Rattle.model.specs.declared.PlaceKind.{PlaceKind}
 use Rattle.model.specs.declared.PlaceKind.TheVariants.{InBlock, Face}
-use Rattle.model.specs.declared.Reading.TheVariants as Reading
 use Rattle.model.specs.declared.Refusal.TheVariants.{PointNeverSampled}
-use Rattle.model.specs.declared.Verdict.{Verdict}
-use Rattle.model.specs.declared.Verdict.TheVariants.{Passed, Refused}
-use Rattle.model.specs.declared.PointRead.{PointRead}
+use Rattle.model.specs.Answers.{Verdict}
+use Rattle.model.specs.Answers.{PointRead}
 use Rattle.model.specs.Samples.{on_face, place_of, outside, sampled, kind_of, is_outside, outside_count, reading_at, value_at, one_up}
 use Rattle.model.specs.Extraction.{read_point}
 use Rattle.model.specs.Record.{header_of, samples_of}
@@ -222,38 +221,38 @@ module _ (n : ℕ) (x y z : ℤ) where
 
 -- ---- an answer by judges of whom 15 is the last
 
-last_passed : (before after : List Judge) → in_order (before ++ after) ≡ Passed → in_order after ≡ Passed
+last_passed : (before after : List Judge) → in_order (before ++ after) ≡ Ok tt → in_order after ≡ Ok tt
 last_passed [] after e = e
 last_passed (j ∷ before) after e = last_passed before after (both_passed j.says (in_order (before ++ after)) e).1
 
 module _ (n : ℕ) (x y z : ℤ) (answer : PointRead) (value : Float) (before : List Judge) (numbered : Numbered before) (none : T (others 15 before))
-    (is : Judged (before ++ point_judge n x y z ∷ []) (λ r. answer ≡ PointRead.Refused r) (answer ≡ PointRead.Value value (point_kind n x y z))) where
+    (is : Judged (before ++ point_judge n x y z ∷ []) (λ r. answer ≡ Err r) (answer ≡ Ok (value, point_kind n x y z))) where
   record Accepted (v : Float) (kind : PlaceKind) : Type 0 where
     was_sampled : sampled n (one_up n x) (one_up n y) (one_up n z) ≡ true
     v_is : v ≡ value
     kind_is : kind ≡ point_kind n x y z
 
-  accepted : (v : Float) (kind : PlaceKind) → answer ≡ PointRead.Value v kind → Accepted v kind
+  accepted : (v : Float) (kind : PlaceKind) → answer ≡ Ok (v, kind) → Accepted v kind
   accepted v kind e = go (in_order (before ++ point_judge n x y z ∷ [])) refl
     where
       go : (w : Verdict) → in_order (before ++ point_judge n x y z ∷ []) ≡ w → Accepted v kind
-      go Passed o =
-          let told : answer ≡ PointRead.Value value (point_kind n x y z) = is.accepted_by_all.1 o in
+      go (Ok _) o =
+          let told : answer ≡ Ok (value, point_kind n x y z) = is.accepted_by_all.1 o in
           let last = last_passed before (point_judge n x y z ∷ []) o in
           record {
-            was_sampled = unless_passed _ _ (both_passed (point_judge n x y z).says Passed last).0;
-            v_is = cc;
-            kind_is = cc;
+            was_sampled = unless_passed _ _ (both_passed (point_judge n x y z).says (Ok tt) last).0;
+            v_is = ap (λ (p : Float × PlaceKind). p.0) (ok_same (sym e ∙ told));
+            kind_is = ap (λ (p : Float × PlaceKind). p.1) (ok_same (sym e ∙ told));
           }
-      go (Refused r) o =
-          let told : answer ≡ PointRead.Refused r = (is.refused_by_first r).1 o in
+      go (Err r) o =
+          let told : answer ≡ Err r = (is.refused_by_first r).1 o in
           record { was_sampled = cc; v_is = cc; kind_is = cc }
 
-  never : (c : ℕ) → answer ≡ PointRead.Refused (PointNeverSampled c)
+  never : (c : ℕ) → answer ≡ Err (PointNeverSampled c)
       → (sampled n (one_up n x) (one_up n y) (one_up n z) ≡ false) × (c ≡ outside_count n (one_up n x) (one_up n y) (one_up n z))
   never c e = never_sampled before n x y z c numbered none ((is.refused_by_first (PointNeverSampled c)).0 e)
 
-  many : (c : ℕ) → answer ≡ PointRead.Refused (PointNeverSampled c) → 1 < steps n x y z
+  many : (c : ℕ) → answer ≡ Err (PointNeverSampled c) → 1 < steps n x y z
   unfolding sampled
   many c e = leb-false (steps n x y z) 1 (never c e).0
 
@@ -271,7 +270,7 @@ module _ (n : ℕ) (x y z : ℤ) (answer : PointRead) (value : Float) (before : 
         never_sampled = λ c kind e s. omega (arith, many c e, (kinded n x y z kind s).near);
       }
 
-  came_from : (samples : List Float) → value ≡ point_value n samples x y z → (v : Float) (kind : PlaceKind) → answer ≡ PointRead.Value v kind
+  came_from : (samples : List Float) → value ≡ point_value n samples x y z → (v : Float) (kind : PlaceKind) → answer ≡ Ok (v, kind)
       → CameFrom n samples v kind
   came_from samples value-at v kind e =
       let a = accepted v kind e in
@@ -284,7 +283,7 @@ module _ (n : ℕ) (x y z : ℤ) (answer : PointRead) (value : Float) (before : 
 -- ---- gradients
 
 reading_is : (n x y z : ℕ) (samples : List Float) {kind : PlaceKind} → sampled n x y z ≡ true → kind_of n x y z ≡ kind
-    → reading_at n samples x y z ≡ Reading.Value (value_at n samples x y z) kind
+    → reading_at n samples x y z ≡ Ok (value_at n samples x y z, kind)
 unfolding reading_at value_at
 reading_is n x y z samples h e = rw (h, e)
 

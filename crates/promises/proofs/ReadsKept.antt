@@ -1,6 +1,6 @@
 -- What was promised of the sample reads holds: the mesh's reads are model's Reads added over the sides that the mask names, its vertices are at most what
 -- Room says, and at most sixty-four subdivisions and six sides make no large number.
-use Rattle.std.specs.Prelude.{ℕ, zero, suc, ◌+◌, ◌-◌, ◌*◌, ◌^◌, ◌≤◌, ◌<◌, ◌≡◌, Bool, T, leb, length}
+use Rattle.std.specs.Prelude.{ℕ, zero, suc, ◌+◌, ◌-◌, ◌*◌, ◌^◌, ◌≤◌, ◌<◌, ◌≡◌, Bool, T, leb, length, Err, Ok}
 use Rattle.std.proofs.Math.Nat.{le_trans}
 use native.Mathlib.Omega.{arith}
 use Rattle.std.proofs.Math.Path.{refl}
@@ -9,9 +9,7 @@ use Rattle.std.specs.Int.Count.{ones, ones_in}
 use Rattle.laws.specs.Tests.{both, below, all}
 use Rattle.model.specs.declared.Counts.{Counts}
 use Rattle.model.specs.declared.Refusal.{Refusal}
-use Rattle.model.specs.declared.Verdict.{Verdict}
-use Rattle.model.specs.declared.Verdict.TheVariants.{Passed, Refused}
-use Rattle.model.specs.declared.Extraction.TheVariants as Extraction
+use Rattle.model.specs.Answers.{Verdict}
 use Rattle.model.specs.Limits.{most_subdivisions, most_mask, side_count}
 use Rattle.model.specs.Star.{Star, subdivisions}
 use Rattle.model.specs.Judging.{judge_star}
@@ -79,40 +77,40 @@ module _ (m : Mesh) (lent : Lent) where
   abbrev came : Verdict → Outcome
   came = outcome m lent.store lent.vertices lent.triangles
 
-  came_accepted : (v : Verdict) (c : Counts) → (came v).answer ≡ Extraction.Mesh c → (came v).reads ≡ m.reads
+  came_accepted : (v : Verdict) (c : Counts) → (came v).answer ≡ Ok c → (came v).reads ≡ m.reads
   unfolding outcome
-  came_accepted Passed c e = refl
-  came_accepted (Refused q) c e = cc
+  came_accepted (Ok _) c e = refl
+  came_accepted (Err q) c e = cc
 
-  pub came_refused : (v : Verdict) (r : Refusal) → (came v).answer ≡ Extraction.Refused r → (came v).reads ≡ 0
+  pub came_refused : (v : Verdict) (r : Refusal) → (came v).answer ≡ Err r → (came v).reads ≡ 0
   unfolding outcome
-  came_refused Passed r e = cc
-  came_refused (Refused q) r e = refl
+  came_refused (Ok _) r e = cc
+  came_refused (Err q) r e = refl
 
-  pub came_most : (v : Verdict) (most : ℕ) → (v ≡ Passed → m.reads ≤ most) → (came v).reads ≤ most
+  pub came_most : (v : Verdict) (most : ℕ) → (v ≡ Ok tt → m.reads ≤ most) → (came v).reads ≤ most
   unfolding outcome
-  came_most Passed most h = h refl
-  came_most (Refused q) most h = omega arith
+  came_most (Ok _) most h = h refl
+  came_most (Err q) most h = omega arith
 
 module _ (s : Star) (lent : Lent) where
   abbrev verdict : Verdict
   verdict = judge_extraction s (length lent.store) (length lent.vertices) (length lent.triangles)
 
   -- 1 to 7 have passed
-  shaped : verdict ≡ Passed → Shaped s
+  shaped : verdict ≡ Ok tt → Shaped s
   unfolding judge_extraction
   shaped e = star_shaped s (both_passed (judge_star s) _ e).0
 
-  counted : (c : Counts) → answered s lent ≡ Extraction.Mesh c → reported s lent ≡ (mesh_of s).reads
+  counted : (c : Counts) → answered s lent ≡ Ok c → reported s lent ≡ (mesh_of s).reads
   unfolding extract
   counted c e = came_accepted (mesh_of s) lent verdict c e
 
-  total : (c : Counts) → answered s lent ≡ Extraction.Mesh c → reported s lent ≡ reads_total (subdivisions s) (ones s.mask) c.vertices
+  total : (c : Counts) → answered s lent ≡ Ok c → reported s lent ≡ reads_total (subdivisions s) (ones s.mask) c.vertices
   total c e =
       let t = mesh_total s (star_shaped s (passed s lent c e)).sides in
       counted c e ∙ rw (equal_mesh s lent c e).counted t
 
-  refused : (r : Refusal) → answered s lent ≡ Extraction.Refused r → reported s lent ≡ 0
+  refused : (r : Refusal) → answered s lent ≡ Err r → reported s lent ≡ 0
   unfolding extract
   refused r e = came_refused (mesh_of s) lent verdict r e
 

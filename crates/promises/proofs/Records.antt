@@ -1,5 +1,5 @@
 -- The reader and the writer, by the two things that their judges can come to, passed and refused.
-use Rattle.std.specs.Prelude.{ℕ, ◌+◌, ◌*◌, ◌≡◌, List, ◌++◌, Float}
+use Rattle.std.specs.Prelude.{ℕ, ◌+◌, ◌*◌, ◌≡◌, List, ◌++◌, Float, Err, Ok}
 use Rattle.std.proofs.Common.{arith, sym, ◌∙◌}
 use Rattle.std.proofs.Math.Path.{refl, ap, subst}
 use borrow.Author.Tests.{leb-true}
@@ -8,10 +8,7 @@ use Rattle.laws.specs.Lists.{length_listed, length_each}
 use Rattle.model.specs.declared.Header.{Header}
 use Rattle.model.specs.declared.Refusal.{Refusal}
 use Rattle.model.specs.declared.Refusal.TheVariants.{BufferTooShort}
-use Rattle.model.specs.declared.Verdict.{Verdict}
-use Rattle.model.specs.declared.Verdict.TheVariants.{Passed, Refused}
-use Rattle.model.specs.declared.RecordRead.TheVariants as RecordRead
-use Rattle.model.specs.declared.RecordWritten.TheVariants as RecordWritten
+use Rattle.model.specs.Answers.{Verdict}
 use Rattle.model.specs.Refusals.{or_else}
 use Rattle.model.specs.Star.{star}
 use Rattle.model.specs.Judging.{judge_star, judge_buffer}
@@ -32,22 +29,22 @@ module _ (bytes : List ℕ) (samples : List Float) where
   abbrev read_verdict : Verdict
   read_verdict = or_else (judge_record bytes) (judge_buffer (count_of bytes) (length samples))
 
-  read_answered : (v : Verdict) (h : Header) → (read v).answer ≡ RecordRead.Block h → v ≡ Passed
-  read_answered Passed h e = refl
-  read_answered (Refused q) h e = cc
+  read_answered : (v : Verdict) (h : Header) → (read v).answer ≡ Ok h → v ≡ Ok tt
+  read_answered (Ok _) h e = refl
+  read_answered (Err q) h e = cc
 
-  pub reading : Judged (reading_judges bytes samples) (λ r. (read_record bytes samples).answer ≡ RecordRead.Refused r)
-      ((read_record bytes samples).answer ≡ RecordRead.Block (header_of bytes))
+  pub reading : Judged (reading_judges bytes samples) (λ r. (read_record bytes samples).answer ≡ Err r)
+      ((read_record bytes samples).answer ≡ Ok (header_of bytes))
   unfolding read_record
   reading =
-      judged RecordRead.Refused (RecordRead.Block (header_of bytes)) (λ v. (read v).answer) refl (λ r. refl) (λ q r e. cc) (λ r e. cc)
+      judged Err (Ok (header_of bytes)) (λ v. (read v).answer) refl (λ r. refl) (λ q r e. cc) (λ r e. cc)
       (reading_judges bytes samples) read_verdict (reading_in_order bytes samples) (reading_numbered bytes samples)
 
-  pub reading_untouched : (r : Refusal) → (read_record bytes samples).answer ≡ RecordRead.Refused r → (read_record bytes samples).samples ≡ samples
+  pub reading_untouched : (r : Refusal) → (read_record bytes samples).answer ≡ Err r → (read_record bytes samples).samples ≡ samples
   unfolding read_record
   reading_untouched r e = ap (λ (v : Verdict). (read v).samples) (sym (reading_in_order bytes samples) ∙ (reading.refused_by_first r).0 e)
 
-  pub samples_laid : (h : Header) → (read_record bytes samples).answer ≡ RecordRead.Block h
+  pub samples_laid : (h : Header) → (read_record bytes samples).answer ≡ Ok h
       → Laid (count_of bytes) (samples_of bytes) samples (read_record bytes samples).samples
   unfolding read_record samples_of
   samples_laid h e =
@@ -69,18 +66,18 @@ module _ (h : Header) (centre neighbours : List Float) (bytes : List ℕ) where
   written_verdict =
       or_else (judge_star (star h centre neighbours)) (judge_buffer (header_length + 4 * length all) (length bytes))
 
-  write_answered : (v : Verdict) (k : ℕ) → (written v).answer ≡ RecordWritten.Bytes k → (v ≡ Passed) × (k ≡ header_length + 4 * length all)
-  write_answered Passed k e = (refl, cc)
-  write_answered (Refused q) k e = (cc, cc)
+  write_answered : (v : Verdict) (k : ℕ) → (written v).answer ≡ Ok k → (v ≡ Ok tt) × (k ≡ header_length + 4 * length all)
+  write_answered (Ok _) k e = (refl, cc)
+  write_answered (Err q) k e = (cc, cc)
 
-  pub writing : Judged (writing_judges h centre neighbours bytes) (λ r. (write_record h centre neighbours bytes).answer ≡ RecordWritten.Refused r)
-      ((write_record h centre neighbours bytes).answer ≡ RecordWritten.Bytes (header_length + 4 * length all))
+  pub writing : Judged (writing_judges h centre neighbours bytes) (λ r. (write_record h centre neighbours bytes).answer ≡ Err r)
+      ((write_record h centre neighbours bytes).answer ≡ Ok (header_length + 4 * length all))
   unfolding write_record
   writing =
-      judged RecordWritten.Refused (RecordWritten.Bytes (header_length + 4 * length all)) (λ v. (written v).answer) refl (λ r. refl) (λ q r e. cc) (λ r e. cc)
+      judged Err (Ok (header_length + 4 * length all)) (λ v. (written v).answer) refl (λ r. refl) (λ q r e. cc) (λ r e. cc)
       (writing_judges h centre neighbours bytes) written_verdict (writing_in_order h centre neighbours bytes) (writing_numbered h centre neighbours bytes)
 
-  pub writing_untouched : (r : Refusal) → (write_record h centre neighbours bytes).answer ≡ RecordWritten.Refused r
+  pub writing_untouched : (r : Refusal) → (write_record h centre neighbours bytes).answer ≡ Err r
       → (write_record h centre neighbours bytes).bytes ≡ bytes
   unfolding write_record
   writing_untouched r e = ap (λ (v : Verdict). (written v).bytes) (sym (writing_in_order h centre neighbours bytes) ∙ (writing.refused_by_first r).0 e)
@@ -89,7 +86,7 @@ module _ (h : Header) (centre neighbours : List Float) (bytes : List ℕ) where
   unfolding record_of word_bytes
   record_long = omega (arith, length_each float_bytes 4 all (λ x. refl))
 
-  pub bytes_laid : (k : ℕ) → (write_record h centre neighbours bytes).answer ≡ RecordWritten.Bytes k
+  pub bytes_laid : (k : ℕ) → (write_record h centre neighbours bytes).answer ≡ Ok k
       → Laid k (record_of h all) bytes (write_record h centre neighbours bytes).bytes
   unfolding write_record
   bytes_laid k e =

@@ -1,6 +1,6 @@
 -- What was promised of the repair pass holds: the call is judged by its judges in order; repair's laws say what its list tells and what it leaves; and a
 -- delivery that 1 to 8 pass is refused by no judge of extraction but those of its buffers.
-use Rattle.std.specs.Prelude.{ℕ, ◌+◌, ◌*◌, ◌/◌, ◌<◌, ◌≡◌, List, leb, Float, length, get_or, take, drop}
+use Rattle.std.specs.Prelude.{ℕ, ◌+◌, ◌*◌, ◌/◌, ◌<◌, ◌≡◌, List, leb, Float, length, get_or, take, drop, Err, Ok}
 use Rattle.std.proofs.Common.{add-one, arith, sym, ◌∙◌, subst, take-suc}
 use Rattle.std.proofs.Math.Path.{refl, ap}
 use Rattle.std.specs.Float.{binary32}
@@ -10,16 +10,13 @@ use Rattle.laws.specs.Lists.{length_each}
 use Rattle.model.specs.declared.Header.{Header}
 use Rattle.model.specs.declared.Refusal.{Refusal}
 use Rattle.model.specs.declared.Refusal.TheVariants.{BadFiller, ChangesTooShort}
-use Rattle.model.specs.declared.Verdict.{Verdict}
-use Rattle.model.specs.declared.Verdict.TheVariants.{Passed, Refused}
-use Rattle.model.specs.declared.Extraction.TheVariants as Extraction
+use Rattle.model.specs.Answers.{Verdict}
 use Rattle.model.specs.Star.{Star}
 use Rattle.model.specs.Judging.{usable, judge_lent, judge_star, judge_faces}
 use Rattle.model.specs.Mesh.{mesh_of}
 use Rattle.model.specs.Extraction.{judge_extraction, outcome, extract}
 use Rattle.judge.specs.First.{or_else_assoc, or_else_passed}
 use Rattle.repair.specs.declared.Change.{Change}
-use Rattle.repair.specs.declared.Repaired.TheVariants as Repaired
 use Rattle.repair.specs.Definition.{Delivery, as_star, made, applied, no_change, words_of, list_of, judge_repair, repair_answer, repair}
 use Rattle.repair.specs.Spots.{applied_append, AllTell, told_at, after_put, unlisted_kept, undone_gives_back}
 use Rattle.repair.specs.Told.{told_changes}
@@ -47,25 +44,25 @@ module _ (h : Header) (d : Delivery) (filler : Float) (changes : List ℕ) where
       (lent_numbered h.block h.mask h.threshold (length d.centre) (length d.neighbours))
       (by_unless (usable filler) BadFiller & by_unless (leb wanted (length changes / 4)) (ChangesTooShort wanted) & tt)
 
-  repairing : Judged (repair_judges h d filler changes) (λ r. (repair h d filler changes).answer ≡ Repaired.Refused r)
-      ((repair h d filler changes).answer ≡ Repaired.Changes wanted)
+  repairing : Judged (repair_judges h d filler changes) (λ r. (repair h d filler changes).answer ≡ Err r)
+      ((repair h d filler changes).answer ≡ Ok wanted)
   unfolding repair
   repairing =
-      judged Repaired.Refused (Repaired.Changes wanted) (λ v. (repair_answer (list_of h d filler) d changes v).answer) refl (λ r. refl) (λ q r e. cc) (λ r e. cc)
+      judged Err (Ok wanted) (λ v. (repair_answer (list_of h d filler) d changes v).answer) refl (λ r. refl) (λ q r e. cc) (λ r e. cc)
       _ _ in_order_lem numbered
 
-  judged_so : (r : Refusal) → (repair h d filler changes).answer ≡ Repaired.Refused r → judge_repair h d filler (length changes) ≡ Refused r
+  judged_so : (r : Refusal) → (repair h d filler changes).answer ≡ Err r → judge_repair h d filler (length changes) ≡ Err r
   judged_so r e = sym in_order_lem ∙ (repairing.refused_by_first r).0 e
 
-  delivery_untouched : (r : Refusal) → (repair h d filler changes).answer ≡ Repaired.Refused r → (repair h d filler changes).left ≡ d
+  delivery_untouched : (r : Refusal) → (repair h d filler changes).answer ≡ Err r → (repair h d filler changes).left ≡ d
   unfolding repair
   delivery_untouched r e = ap (λ (v : Verdict). (repair_answer (list_of h d filler) d changes v).left) (judged_so r e)
 
-  list_untouched : (r : Refusal) → (repair h d filler changes).answer ≡ Repaired.Refused r → (repair h d filler changes).changes ≡ changes
+  list_untouched : (r : Refusal) → (repair h d filler changes).answer ≡ Err r → (repair h d filler changes).changes ≡ changes
   unfolding repair
   list_untouched r e = ap (λ (v : Verdict). (repair_answer (list_of h d filler) d changes v).changes) (judged_so r e)
 
-  list_laid : (k : ℕ) → (repair h d filler changes).answer ≡ Repaired.Changes k
+  list_laid : (k : ℕ) → (repair h d filler changes).answer ≡ Ok k
       → Laid (4 * k) (each words_of (list_of h d filler)) changes (repair h d filler changes).changes
   list_laid k e =
       let a = accepted h d filler changes k e in
@@ -107,11 +104,11 @@ module _ (h : Header) (d : Delivery) (filler : Float) (told : AllTell (list_of h
 
 -- ---- what is left
 
-meshes : (s : Star) (lent : Lent) → judge_star s ≡ Passed → judge_faces s ≡ Passed
-    → Judged (room_judges s lent) (λ r. answered s lent ≡ Extraction.Refused r) (answered s lent ≡ Extraction.Mesh (counts s))
+meshes : (s : Star) (lent : Lent) → judge_star s ≡ Ok tt → judge_faces s ≡ Ok tt
+    → Judged (room_judges s lent) (λ r. answered s lent ≡ Err r) (answered s lent ≡ Ok (counts s))
 unfolding extract outcome judge_extraction
 meshes s lent star faces =
-    judged Extraction.Refused (Extraction.Mesh (counts s)) (λ v. (outcome (mesh_of s) lent.store lent.vertices lent.triangles v).answer) refl
+    judged Err (Ok (counts s)) (λ v. (outcome (mesh_of s) lent.store lent.vertices lent.triangles v).answer) refl
     (λ r. refl) (λ q r e. cc) (λ r e. cc) (room_judges s lent)
     (judge_extraction s (length lent.store) (length lent.vertices) (length lent.triangles)) (rw (star, faces, or_else_passed)) (room_numbered s lent)
 

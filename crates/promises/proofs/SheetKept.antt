@@ -1,5 +1,5 @@
 -- What was promised of the sheet holds: sheet has it of a block and of the rows of a run, and here it is carried to the calls.
-use Rattle.std.specs.Prelude.{ℕ, suc, ◌+◌, ◌-◌, ◌*◌, ◌/◌, ◌^◌, ◌≤◌, ◌<◌, ◌≡◌, Bool, true, false, cond, List, Float, leb, ltb, length, drop}
+use Rattle.std.specs.Prelude.{ℕ, suc, ◌+◌, ◌-◌, ◌*◌, ◌/◌, ◌^◌, ◌≤◌, ◌<◌, ◌≡◌, Bool, true, false, cond, List, Float, leb, ltb, length, drop, Err, Ok, None, Some}
 use Rattle.std.proofs.Common.{le_refl, mul-le-mul, mul-le-mul_left, arith, sym, ap, ◌∙◌, subst, length-drop}
 use Rattle.std.proofs.Math.Path.{refl}
 use borrow.Author.Tests.{le-leb, lt-leb, lt-ltb, le-ltb, ltb-true}
@@ -9,10 +9,7 @@ use Rattle.laws.specs.Counting.{one_small, how_many}
 use Rattle.model.specs.declared.Counts.{Counts}
 use Rattle.model.specs.declared.Header.{Header}
 use Rattle.model.specs.declared.Refusal.TheVariants.{RecordLength}
-use Rattle.model.specs.declared.Extraction.TheVariants as Extraction
-use Rattle.model.specs.declared.RecordRead.TheVariants as RecordRead
-use Rattle.model.specs.declared.Verdict.{Verdict}
-use Rattle.model.specs.declared.Verdict.TheVariants.{Passed, Refused}
+use Rattle.model.specs.Answers.{Verdict}
 use Rattle.model.specs.Limits.{side_count}
 use Rattle.model.specs.Rotations.{xyz}
 use Rattle.model.specs.Star.{Star, star, subdivisions}
@@ -26,10 +23,10 @@ use Rattle.record.specs.Accepted.{Accepted, accepted, passes}
 use Rattle.record.specs.Reading.{was_read}
 use Rattle.record.specs.RoundTrip.{read_star}
 use Rattle.sheet.specs.declared.Figures.{Figures}
-use Rattle.sheet.specs.declared.Line.{Line}
+use Rattle.sheet.specs.Answers.{Line}
 use Rattle.sheet.specs.declared.LineAt.{LineAt}
-use Rattle.sheet.specs.declared.SheetLine.{SheetLine}
-use Rattle.sheet.specs.declared.SheetTotal.{SheetTotal}
+use Rattle.sheet.specs.Answers.{SheetLine}
+use Rattle.sheet.specs.Answers.{SheetTotal}
 use Rattle.sheet.specs.Definition.{is_inside, inside_at, inside_samples, crosses, crosses_x, crosses_y, crosses_z, x_edges, y_edges, z_edges, figures_of, judge_line, line_by, line_of, row_of, rows_of, adds, total_of, most_run, line_answer, sheet_line, sheet_total}
 use Rattle.sheet.specs.Rows.{carries_vertex, row_at, begin_of, AtMost}
 use Rattle.sheet.proofs.Counted.{vertices_are, triangles_are}
@@ -54,24 +51,24 @@ module _ (bytes : List ℕ) where
   unfolding judge_line judge_record
   line_in_order = simp (or_else_assoc, or_else_passed)
 
-  line_judged : Judged (line_judges bytes) (λ r. line_of bytes ≡ Line.Refused r) (line_of bytes ≡ Line.Counted (figures_of (star_of bytes)))
+  line_judged : Judged (line_judges bytes) (λ r. line_of bytes ≡ Err r) (line_of bytes ≡ Ok (figures_of (star_of bytes)))
   unfolding line_of
   line_judged =
-      judged Line.Refused (Line.Counted (figures_of (star_of bytes))) (λ v. line_by v (figures_of (star_of bytes))) refl (λ r. refl) (λ q r e. cc)
+      judged Err (Ok (figures_of (star_of bytes))) (λ v. line_by v (figures_of (star_of bytes))) refl (λ r. refl) (λ q r e. cc)
       (λ r e. cc) (line_judges bytes) (judge_line bytes) line_in_order
       (numbered_append (record_judges bytes) (drop 7 (line_judges bytes)) (record_numbered bytes) (faces_number (star_of bytes) & tt))
 
   -- a line with figures has passed, and they are the block's
-  counted : (f : Figures) → line_of bytes ≡ Line.Counted f → (judge_record bytes ≡ Passed) × (judge_faces (star_of bytes) ≡ Passed) × (f ≡ figures_of (star_of bytes))
+  counted : (f : Figures) → line_of bytes ≡ Ok f → (judge_record bytes ≡ Ok tt) × (judge_faces (star_of bytes) ≡ Ok tt) × (f ≡ figures_of (star_of bytes))
   unfolding line_of judge_line
   counted f e =
       let told = go (judge_line bytes) e in
       let both = both_passed (judge_record bytes) (judge_faces (star_of bytes)) told.0 in
       (both.0, both.1, told.1)
     where
-      go : (v : Verdict) → line_by v (figures_of (star_of bytes)) ≡ Line.Counted f → (v ≡ Passed) × (f ≡ figures_of (star_of bytes))
-      go Passed e = (refl, cc)
-      go (Refused r) e = (cc, cc)
+      go : (v : Verdict) → line_by v (figures_of (star_of bytes)) ≡ Ok f → (v ≡ Ok tt) × (f ≡ figures_of (star_of bytes))
+      go (Ok _) e = (refl, cc)
+      go (Err r) e = (cc, cc)
 
 -- ---- figures and extraction
 
@@ -80,9 +77,9 @@ unfolding figures_of
 figure_counts s = λ i. record { vertices = sym (vertices_are s) i; triangles = sym (triangles_are s) i }
 
 -- what passes 1 to 8 and has room is meshed
-module _ (s : Star) (lent : Lent) (seven : judge_star s ≡ Passed) (eight : judge_faces s ≡ Passed) (store : store_length (subdivisions s) ≤ length lent.store)
+module _ (s : Star) (lent : Lent) (seven : judge_star s ≡ Ok tt) (eight : judge_faces s ≡ Ok tt) (store : store_length (subdivisions s) ≤ length lent.store)
     (vertices : (counts s).vertices ≤ length lent.vertices / 6) (triangles : (counts s).triangles ≤ length lent.triangles / 3) where
-  all_passed : judge_extraction s (length lent.store) (length lent.vertices) (length lent.triangles) ≡ Passed
+  all_passed : judge_extraction s (length lent.store) (length lent.vertices) (length lent.triangles) ≡ Ok tt
   unfolding judge_extraction
   all_passed =
       rw (
@@ -93,27 +90,27 @@ module _ (s : Star) (lent : Lent) (seven : judge_star s ≡ Passed) (eight : jud
         le-leb (counts s).triangles (length lent.triangles / 3) triangles,
       )
 
-  meshed : answered s lent ≡ Extraction.Mesh (counts s)
+  meshed : answered s lent ≡ Ok (counts s)
   meshed = (extraction s lent).accepted_by_all.1 (extraction_in_order s lent ∙ all_passed)
 
-as_extraction : (bytes : List ℕ) (f : Figures) (lent : Lent) → line_of bytes ≡ Line.Counted f
+as_extraction : (bytes : List ℕ) (f : Figures) (lent : Lent) → line_of bytes ≡ Ok f
     → store_length (header_of bytes).block.subdivisions ≤ length lent.store → f.vertices ≤ length lent.vertices / 6
-    → f.triangles ≤ length lent.triangles / 3 → answered (star_of bytes) lent ≡ Extraction.Mesh (counts_of f)
+    → f.triangles ≤ length lent.triangles / 3 → answered (star_of bytes) lent ≡ Ok (counts_of f)
 as_extraction bytes f lent e store vertices triangles =
     let told = counted bytes f e in
     let same : counts_of f ≡ counts (star_of bytes) = ap counts_of told.2 ∙ figure_counts (star_of bytes) in
     meshed (star_of bytes) lent (block_passed bytes told.0) told.1 store
     (omega (arith, ap (λ (c : Counts). c.vertices) same)) (omega (arith, ap (λ (c : Counts). c.triangles) same))
-    ∙ ap Extraction.Mesh (sym same)
+    ∙ ap Ok (sym same)
 
-by_calls : (bytes : List ℕ) (samples : List Float) (h : Header) (lent : Lent) (c : Counts) → (read_record bytes samples).answer ≡ RecordRead.Block h
+by_calls : (bytes : List ℕ) (samples : List Float) (h : Header) (lent : Lent) (c : Counts) → (read_record bytes samples).answer ≡ Ok h
     → let read = (read_record bytes samples).samples in
-    answered (star h (centre_of h read) (neighbours_of h read)) lent ≡ Extraction.Mesh c
-    → (line_of bytes ≡ Line.Counted (figures_of (star_of bytes))) × (counts_of (figures_of (star_of bytes)) ≡ c)
+    answered (star h (centre_of h read) (neighbours_of h read)) lent ≡ Ok c
+    → (line_of bytes ≡ Ok (figures_of (star_of bytes))) × (counts_of (figures_of (star_of bytes)) ≡ c)
 unfolding line_of judge_line
 by_calls bytes samples h lent c read made =
     let whole = passes bytes (was_read bytes samples h read).whole in
-    let mesh = subst (λ (s : Star). answered s lent ≡ Extraction.Mesh c) (read_star bytes samples h read) made in (
+    let mesh = subst (λ (s : Star). answered s lent ≡ Ok c) (read_star bytes samples h read) made in (
       rw (whole, faces_passed (star_of bytes) lent c mesh),
       figure_counts (star_of bytes) ∙ sym (equal_mesh (star_of bytes) lent c mesh).counted,
     )
@@ -189,31 +186,31 @@ line_most : (bytes : List ℕ) → AtMost (most_of_byte * length bytes) (adds (l
 line_most bytes = go (line_of bytes) refl
   where
     go : (line : Line) → line_of bytes ≡ line → AtMost (most_of_byte * length bytes) (adds line)
-    go (Line.Counted f) e =
+    go (Ok f) e =
         let told = counted bytes f e in
         rw told.2 (figures_most bytes (accepted bytes told.0))
-    go (Line.Refused r) e = at_most_none (most_of_byte * length bytes)
+    go (Err r) e = at_most_none (most_of_byte * length bytes)
 
 -- ---- the calls
 
 module _ (run : List ℕ) (short : length run ≤ most_run) where
   line_by_line : (k : ℕ) → k < length (rows_of run)
-      → sheet_line run (begin_of (rows_of run) k) ≡ SheetLine.Line (record { line = (row_at (rows_of run) k).line; next = begin_of (rows_of run) (suc k) })
+      → sheet_line run (begin_of (rows_of run) k) ≡ Ok (Some (record { line = (row_at (rows_of run) k).line; next = begin_of (rows_of run) (suc k) }))
   unfolding sheet_line
   line_by_line k h =
       let there = found run k h in
       rw (le-leb (length run) most_run short, lt-ltb (begin_of (rows_of run) k) (length run) there.0, there.1)
-      (ap (λ (next : ℕ). SheetLine.Line (record { line = (row_at (rows_of run) k).line; next = next })) (sym (begin_next (rows_of run) k h)))
+      (ap (λ (next : ℕ). Ok (Some (record { line = (row_at (rows_of run) k).line; next = next }))) (sym (begin_next (rows_of run) k h)))
 
-  ended : (at : ℕ) → length run ≤ at → sheet_line run at ≡ SheetLine.End
+  ended : (at : ℕ) → length run ≤ at → sheet_line run at ≡ Ok None
   unfolding sheet_line
   ended at h = rw (le-leb (length run) most_run short, le-ltb at (length run) h)
 
-  totalled : sheet_total run ≡ SheetTotal.Total (total_of (rows_of run))
+  totalled : sheet_total run ≡ Ok (total_of (rows_of run))
   unfolding sheet_total
   totalled = rw (le-leb (length run) most_run short)
 
-onward : (run : List ℕ) (at : ℕ) (l : LineAt) → sheet_line run at ≡ SheetLine.Line l → (at < l.next) × (l.next ≤ length run)
+onward : (run : List ℕ) (at : ℕ) (l : LineAt) → sheet_line run at ≡ Ok (Some l) → (at < l.next) × (l.next ≤ length run)
 unfolding sheet_line
 onward run at l e =
     let told = go (leb (length run) most_run) (ltb at (length run)) e in
@@ -224,14 +221,14 @@ onward run at l e =
     (omega (arith, next, left, within, bytes.0 (omega (arith, left, within))), omega (arith, next, left, within, bytes.1))
   where
     go : (short there : Bool)
-        → cond short (cond there (line_answer (row_of (drop at run)) at) SheetLine.End) (SheetLine.Refused RecordLength) ≡ SheetLine.Line l
+        → cond short (cond there (line_answer (row_of (drop at run)) at) (Ok None)) (Err RecordLength) ≡ Ok (Some l)
         → (there ≡ true) × (l ≡ record { line = (row_of (drop at run)).line; next = at + length (row_of (drop at run)).bytes })
     go true true e = (refl, cc)
     go true false e = (cc, cc)
     go false there e = (cc, cc)
 
 too_long : (run : List ℕ) (at : ℕ) → most_run < length run
-    → (sheet_line run at ≡ SheetLine.Refused RecordLength) × (sheet_total run ≡ SheetTotal.Refused RecordLength)
+    → (sheet_line run at ≡ Err RecordLength) × (sheet_total run ≡ Err RecordLength)
 unfolding sheet_line sheet_total
 too_long run at h = rw (lt-leb (length run) most_run h) (refl, refl)
 

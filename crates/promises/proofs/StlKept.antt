@@ -1,6 +1,6 @@
 -- What was promised of STL holds: its two calls are judged by their judges in order; and what extraction leaves can be written, since its triangles are
 -- few and closed's theorem says that each names a vertex with each corner.
-use Rattle.std.specs.Prelude.{ℕ, ◌+◌, ◌*◌, ◌≤◌, ◌<◌, ◌≡◌, List, eqb, leb, Float, length, get_or}
+use Rattle.std.specs.Prelude.{ℕ, ◌+◌, ◌*◌, ◌≤◌, ◌<◌, ◌≡◌, List, eqb, leb, Float, length, get_or, Err, Ok}
 use Rattle.std.proofs.Common.{add-zero, arith, sym, ◌∙◌, subst, ⊎_elim, le-leb}
 use Rattle.std.proofs.Math.Path.{refl, ap}
 use Rattle.std.specs.Int.Count.{ones, ones_in}
@@ -10,9 +10,7 @@ use Rattle.laws.specs.Rounds.{each_at}
 use Rattle.model.specs.declared.Counts.{Counts}
 use Rattle.model.specs.declared.Refusal.{Refusal}
 use Rattle.model.specs.declared.Refusal.TheVariants.{StlLength, NoVertex}
-use Rattle.model.specs.declared.Verdict.{Verdict}
-use Rattle.model.specs.declared.Verdict.TheVariants.{Passed}
-use Rattle.model.specs.declared.Extraction.TheVariants as Extraction
+use Rattle.model.specs.Answers.{Verdict}
 use Rattle.model.specs.Star.{Star}
 use Rattle.model.specs.Judging.{judge_star}
 use Rattle.model.specs.Mesh.{mesh_of}
@@ -21,8 +19,6 @@ use Rattle.judge.specs.First.{or_else_passed}
 use Rattle.judge.specs.Passing.{star_shaped}
 use Rattle.closed.specs.Clauses.{no_triangle, triangle_at}
 use Rattle.closed.proofs.Indices.{names_vertices}
-use Rattle.stl.specs.declared.StlWritten.TheVariants as StlWritten
-use Rattle.stl.specs.declared.StlRead.TheVariants as StlRead
 use Rattle.model.specs.Corners.{triangle_count, named, judge_named}
 use Rattle.stl.specs.Definition.{vertex_count, file_of, start_length, file_length, most_triangles, judge_many, judge_writing, write_answer, write_stl, count_in, float_count, positions_in, judge_file, judge_reading, ReadOutcome, read_answer, read_stl}
 use Rattle.stl.specs.Named.{AllName, all_name_passes}
@@ -59,19 +55,19 @@ module _ (vertices : List Float) (triangles bytes : List ℕ) where
   writing_numbered =
       by_unless (leb count most_triangles) (StlLength 0) & named_number & buffer_number (file_length count) (length bytes) & tt
 
-  writing : Judged (stl_writing_judges vertices triangles bytes) (λ r. (write_stl vertices triangles bytes).answer ≡ StlWritten.Refused r)
-      ((write_stl vertices triangles bytes).answer ≡ StlWritten.Bytes (file_length count))
+  writing : Judged (stl_writing_judges vertices triangles bytes) (λ r. (write_stl vertices triangles bytes).answer ≡ Err r)
+      ((write_stl vertices triangles bytes).answer ≡ Ok (file_length count))
   unfolding write_stl
   writing =
-      judged StlWritten.Refused (StlWritten.Bytes (file_length count)) (λ v. (write_answer vertices triangles bytes v).answer) refl (λ r. refl) (λ q r e. cc)
+      judged Err (Ok (file_length count)) (λ v. (write_answer vertices triangles bytes v).answer) refl (λ r. refl) (λ q r e. cc)
       (λ r e. cc) _ _ writing_in_order writing_numbered
 
-  writing_untouched : (r : Refusal) → (write_stl vertices triangles bytes).answer ≡ StlWritten.Refused r → (write_stl vertices triangles bytes).bytes ≡ bytes
+  writing_untouched : (r : Refusal) → (write_stl vertices triangles bytes).answer ≡ Err r → (write_stl vertices triangles bytes).bytes ≡ bytes
   unfolding write_stl
   writing_untouched r e =
       ap (λ (v : Verdict). (write_answer vertices triangles bytes v).bytes) (sym writing_in_order ∙ (writing.refused_by_first r).0 e)
 
-  file_laid : (k : ℕ) → (write_stl vertices triangles bytes).answer ≡ StlWritten.Bytes k
+  file_laid : (k : ℕ) → (write_stl vertices triangles bytes).answer ≡ Ok k
       → Laid k (file_of vertices triangles) bytes (write_stl vertices triangles bytes).bytes
   file_laid k e =
       let w = wrote vertices triangles bytes k e in
@@ -91,18 +87,18 @@ module _ (bytes : List ℕ) (positions : List Float) where
   unfolding judge_reading
   reading_in_order = simp or_else_passed
 
-  reading : Judged (stl_reading_judges bytes positions) (λ r. (read_stl bytes positions).answer ≡ StlRead.Refused r)
-      ((read_stl bytes positions).answer ≡ StlRead.Triangles (count_in bytes))
+  reading : Judged (stl_reading_judges bytes positions) (λ r. (read_stl bytes positions).answer ≡ Err r)
+      ((read_stl bytes positions).answer ≡ Ok (count_in bytes))
   unfolding read_stl
   reading =
-      judged StlRead.Refused (StlRead.Triangles (count_in bytes)) (λ v. (read_answer bytes positions v).answer) refl (λ r. refl) (λ q r e. cc) (λ r e. cc) _ _
+      judged Err (Ok (count_in bytes)) (λ v. (read_answer bytes positions v).answer) refl (λ r. refl) (λ q r e. cc) (λ r e. cc) _ _
       reading_in_order (file_number & buffer_number (float_count * count_in bytes) (length positions) & tt)
 
-  reading_untouched : (r : Refusal) → (read_stl bytes positions).answer ≡ StlRead.Refused r → (read_stl bytes positions).positions ≡ positions
+  reading_untouched : (r : Refusal) → (read_stl bytes positions).answer ≡ Err r → (read_stl bytes positions).positions ≡ positions
   unfolding read_stl
   reading_untouched r e = ap (λ (v : Verdict). (read_answer bytes positions v).positions) (sym reading_in_order ∙ (reading.refused_by_first r).0 e)
 
-  positions_laid : (count : ℕ) → (read_stl bytes positions).answer ≡ StlRead.Triangles count
+  positions_laid : (count : ℕ) → (read_stl bytes positions).answer ≡ Ok count
       → Laid (float_count * count) (positions_in bytes) positions (read_stl bytes positions).positions
   positions_laid count e =
       let r = was_read bytes positions count e in
@@ -112,8 +108,8 @@ module _ (bytes : List ℕ) (positions : List Float) where
 -- ---- what extraction leaves
 
 -- where 16 and 17 pass, 14 is left
-module _ (vertices : List Float) (triangles : List ℕ) (few : judge_many (triangle_count triangles) ≡ Passed)
-    (named : judge_named (vertex_count vertices) triangles ≡ Passed) where
+module _ (vertices : List Float) (triangles : List ℕ) (few : judge_many (triangle_count triangles) ≡ Ok tt)
+    (named : judge_named (vertex_count vertices) triangles ≡ Ok tt) where
   writable : WritableAsStl vertices triangles (triangle_count triangles)
   unfolding write_stl judge_writing
   writable =
@@ -122,7 +118,7 @@ module _ (vertices : List Float) (triangles : List ℕ) (few : judge_many (trian
         named = named;
         written = λ bytes.
             let long = file_length (triangle_count triangles) in
-            judged StlWritten.Refused (StlWritten.Bytes long) (λ v. (write_answer vertices triangles bytes v).answer) refl (λ r. refl) (λ q r e. cc) (λ r e. cc)
+            judged Err (Ok long) (λ v. (write_answer vertices triangles bytes v).answer) refl (λ r. refl) (λ q r e. cc) (λ r e. cc)
             _ (judge_writing (vertex_count vertices) triangles (length bytes)) (rw (few, named, or_else_passed))
             (buffer_number long (length bytes), tt);
       }
@@ -156,19 +152,19 @@ module _ (s : Star) where
           → get_or (triangle_indices (triangle_at (mesh_of s) t)) k 0 < length (mesh_of s).made → get_or indices (3 * t + k) 0 < vertex_count floats
       corner t h k small l = rw (each_at triangle_indices 3 (λ t. refl) (mesh_of s).triangles t k no_triangle 0 h small, vertex_count_lem) l
 
-  few_triangles : judge_star s ≡ Passed → triangle_count indices ≤ most_triangles
+  few_triangles : judge_star s ≡ Ok tt → triangle_count indices ≤ most_triangles
   unfolding ones ones_in
   few_triangles e =
       let shape = star_shaped s e in
       omega (arith, triangle_count_lem, triangles_few s shape.few shape.sides)
 
-to_stl : (s : Star) (lent : Lent) (c : Counts) → answered s lent ≡ Extraction.Mesh c
+to_stl : (s : Star) (lent : Lent) (c : Counts) → answered s lent ≡ Ok c
     → WritableAsStl (vertices_left c (left s lent)) (triangles_left c (left s lent)) c.triangles
 to_stl s lent c e =
     let mesh = equal_mesh s lent c e in
     let vertices : vertices_left c (left s lent) ≡ floats s = mesh.vertices.first in
     let triangles : triangles_left c (left s lent) ≡ indices s = mesh.triangles.first in
-    let few : judge_many (triangle_count (indices s)) ≡ Passed = rw (le-leb _ _ (few_triangles s (passed s lent c e))) in
+    let few : judge_many (triangle_count (indices s)) ≡ Ok tt = rw (le-leb _ _ (few_triangles s (passed s lent c e))) in
     rw (vertices, triangles, mesh.counted, ← triangle_count_lem s)
     (writable (floats s) (indices s) few (all_name_passes (floats s) (indices s) (all_name s)))
 

@@ -1,12 +1,11 @@
 -- What was promised of cutting blocks holds: the call is judged by its judges in order, and what was cut is the definition's block, of which volume's
 -- laws speak.
-use Rattle.std.specs.Prelude.{ℕ, ◌*◌, ◌≡◌, true, ◌&&◌, List, eqb, leb, ltb, Float, length}
+use Rattle.std.specs.Prelude.{ℕ, ◌*◌, ◌≡◌, true, ◌&&◌, List, eqb, leb, ltb, Float, length, Err, Ok}
 use Rattle.std.proofs.Common.{arith, sym, ◌∙◌, subst}
 use Rattle.std.proofs.Math.Path.{refl, ap}
 use Rattle.model.specs.declared.Refusal.{Refusal}
 use Rattle.model.specs.declared.Refusal.TheVariants.{Subdivisions, BadSample, VolumeSize, VolumeLength, FirstPoint}
-use Rattle.model.specs.declared.Verdict.{Verdict}
-use Rattle.model.specs.declared.Verdict.TheVariants.{Passed}
+use Rattle.model.specs.Answers.{Verdict}
 use Rattle.model.specs.declared.Xyz.{Xyz}
 use Rattle.model.specs.Limits.{most_subdivisions}
 use Rattle.model.specs.Samples.{sample_length, sampled, value_at}
@@ -14,7 +13,6 @@ use Rattle.model.specs.Rotations.{xyz}
 use Rattle.model.specs.Star.{Star, subdivisions}
 use Rattle.model.specs.Judging.{usable, judge_centre, judge_samples, judge_faces}
 use Rattle.judge.specs.First.{or_else_assoc, or_else_passed}
-use Rattle.volume.specs.declared.BlockCut.TheVariants as BlockCut
 use Rattle.volume.specs.Definition.{volume_count, volume_place, volume_sample, nearest_point, taken_place, taken_sample, block_in, size_fits, taken_usable, judge_taken, judge_volume, judge_cut, cut_answer, cut_block}
 use Rattle.volume.specs.Neighbours.{onward, SideBySide, TwiceAsFine, FineStar}
 use Rattle.volume.specs.Known.{Cut}
@@ -48,14 +46,14 @@ module _ (bytes : List ℕ) (sizes : Xyz) (n : ℕ) (first : Xyz) (samples : Lis
       by_unless (ltb first.x sizes.x && ltb first.y sizes.y && ltb first.z sizes.z) FirstPoint &
       taken_number & buffer_number (sample_length n) (length samples) & tt
 
-  cutting : Judged (cut_judges bytes sizes n first samples) (λ r. (cut_block bytes sizes n first samples).answer ≡ BlockCut.Refused r)
+  cutting : Judged (cut_judges bytes sizes n first samples) (λ r. (cut_block bytes sizes n first samples).answer ≡ Err r)
       (Accepted bytes sizes n first samples (sample_length n))
   unfolding cut_block
   cutting =
-      judged BlockCut.Refused (BlockCut.Samples (sample_length n)) (λ v. (cut_answer bytes sizes n first samples v).answer) refl (λ r. refl) (λ q r e. cc)
+      judged Err (Ok (sample_length n)) (λ v. (cut_answer bytes sizes n first samples v).answer) refl (λ r. refl) (λ q r e. cc)
       (λ r e. cc) _ _ in_order_lem numbered
 
-  untouched : (r : Refusal) → (cut_block bytes sizes n first samples).answer ≡ BlockCut.Refused r → (cut_block bytes sizes n first samples).samples ≡ samples
+  untouched : (r : Refusal) → (cut_block bytes sizes n first samples).answer ≡ Err r → (cut_block bytes sizes n first samples).samples ≡ samples
   unfolding cut_block
   untouched r e = ap (λ (v : Verdict). (cut_answer bytes sizes n first samples v).samples) (sym in_order_lem ∙ (cutting.refused_by_first r).0 e)
 
@@ -76,10 +74,10 @@ module _ (bytes : List ℕ) (sizes : Xyz) (n : ℕ) (first : Xyz) (samples : Lis
     block_is : cut_out bytes sizes n first samples k ≡ block_in bytes sizes n first
     block_is = block_laid.first
 
-    centre : judge_centre n (length (cut_out bytes sizes n first samples k)) ≡ Passed
+    centre : judge_centre n (length (cut_out bytes sizes n first samples k)) ≡ Ok tt
     centre = rw block_is (passes_4 bytes sizes n first)
 
-    usable_samples : judge_samples (cut_out bytes sizes n first samples k) ≡ Passed
+    usable_samples : judge_samples (cut_out bytes sizes n first samples k) ≡ Ok tt
     usable_samples = rw block_is (passes_7 bytes sizes n first cut.whole.ready)
 
     nearest_sample : (x y z : ℕ) → sampled n x y z ≡ true
@@ -95,7 +93,7 @@ beside bytes sizes n first axis samples others k l one next =
 
 finer : (bytes fineBytes : List ℕ) (sizes fineSizes first : Xyz) (samples : List Float) (k : ℕ) (s : Star)
     → Accepted bytes sizes (subdivisions s) first samples k → TwiceAsFine bytes sizes fineBytes fineSizes
-    → FineStar bytes sizes fineBytes fineSizes first s → judge_faces s ≡ Passed
+    → FineStar bytes sizes fineBytes fineSizes first s → judge_faces s ≡ Ok tt
 finer bytes fineBytes sizes fineSizes first samples k s e twice star =
     let at = (is_cut bytes sizes (subdivisions s) first samples k e).at in
     passes_8 s (record { x = omega (arith, at.x); y = omega (arith, at.y); z = omega (arith, at.z) }) twice star

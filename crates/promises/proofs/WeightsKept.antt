@@ -1,8 +1,7 @@
 -- What was promised of weights holds: an accepted call has passed 1 to 8, and its buffers hold the definition's vertices.
-use Rattle.std.specs.Prelude.{◌<◌, ◌≡◌, length}
+use Rattle.std.specs.Prelude.{◌<◌, ◌≡◌, length, Ok}
 use Rattle.std.proofs.Common.{sym, ap, subst, arith}
 use Rattle.model.specs.declared.Counts.{Counts}
-use Rattle.model.specs.declared.Extraction.TheVariants as Extraction
 use Rattle.model.specs.Star.{Star}
 use Rattle.model.specs.Mesh.{Made, mesh_of}
 use Rattle.weights.specs.Clauses.{AreF32, VertexWeighed, Weights}
@@ -12,7 +11,7 @@ use Rattle.promises.specs.Weights.{LeftWeighed, WeightsPromises}
 use Rattle.promises.proofs.Surface.{vertex_is}
 use Rattle.promises.proofs.Extracted.{passed, faces_passed, equal_mesh, vertices_left, triangles_left}
 
-module _ (s : Star) (lent : Lent) (c : Counts) (fit : AreF32 s) (e : answered s lent ≡ Extraction.Mesh c) where
+module _ (s : Star) (lent : Lent) (c : Counts) (fit : AreF32 s) (e : answered s lent ≡ Ok c) where
   of_mesh : Weights s (mesh_of s)
   of_mesh = weights s fit (passed s lent c e) (faces_passed s lent c e)
 

@@ -1,6 +1,6 @@
 -- Extraction with the further list, by what its judges come to: without the list it answers, leaves and reports the same, and the list holds the grid
 -- edges, with the mark for those that the transition cells made.
-use Rattle.std.specs.Prelude.{ℕ, ◌+◌, ◌*◌, ◌/◌, ◌≤◌, ◌<◌, ◌≡◌, ◌&&◌, ◌↔◌, leb, length, drop}
+use Rattle.std.specs.Prelude.{ℕ, ◌+◌, ◌*◌, ◌/◌, ◌≤◌, ◌<◌, ◌≡◌, ◌&&◌, ◌↔◌, leb, length, drop, Err, Ok}
 use Rattle.std.proofs.Common.{one-mul, arith, ◌∙◌, leb-true}
 use Rattle.std.proofs.Math.Decide.{dec_lt}
 use Rattle.std.proofs.Math.Path.{refl, sym, ap}
@@ -9,9 +9,7 @@ use Rattle.laws.specs.Lists.{length_each}
 use Rattle.model.specs.declared.Counts.{Counts}
 use Rattle.model.specs.declared.Refusal.{Refusal}
 use Rattle.model.specs.declared.Refusal.TheVariants.{IndexStoreTooShort, NoRoom, EdgesTooShort}
-use Rattle.model.specs.declared.Verdict.{Verdict}
-use Rattle.model.specs.declared.Verdict.TheVariants.{Passed, Refused}
-use Rattle.model.specs.declared.Extraction.TheVariants as Extraction
+use Rattle.model.specs.Answers.{Verdict}
 use Rattle.model.specs.Limits.{most_subdivisions}
 use Rattle.model.specs.Star.{Star, subdivisions}
 use Rattle.model.specs.Refusals.{or_else}
@@ -34,12 +32,12 @@ use Rattle.promises.proofs.Extracted.{mesh_answered}
 use Rattle.promises.specs.Weld.{LentWhole, edge_in, whole_outcome, answered_whole, left_whole, whole_judges, WholeIsLeft, WholeExtraction}
 
 -- what passes with one judge more, passes without it
-without : (a b c d e : Verdict) → or_else a (or_else b (or_else c (or_else d e))) ≡ Passed → (d ≡ Passed) × (or_else a (or_else b (or_else c e)) ≡ Passed)
-without Passed Passed Passed Passed e h = (refl, h)
-without Passed Passed Passed (Refused r) e h = (h, cc)
-without Passed Passed (Refused r) d e h = (cc, h)
-without Passed (Refused r) c d e h = (cc, h)
-without (Refused r) b c d e h = (cc, h)
+without : (a b c d e : Verdict) → or_else a (or_else b (or_else c (or_else d e))) ≡ Ok tt → (d ≡ Ok tt) × (or_else a (or_else b (or_else c e)) ≡ Ok tt)
+without (Ok _) (Ok _) (Ok _) (Ok _) e h = (refl, h)
+without (Ok _) (Ok _) (Ok _) (Err r) e h = (h, cc)
+without (Ok _) (Ok _) (Err r) d e h = (cc, h)
+without (Ok _) (Err r) c d e h = (cc, h)
+without (Err r) b c d e h = (cc, h)
 
 module _ (s : Star) (lent : LentWhole) where
   abbrev made : ℕ
@@ -63,10 +61,10 @@ module _ (s : Star) (lent : LentWhole) where
   abbrev came : Verdict → Outcome
   came = outcome (mesh_of s) lent.mesh.store lent.mesh.vertices lent.mesh.triangles
 
-  extraction : Judged (whole_judges s lent) (λ r. answered_whole s lent ≡ Extraction.Refused r) (answered_whole s lent ≡ Extraction.Mesh (counts s))
+  extraction : Judged (whole_judges s lent) (λ r. answered_whole s lent ≡ Err r) (answered_whole s lent ≡ Ok (counts s))
   unfolding extract_whole outcome
   extraction =
-      judged Extraction.Refused (Extraction.Mesh (counts s)) (λ v. (came v).answer) refl (λ r. refl) (λ q r e. cc) (λ r e. cc)
+      judged Err (Ok (counts s)) (λ v. (came v).answer) refl (λ r. refl) (λ q r e. cc) (λ r e. cc)
       (whole_judges s lent) verdict in_order_lem numbered
 
   -- what is left, by the verdict
@@ -75,29 +73,29 @@ module _ (s : Star) (lent : LentWhole) where
       let o = came v in
       record { mesh = record { store = o.store; vertices = o.vertices; triangles = o.triangles }; edges = edges_left (mesh_of s) lent.edges v }
 
-  untouched : (r : Refusal) → answered_whole s lent ≡ Extraction.Refused r → left_whole s lent ≡ lent
+  untouched : (r : Refusal) → answered_whole s lent ≡ Err r → left_whole s lent ≡ lent
   unfolding extract_whole outcome edges_left
   untouched r e = ap leaves (sym in_order_lem ∙ (extraction.refused_by_first r).0 e)
 
-  no_reads : (r : Refusal) → answered_whole s lent ≡ Extraction.Refused r → (whole_outcome s lent).mesh.reads ≡ 0
+  no_reads : (r : Refusal) → answered_whole s lent ≡ Err r → (whole_outcome s lent).mesh.reads ≡ 0
   unfolding extract_whole outcome
   no_reads r e = ap (λ (v : Verdict). (came v).reads) (sym in_order_lem ∙ (extraction.refused_by_first r).0 e)
 
-  module _ (c : Counts) (e : answered_whole s lent ≡ Extraction.Mesh c) where
-    accepted : (verdict ≡ Passed) × (c ≡ counts s)
+  module _ (c : Counts) (e : answered_whole s lent ≡ Ok c) where
+    accepted : (verdict ≡ Ok tt) × (c ≡ counts s)
     unfolding extract_whole
     accepted = mesh_answered (mesh_of s) lent.mesh verdict c e
 
-    passed : (judge_edges made (length lent.edges) ≡ Passed)
-        × (judge_extraction s (length lent.mesh.store) (length lent.mesh.vertices) (length lent.mesh.triangles) ≡ Passed)
+    passed : (judge_edges made (length lent.edges) ≡ Ok tt)
+        × (judge_extraction s (length lent.mesh.store) (length lent.mesh.vertices) (length lent.mesh.triangles) ≡ Ok tt)
     unfolding judge_whole judge_extraction
     passed =
         without (judge_star s) (judge_faces s) (judge_store (subdivisions s) (length lent.mesh.store)) (judge_edges made (length lent.edges))
         (judge_room made (length (mesh_of s).triangles) (length lent.mesh.vertices) (length lent.mesh.triangles)) accepted.0
 
-    pub answered_alike : answered s lent.mesh ≡ Extraction.Mesh c
+    pub answered_alike : answered s lent.mesh ≡ Ok c
     unfolding extract outcome
-    answered_alike = ap (λ (v : Verdict). (came v).answer) passed.1 ∙ ap Extraction.Mesh (sym accepted.1)
+    answered_alike = ap (λ (v : Verdict). (came v).answer) passed.1 ∙ ap Ok (sym accepted.1)
 
     pub left_alike : left s lent.mesh ≡ (left_whole s lent).mesh
     unfolding extract extract_whole

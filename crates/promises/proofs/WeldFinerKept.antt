@@ -1,11 +1,10 @@
 -- The labels of what extraction leaves close up as the vertices do; so the labelled mesh is named anew by the weld, no gap is at a finer face after it,
 -- and each vertex there is what it was.
-use Rattle.std.specs.Prelude.{ℕ, ◌+◌, ◌*◌, ◌<◌, ◌≡◌, refl, List, [], ◌∷◌, length, get_or}
+use Rattle.std.specs.Prelude.{ℕ, ◌+◌, ◌*◌, ◌<◌, ◌≡◌, refl, List, [], ◌∷◌, length, get_or, Ok}
 use Rattle.std.proofs.Common.{le_refl, arith, sym, ap, ◌∙◌, subst}
 use Rattle.laws.specs.Lists.{length_listed}
 use Rattle.laws.specs.Gathered.{listed_same_below}
 use Rattle.model.specs.declared.Counts.{Counts}
-use Rattle.model.specs.declared.Extraction.TheVariants as Extraction
 use Rattle.model.specs.Star.{Star}
 use Rattle.model.specs.Mesh.{Made, Mesh, no_edge, regular_mesh}
 use Rattle.closed.specs.Clauses.{no_vertex}
@@ -22,7 +21,7 @@ use Rattle.promises.proofs.Extracted.{equal_mesh}
 use Rattle.promises.specs.Weld.{LentWhole, answered_whole, left_whole, edge_in, label_before, label_after, labelled_after, labelled_anew, NoGapAfter}
 use Rattle.promises.proofs.WeldRenamed.{made_at, alone, mesh_is, edge_regular, by_kind, named_anew, names_vertices}
 
-module _ (s : Star) (lent : LentWhole) (c : Counts) (e : answered_whole s lent ≡ Extraction.Mesh c) where
+module _ (s : Star) (lent : LentWhole) (c : Counts) (e : answered_whole s lent ≡ Ok c) where
   abbrev lists : LentWhole
   lists = left_whole s lent
 

@@ -1,6 +1,6 @@
 -- The weld: what it answers and leaves, from the laws of weld's own crate; and, over what extraction leaves, what the mesh being named anew makes of
 -- it.
-use Rattle.std.specs.Prelude.{ℕ, ◌+◌, ◌*◌, ◌≤◌, ◌<◌, ◌≡◌, List, leb, Float, length, take}
+use Rattle.std.specs.Prelude.{ℕ, ◌+◌, ◌*◌, ◌≤◌, ◌<◌, ◌≡◌, List, leb, Float, length, take, Err, Ok}
 use Rattle.std.proofs.Common.{arith, ◌∙◌, subst}
 use Rattle.std.proofs.Math.Path.{refl, sym, ap}
 use Rattle.std.specs.Float.{nan}
@@ -11,9 +11,7 @@ use Rattle.laws.specs.Counting.{upto, counted, which_one}
 use Rattle.model.specs.declared.Counts.{Counts}
 use Rattle.model.specs.declared.Refusal.{Refusal}
 use Rattle.model.specs.declared.Refusal.TheVariants.{NoVertex, EdgesTooShort}
-use Rattle.model.specs.declared.Verdict.{Verdict}
-use Rattle.model.specs.declared.Verdict.TheVariants.{Passed}
-use Rattle.model.specs.declared.Extraction.TheVariants as Extraction
+use Rattle.model.specs.Answers.{Verdict}
 use Rattle.model.specs.Star.{Star}
 use Rattle.model.specs.Corners.{triangle_count, named, judge_named}
 use Rattle.model.specs.Mesh.{Made, no_edge, regular_mesh, mesh_of}
@@ -22,7 +20,6 @@ use Rattle.judge.specs.Passing.{star_shaped}
 use Rattle.closed.specs.Clauses.{Edge, number, OfBlock, Crossed, edge_at, NoHole}
 use Rattle.closed.proofs.Marks.{number_low}
 use Rattle.closed.proofs.Renamed.{no_hole_renamed}
-use Rattle.weld.specs.declared.Welded.TheVariants as Welded
 use Rattle.weld.specs.Definition.{kept, kept_before, new_index, judge_weld, Outcome, weld_answer, weld}
 use Rattle.weld.specs.Kept.{kept_mark, keeper_keeps, kept_index, kept_is}
 use Rattle.weld.specs.Closing.{edges_long, edge_beyond, vertices_long, vertex_beyond}
@@ -69,13 +66,13 @@ module _ (c : Counts) (lists : LentWhole) where
       buffer_number (6 * v) (length vertices) & buffer_number (3 * t) (length triangles) & by_unless (leb v (length lists.edges)) (EdgesTooShort v) &
       named_number & tt
 
-  pass : Judged (weld_judges c lists) (λ r. (weld_outcome c lists).answer ≡ Welded.Refused r) ((weld_outcome c lists).answer ≡ Welded.Mesh (new_counts c lists))
+  pass : Judged (weld_judges c lists) (λ r. (weld_outcome c lists).answer ≡ Err r) ((weld_outcome c lists).answer ≡ Ok (new_counts c lists))
   unfolding weld weld_answer
   pass =
-      judged Welded.Refused (Welded.Mesh (new_counts c lists)) (λ w. (weld_answer v t vertices triangles lists.edges w).answer) refl (λ r. refl) (λ q r e. cc)
+      judged Err (Ok (new_counts c lists)) (λ w. (weld_answer v t vertices triangles lists.edges w).answer) refl (λ r. refl) (λ q r e. cc)
       (λ r e. cc) _ _ in_order_lem numbered
 
-  untouched : (r : Refusal) → (weld_outcome c lists).answer ≡ Welded.Refused r → left_welded c lists ≡ lists
+  untouched : (r : Refusal) → (weld_outcome c lists).answer ≡ Err r → left_welded c lists ≡ lists
   unfolding weld weld_answer
   untouched r e =
       ap (λ (w : Verdict). let o = weld_answer v t vertices triangles lists.edges w in
@@ -84,7 +81,7 @@ module _ (c : Counts) (lists : LentWhole) where
 
   -- what it leaves where the judges pass, whatever the numbers stand for
   module _ (w : Whole v t vertices triangles lists.edges) where
-    is_welded : weld_outcome c lists ≡ weld_answer v t vertices triangles lists.edges Passed → IsWelded c lists (left_welded c lists) (new_counts c lists)
+    is_welded : weld_outcome c lists ≡ weld_answer v t vertices triangles lists.edges (Ok tt) → IsWelded c lists (left_welded c lists) (new_counts c lists)
     unfolding weld_answer
     is_welded o =
         let es = lists.edges in
@@ -116,14 +113,14 @@ module _ (c : Counts) (lists : LentWhole) where
           again = again v t vertices triangles es w ∙ sym o;
         })
 
-  accepted : (new : Counts) → (weld_outcome c lists).answer ≡ Welded.Mesh new → IsWelded c lists (left_welded c lists) new
+  accepted : (new : Counts) → (weld_outcome c lists).answer ≡ Ok new → IsWelded c lists (left_welded c lists) new
   accepted new e =
       let h = welds v t vertices triangles lists.edges new e in
       rw h.counts_are (is_welded h.whole_lists h.outcome_is)
 
 -- ---- the pass over what extraction leaves
 
-module _ (s : Star) (lent : LentWhole) (c : Counts) (e : answered_whole s lent ≡ Extraction.Mesh c) where
+module _ (s : Star) (lent : LentWhole) (c : Counts) (e : answered_whole s lent ≡ Ok c) where
   abbrev lists : LentWhole
   lists = left_whole s lent
 

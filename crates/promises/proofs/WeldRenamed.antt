@@ -1,6 +1,6 @@
 -- What extraction leaves, welded: the lists pass, each vertex stands at its new index with its edge and its six numbers, and so what is told of the
 -- lists before the pass and after it is one mesh whose vertices are named anew.
-use Rattle.std.specs.Prelude.{ℕ, ◌+◌, ◌*◌, ◌≤◌, ◌<◌, ◌≡◌, List, Float, length, get_or, take}
+use Rattle.std.specs.Prelude.{ℕ, ◌+◌, ◌*◌, ◌≤◌, ◌<◌, ◌≡◌, List, Float, length, get_or, take, Ok}
 use Rattle.std.proofs.Math.Decide.{dec_lt}
 use Rattle.std.proofs.Common.{arith, sym, ◌∙◌, length-take}
 use Rattle.std.proofs.Math.Path.{refl, ap}
@@ -9,9 +9,7 @@ use Rattle.laws.specs.Lists.{length_listed, get_d_listed}
 use Rattle.laws.specs.Counting.{Which, which_one}
 use Rattle.model.specs.declared.Counts.{Counts}
 use Rattle.model.specs.declared.Triangle.{Triangle}
-use Rattle.model.specs.declared.Verdict.TheVariants.{Passed}
 use Rattle.model.specs.declared.Vertex.{Vertex}
-use Rattle.model.specs.declared.Extraction.TheVariants as Extraction
 use Rattle.model.specs.Formulas.{vector}
 use Rattle.model.specs.Star.{Star}
 use Rattle.model.specs.Mesh.{Made, no_edge, regular_mesh, mesh_of}
@@ -39,7 +37,7 @@ module _ (b : Lent) (edge : ℕ → ℕ) (v t : ℕ) where
   triangle_at_lem : (k : ℕ) → k < t → triangle_at (mesh_in b edge v t) k ≡ triangle_in b k
   triangle_at_lem k h = get_d_listed (triangle_in b) t k no_triangle h
 
-module _ (s : Star) (lent : LentWhole) (c : Counts) (e : answered_whole s lent ≡ Extraction.Mesh c) where
+module _ (s : Star) (lent : LentWhole) (c : Counts) (e : answered_whole s lent ≡ Ok c) where
   abbrev lists : LentWhole
   lists = left_whole s lent
 
@@ -56,7 +54,7 @@ module _ (s : Star) (lent : LentWhole) (c : Counts) (e : answered_whole s lent �
   R = length (regular_mesh s).made
 
   -- without the further list
-  pub alone : answered s lent.mesh ≡ Extraction.Mesh c
+  pub alone : answered s lent.mesh ≡ Ok c
   alone = answered_alike s lent c e
 
   pub mesh_is : left s lent.mesh ≡ lists.mesh
@@ -115,7 +113,7 @@ module _ (s : Star) (lent : LentWhole) (c : Counts) (e : answered_whole s lent �
         named = rw (held, indices_are) at (stl_kept.writable s lent.mesh c alone).named;
       }
 
-  pub outcome_is : weld_outcome c lists ≡ weld_answer c.vertices c.triangles floats indices es Passed
+  pub outcome_is : weld_outcome c lists ≡ weld_answer c.vertices c.triangles floats indices es (Ok tt)
   unfolding weld
   outcome_is = ap (weld_answer c.vertices c.triangles floats indices es) (passes c.vertices c.triangles floats indices es whole_lists)
 

@@ -2,9 +2,9 @@
 -- with the verdict of document 01, which accepts at most 16 subdivisions, they are the calls as they were before document 02, [9] (Larger). Definitions only.
 use Rattle.std.specs.Prelude.{ℕ, cond, ◌&&◌, List, ◌++◌, leb, ℤ, Float, length}
 use Rattle.model.specs.declared.Header.{Header}
-use Rattle.model.specs.declared.PointRead.{PointRead}
+use Rattle.model.specs.Answers.{PointRead}
 use Rattle.model.specs.declared.Refusal.TheVariants.{Subdivisions}
-use Rattle.model.specs.declared.Verdict.{Verdict}
+use Rattle.model.specs.Answers.{Verdict}
 use Rattle.model.specs.Refusals.{unless, or_else}
 use Rattle.model.specs.Samples.{reading_at, one_up}
 use Rattle.model.specs.Star.{Star, star, subdivisions}

@@ -1,13 +1,10 @@
 -- What was promised of sixty-four subdivisions (document 02, [9]): stored records, and every call on a block of at most 16 subdivisions, are answered as they
 -- were (Former), and a larger one was refused with 1; and at the limit, with six sides, every place, length, count, edge number and vertex index fits its
 -- width. Definitions only.
-use Rattle.std.specs.Prelude.{ℕ, ◌+◌, ◌-◌, ◌*◌, ◌^◌, ◌≤◌, ◌<◌, ◌≡◌, Bool, true, ◌&&◌, List, [], ◌∷◌, T, ltb, ℤ, Float, length}
+use Rattle.std.specs.Prelude.{ℕ, ◌+◌, ◌-◌, ◌*◌, ◌^◌, ◌≤◌, ◌<◌, ◌≡◌, Bool, true, ◌&&◌, List, [], ◌∷◌, T, ltb, ℤ, Float, length, Err, Ok}
 use Rattle.model.specs.declared.Header.{Header}
 use Rattle.model.specs.declared.Refusal.TheVariants.{Subdivisions}
-use Rattle.model.specs.declared.Extraction.TheVariants as Extraction
-use Rattle.model.specs.declared.RecordRead.TheVariants as RecordRead
-use Rattle.model.specs.declared.Verdict.{Verdict}
-use Rattle.model.specs.declared.Verdict.TheVariants.{Passed}
+use Rattle.model.specs.Answers.{Verdict}
 use Rattle.model.specs.Limits.{most_subdivisions, most_fine, most_mask}
 use Rattle.model.specs.Samples.{sample_length, in_block, place_of, sampled}
 use Rattle.model.specs.Sides.{neighbour_length, neighbours_length, sample_count}
@@ -44,10 +41,10 @@ pub record AnsweredBy (verdict : ℕ → Verdict) (These : ℕ → Type 0) : Typ
 -- a larger block was refused with 1, and so was a larger record whose length and version are right
 pub record LargerRefused : Type 0 where
   pub extraction : (s : Star) (store : List ℕ) (vertices : List Float) (triangles : List ℕ) → let n = subdivisions s in
-      former_most < n → (extract_by (former_verdict n) s store vertices triangles).answer ≡ Extraction.Refused (Subdivisions n)
-  pub reading : (bytes : List ℕ) (samples : List Float) → judge_length bytes ≡ Passed → judge_version bytes ≡ Passed
+      former_most < n → (extract_by (former_verdict n) s store vertices triangles).answer ≡ Err (Subdivisions n)
+  pub reading : (bytes : List ℕ) (samples : List Float) → judge_length bytes ≡ Ok tt → judge_version bytes ≡ Ok tt
       → let n = (header_of bytes).block.subdivisions in
-      former_most < n → (read_by (former_verdict n) bytes samples).answer ≡ RecordRead.Refused (Subdivisions n)
+      former_most < n → (read_by (former_verdict n) bytes samples).answer ≡ Err (Subdivisions n)
 
 -- ---- widths
 

@@ -1,11 +1,11 @@
 -- What the buyer was promised of extraction with a summary by layer (document 02, [12]), for every input: in which order it is judged, that it answers and
 -- leaves the same as without the summary, and that it reads the less by just the cells passed over. It speaks of the model's `extract_layered`, to which the
 -- `ensures` of the call says that the code is equal. Definitions only.
-use Rattle.std.specs.Prelude.{ℕ, ◌+◌, ◌*◌, ◌≤◌, ◌<◌, ◌≡◌, true, List, [], ◌∷◌, ◌++◌, Float, length}
+use Rattle.std.specs.Prelude.{ℕ, ◌+◌, ◌*◌, ◌≤◌, ◌<◌, ◌≡◌, true, List, [], ◌∷◌, ◌++◌, Float, length, Err, Ok}
 use Rattle.std.specs.Int.Count.{ones}
 use Rattle.model.specs.declared.Counts.{Counts}
 use Rattle.model.specs.declared.Refusal.{Refusal}
-use Rattle.model.specs.declared.Extraction.{Extraction}
+use Rattle.model.specs.Answers.{Extraction}
 use Rattle.model.specs.Star.{Star, subdivisions}
 use Rattle.model.specs.Refusals.{or_else}
 use Rattle.model.specs.Judging.{judge_star, judge_faces, judge_store, judge_room, judge_buffer}
@@ -58,17 +58,17 @@ module _ (s : Star) (summary : List Float) (lent : LentWhole) where
 pub record LayeredPromises : Type 0 where
   -- it is refused exactly as the first of 1 to 8, 14, 26, 9, 23, 10 says, and otherwise accepted with the counts of the definition's mesh
   pub extraction : (s : Star) (summary : List Float) (lent : LentWhole)
-      → Judged (layered_judges s summary lent) (λ r. answered_layered s summary lent ≡ Extraction.Refused r)
-      (answered_layered s summary lent ≡ Extraction.Mesh (counts s))
+      → Judged (layered_judges s summary lent) (λ r. answered_layered s summary lent ≡ Err r)
+      (answered_layered s summary lent ≡ Ok (counts s))
   -- refused, it leaves every list as it was and reports no read
-  pub untouched : (s : Star) (summary : List Float) (lent : LentWhole) (r : Refusal) → answered_layered s summary lent ≡ Extraction.Refused r
+  pub untouched : (s : Star) (summary : List Float) (lent : LentWhole) (r : Refusal) → answered_layered s summary lent ≡ Err r
       → left_layered s summary lent ≡ lent
-  pub refused : (s : Star) (summary : List Float) (lent : LentWhole) (r : Refusal) → answered_layered s summary lent ≡ Extraction.Refused r
+  pub refused : (s : Star) (summary : List Float) (lent : LentWhole) (r : Refusal) → answered_layered s summary lent ≡ Err r
       → reported_layered s summary lent ≡ 0
   -- of every block, with every summary that is not refused
   pub alike : (s : Star) (summary : List Float) (lent : LentWhole) → SummaryStands s summary → Alike s summary lent
   -- accepted, it reports 8 n^3 + 9 s n^2 + 14 V less 8 n^2 for each layer passed over
-  pub reads : (s : Star) (summary : List Float) (lent : LentWhole) (c : Counts) → answered_layered s summary lent ≡ Extraction.Mesh c
+  pub reads : (s : Star) (summary : List Float) (lent : LentWhole) (c : Counts) → answered_layered s summary lent ≡ Ok c
       → let n = subdivisions s in
       reported_layered s summary lent + 8 * (n * n) * layers_over s summary n ≡ reads_total n (ones s.mask) c.vertices
   -- and whatever it answers, the report is within [7]'s bound

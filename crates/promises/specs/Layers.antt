@@ -2,13 +2,12 @@
 -- numbers are, that setting keeps a summary right, what 26 refuses, that a layer passed over makes nothing, and that each unmarked layer on one side of the
 -- threshold is passed over. It speaks of layers' `make_summary` and `set_sample`, to which the `ensures` of the calls say that the code is equal, in the words
 -- of the model's Layers. Definitions only.
-use Rattle.std.specs.Prelude.{ℕ, ◌+◌, ◌*◌, ◌/◌, ◌%◌, ◌≤◌, ◌<◌, ◌≡◌, ◌⊎◌, Bool, true, false, List, [], ◌∷◌, ℤ, pos, Float, length, get_or}
+use Rattle.std.specs.Prelude.{ℕ, ◌+◌, ◌*◌, ◌/◌, ◌%◌, ◌≤◌, ◌<◌, ◌≡◌, ◌⊎◌, Bool, true, false, List, [], ◌∷◌, ℤ, pos, Float, length, get_or, Err, Ok}
 use Rattle.std.specs.Float.{nan, fin}
 use Rattle.std.specs.Float.Ieee.{le, lt, eq}
 use Rattle.model.specs.declared.Refusal.{Refusal}
 use Rattle.model.specs.declared.Refusal.TheVariants.{LayerDiffers}
 use Rattle.model.specs.declared.PlaceKind.TheVariants.{Face}
-use Rattle.model.specs.declared.Verdict.TheVariants.{Passed, Refused}
 use Rattle.model.specs.Samples.{sample_of}
 use Rattle.model.specs.Rotations.{xyz}
 use Rattle.model.specs.Formulas.{inside}
@@ -45,16 +44,16 @@ setting_judges n samples x y z value summary =
 
 pub record SummaryIsAnswered : Type 0 where
   pub making : (n : ℕ) (samples summary : List Float)
-      → Judged (making_judges n samples summary) (λ r. (make_summary n samples summary).answer ≡ Refused r) ((make_summary n samples summary).answer ≡ Passed)
+      → Judged (making_judges n samples summary) (λ r. (make_summary n samples summary).answer ≡ Err r) ((make_summary n samples summary).answer ≡ Ok tt)
   -- refused, it leaves the lent summary as it was
-  pub making_untouched : (n : ℕ) (samples summary : List Float) (r : Refusal) → (make_summary n samples summary).answer ≡ Refused r
+  pub making_untouched : (n : ℕ) (samples summary : List Float) (r : Refusal) → (make_summary n samples summary).answer ≡ Err r
       → (make_summary n samples summary).summary ≡ summary
   pub setting : (n : ℕ) (samples : List Float) (x y z : ℤ) (value : Float) (summary : List Float)
-      → Judged (setting_judges n samples x y z value summary) (λ r. (set_sample n samples x y z value summary).answer ≡ Refused r)
-      ((set_sample n samples x y z value summary).answer ≡ Passed)
+      → Judged (setting_judges n samples x y z value summary) (λ r. (set_sample n samples x y z value summary).answer ≡ Err r)
+      ((set_sample n samples x y z value summary).answer ≡ Ok tt)
   -- refused, it leaves both lists as they were
   pub setting_untouched : (n : ℕ) (samples : List Float) (x y z : ℤ) (value : Float) (summary : List Float) (r : Refusal)
-      → (set_sample n samples x y z value summary).answer ≡ Refused r
+      → (set_sample n samples x y z value summary).answer ≡ Err r
       → ((set_sample n samples x y z value summary).samples ≡ samples) × ((set_sample n samples x y z value summary).summary ≡ summary)
 
 -- ---- a layer's two numbers
@@ -83,9 +82,9 @@ pub record LayerNumbers : Type 0 where
       → let m = n + 1 in
       (m * m * a + (m * y + z) < layer_count n) × (sample_of n samples (xyz (x + a) y z) ≡ layer_sample n samples x (m * m * a + (m * y + z)))
   -- of samples that 1, 4 and 7 let pass
-  pub least : (n : ℕ) (samples : List Float) (x : ℕ) → judge_own n samples ≡ Passed → x < n
+  pub least : (n : ℕ) (samples : List Float) (x : ℕ) → judge_own n samples ≡ Ok tt → x < n
       → Least (layer_sample n samples x) (layer_count n) (layer_extent n samples x).least
-  pub greatest : (n : ℕ) (samples : List Float) (x : ℕ) → judge_own n samples ≡ Passed → x < n
+  pub greatest : (n : ℕ) (samples : List Float) (x : ℕ) → judge_own n samples ≡ Ok tt → x < n
       → Greatest (layer_sample n samples x) (layer_count n) (layer_extent n samples x).greatest
   -- +0 and -0 are equal, and of two equals the first is kept
   pub zeros : eq (fin false 0 (pos 0)) (fin true 0 (pos 0)) ≡ true
@@ -99,7 +98,7 @@ pub record SummaryMade (n : ℕ) (samples before after : List Float) : Type 0 wh
   pub beyond : (k : ℕ) → summary_length n ≤ k → get_or after k nan ≡ get_or before k nan
   pub as_long : length after ≡ length before
   -- 26 lets it pass
-  pub passes : judge_layers n samples after ≡ Passed
+  pub passes : judge_layers n samples after ≡ Ok tt
 
 -- ---- setting
 
@@ -120,8 +119,8 @@ pub record SampleSet (n : ℕ) (samples : List Float) (x y z : ℤ) (value : Flo
   pub on_face_lem : (face : ℕ) → Stands n x y z (Face face) → summary' ≡ summary
   pub as_long : (length samples' ≡ length samples) × (length summary' ≡ length summary)
   -- 1, 4 and 7 let the samples pass as before; and where 26 let the summary pass, it does
-  pub own : judge_own n samples' ≡ Passed
-  pub passes : judge_layers n samples summary ≡ Passed → judge_layers n samples' summary' ≡ Passed
+  pub own : judge_own n samples' ≡ Ok tt
+  pub passes : judge_layers n samples summary ≡ Ok tt → judge_layers n samples' summary' ≡ Ok tt
 
 -- ---- 26, and layers passed over
 
@@ -142,17 +141,17 @@ pub record MakesNothing (s : Star) (x : ℕ) : Type 0 where
 pub record LayerPromises : Type 0 where
   pub answered_always : SummaryIsAnswered
   pub numbers : LayerNumbers
-  pub made : (n : ℕ) (samples summary : List Float) → (make_summary n samples summary).answer ≡ Passed
+  pub made : (n : ℕ) (samples summary : List Float) → (make_summary n samples summary).answer ≡ Ok tt
       → SummaryMade n samples summary (make_summary n samples summary).summary
-  pub set : (n : ℕ) (samples : List Float) (x y z : ℤ) (value : Float) (summary : List Float) → (set_sample n samples x y z value summary).answer ≡ Passed
+  pub set : (n : ℕ) (samples : List Float) (x y z : ℤ) (value : Float) (summary : List Float) → (set_sample n samples x y z value summary).answer ≡ Ok tt
       → let o = set_sample n samples x y z value summary in SampleSet n samples x y z value summary o.samples o.summary
-  pub differs_first : (n : ℕ) (samples summary : List Float) (layer : ℕ) → judge_layers n samples summary ≡ Refused (LayerDiffers layer)
+  pub differs_first : (n : ℕ) (samples summary : List Float) (layer : ℕ) → judge_layers n samples summary ≡ Err (LayerDiffers layer)
       → DiffersFirst n samples summary layer
   -- of a block that 1 to 7 let pass, with a summary that 26 lets pass
-  pub passed_over_lem : (s : Star) (summary : List Float) (x : ℕ) → judge_star s ≡ Passed → judge_layers (subdivisions s) s.centre summary ≡ Passed
+  pub passed_over_lem : (s : Star) (summary : List Float) (x : ℕ) → judge_star s ≡ Ok tt → judge_layers (subdivisions s) s.centre summary ≡ Ok tt
       → x < subdivisions s → passed_over s.threshold summary x ≡ true → MakesNothing s x
   -- and there each unmarked layer whose samples are all inside or all outside is passed over
-  pub all_passed_over : (s : Star) (summary : List Float) (x : ℕ) (b : Bool) → judge_star s ≡ Passed
-      → judge_layers (subdivisions s) s.centre summary ≡ Passed → x < subdivisions s → marked (entry_of summary x) ≡ false
+  pub all_passed_over : (s : Star) (summary : List Float) (x : ℕ) (b : Bool) → judge_star s ≡ Ok tt
+      → judge_layers (subdivisions s) s.centre summary ≡ Ok tt → x < subdivisions s → marked (entry_of summary x) ≡ false
       → ((k : ℕ) → k < layer_count (subdivisions s) → inside s.threshold (layer_sample (subdivisions s) s.centre x k) ≡ b)
       → passed_over s.threshold summary x ≡ true

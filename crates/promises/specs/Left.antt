@@ -7,7 +7,7 @@ use Rattle.model.specs.declared.Vertex.{Vertex}
 use Rattle.model.specs.declared.Triangle.{Triangle}
 use Rattle.model.specs.declared.Counts.{Counts}
 use Rattle.model.specs.declared.Header.{Header}
-use Rattle.model.specs.declared.Extraction.{Extraction}
+use Rattle.model.specs.Answers.{Extraction}
 use Rattle.model.specs.Samples.{sample_length}
 use Rattle.model.specs.Sides.{neighbours_length}
 use Rattle.model.specs.Formulas.{vector}

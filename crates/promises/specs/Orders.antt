@@ -1,12 +1,11 @@
 -- Document 01's orders of judging: for each call its judges, one after another, by their numbers; and what it is for a call to be judged so.
 -- Definitions only.
-use Rattle.std.specs.Prelude.{ℕ, ◌+◌, ◌*◌, ◌<◌, ◌≡◌, ◌↔◌, List, [], ◌∷◌, ◌++◌, ℤ, Float, length}
+use Rattle.std.specs.Prelude.{ℕ, ◌+◌, ◌*◌, ◌<◌, ◌≡◌, ◌↔◌, List, [], ◌∷◌, ◌++◌, ℤ, Float, length, Err, Ok}
 use Rattle.model.specs.declared.Block.{Block}
 use Rattle.model.specs.declared.Header.{Header}
 use Rattle.model.specs.declared.Refusal.{Refusal}
 use Rattle.model.specs.declared.Refusal.TheVariants.{PointNeverSampled}
-use Rattle.model.specs.declared.Verdict.{Verdict}
-use Rattle.model.specs.declared.Verdict.TheVariants.{Passed, Refused}
+use Rattle.model.specs.Answers.{Verdict}
 use Rattle.model.specs.Samples.{sampled, outside_count, one_up}
 use Rattle.model.specs.Refusals.{numbers_of, unless, or_else}
 use Rattle.model.specs.Star.{Star, star, subdivisions}
@@ -24,26 +23,26 @@ judge number says = record { number = number; says = says }
 
 -- what judges that are asked one after another come to: the first refusal
 abbrev pub in_order : List Judge → Verdict
-in_order [] = Passed
+in_order [] = Ok tt
 in_order (j ∷ rest) = or_else j.says (in_order rest)
 
 -- each refuses with its own number
 abbrev pub Numbered : List Judge → Type 0
 Numbered [] = Unit {0}
-Numbered (j ∷ rest) = ((r : Refusal) → j.says ≡ Refused r → (numbers_of r).number ≡ j.number) × Numbered rest
+Numbered (j ∷ rest) = ((r : Refusal) → j.says ≡ Err r → (numbers_of r).number ≡ j.number) × Numbered rest
 
 -- a call that is refused exactly with the first refusal of its judges, and accepted exactly when none of them refuses
 pub record Judged (judges : List Judge) (refused : Refusal → Type 0) (accepted : Type 0) : Type 0 where
   pub numbered : Numbered judges
-  pub refused_by_first : (r : Refusal) → refused r ↔ (in_order judges ≡ Refused r)
-  pub accepted_by_all : accepted ↔ (in_order judges ≡ Passed)
+  pub refused_by_first : (r : Refusal) → refused r ↔ (in_order judges ≡ Err r)
+  pub accepted_by_all : accepted ↔ (in_order judges ≡ Ok tt)
 
 -- a call that answers with one number: its value, or a base plus the number of the first refusal; no value reads as a refusal
 pub record Packed (judges : List Judge) (base value answer : ℕ) : Type 0 where
   pub numbered : Numbered judges
-  pub refused : (r : Refusal) → in_order judges ≡ Refused r → answer ≡ base + (numbers_of r).number
-  pub accepted : in_order judges ≡ Passed → answer ≡ value
-  pub apart : in_order judges ≡ Passed → value < base
+  pub refused : (r : Refusal) → in_order judges ≡ Err r → answer ≡ base + (numbers_of r).number
+  pub accepted : in_order judges ≡ Ok tt → answer ≡ value
+  pub apart : in_order judges ≡ Ok tt → value < base
 
 -- document 01's orders: 1 to 6 of a block and the lengths of the lists lent with it, 1 to 7 of a block, 9 and 10 of the buffers that extraction is lent,
 -- 1 to 10 of extraction, 1 to 7 and 14 of the writer

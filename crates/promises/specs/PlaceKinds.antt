@@ -1,13 +1,12 @@
 -- What the buyer was promised of place kinds (document 02, [4]), for every input: the store that a sample came from, as the point read and a record's
 -- point read tell it; what refusal 15 counts; which of a gradient's six reads are from an extension face; and that every sample that extraction reads is
 -- the one that was read before, so that no mesh changes. Definitions only.
-use Rattle.std.specs.Prelude.{ℕ, zero, suc, ◌+◌, ◌*◌, ◌≤◌, ◌<◌, ◌≡◌, ◌↔◌, Bool, true, cond, List, eqb, leb, ℤ, pos, negsuc, Float, get_or}
+use Rattle.std.specs.Prelude.{ℕ, zero, suc, ◌+◌, ◌*◌, ◌≤◌, ◌<◌, ◌≡◌, ◌↔◌, Bool, true, cond, List, eqb, leb, ℤ, pos, negsuc, Float, get_or, Ok, Err}
 use Rattle.std.specs.Float.{nan}
 use Rattle.model.specs.declared.Xyz.{Xyz}
 use Rattle.model.specs.declared.PlaceKind.{PlaceKind}
 use Rattle.model.specs.declared.PlaceKind.TheVariants.{InBlock, Face}
-use Rattle.model.specs.declared.Reading.TheVariants.{Value}
-use Rattle.model.specs.declared.PointRead.{PointRead}
+use Rattle.model.specs.Answers.{PointRead}
 use Rattle.model.specs.declared.Refusal.TheVariants.{PointNeverSampled}
 use Rattle.model.specs.Samples.{place_of, sampled, reading_at, value_at}
 use Rattle.model.specs.Rotations.{face_point, neighbour_point}
@@ -70,12 +69,12 @@ out_count n x y z = out_of n x + out_of n y + out_of n z
 
 pub record Placed (n : ℕ) (x y z : ℤ) (answer : PointRead) : Type 0 where
   -- the kind is in-block exactly when all coordinates are in 0..n, and a face exactly when just its coordinate is outside, by one step on its side
-  pub exactly : (v : Float) (kind other : PlaceKind) → answer ≡ PointRead.Value v kind → (kind ≡ other) ↔ Stands n x y z other
+  pub exactly : (v : Float) (kind other : PlaceKind) → answer ≡ Ok (v, kind) → (kind ≡ other) ↔ Stands n x y z other
   -- 15 counts the coordinates that are outside: one to three
-  pub counted : (c : ℕ) → answer ≡ PointRead.Refused (PointNeverSampled c) → c ≡ out_count n x y z
-  pub one_to_three : (c : ℕ) → answer ≡ PointRead.Refused (PointNeverSampled c) → (1 ≤ c) × (c ≤ 3)
+  pub counted : (c : ℕ) → answer ≡ Err (PointNeverSampled c) → c ≡ out_count n x y z
+  pub one_to_three : (c : ℕ) → answer ≡ Err (PointNeverSampled c) → (1 ≤ c) × (c ≤ 3)
   -- and is never given for a point that was sampled
-  pub never_sampled : (c : ℕ) (kind : PlaceKind) → answer ≡ PointRead.Refused (PointNeverSampled c) → Stands n x y z kind → ⊥
+  pub never_sampled : (c : ℕ) (kind : PlaceKind) → answer ≡ Err (PointNeverSampled c) → Stands n x y z kind → ⊥
 
 -- the places of a kind's store: the block's own (n+1)^3, and after them (n+1)^2 for each face
 abbrev pub InStore : ℕ → PlaceKind → ℕ → Type 0
@@ -99,17 +98,17 @@ border_kind border face = cond border (Face face) InBlock
 -- the six reads of the gradient at a point, whose values the definition subtracts
 pub record GradientReads (n : ℕ) (samples : List Float) (p : Xyz) : Type 0 where
   pub x_up : let at = value_at n samples (p.x + 2) (p.y + 1) (p.z + 1) in
-      reading_at n samples (p.x + 2) (p.y + 1) (p.z + 1) ≡ Value at (border_kind (eqb p.x n) 1)
+      reading_at n samples (p.x + 2) (p.y + 1) (p.z + 1) ≡ Ok (at, (border_kind (eqb p.x n) 1))
   pub x_down : let at = value_at n samples p.x (p.y + 1) (p.z + 1) in
-      reading_at n samples p.x (p.y + 1) (p.z + 1) ≡ Value at (border_kind (eqb p.x 0) 0)
+      reading_at n samples p.x (p.y + 1) (p.z + 1) ≡ Ok (at, (border_kind (eqb p.x 0) 0))
   pub y_up : let at = value_at n samples (p.x + 1) (p.y + 2) (p.z + 1) in
-      reading_at n samples (p.x + 1) (p.y + 2) (p.z + 1) ≡ Value at (border_kind (eqb p.y n) 3)
+      reading_at n samples (p.x + 1) (p.y + 2) (p.z + 1) ≡ Ok (at, (border_kind (eqb p.y n) 3))
   pub y_down : let at = value_at n samples (p.x + 1) p.y (p.z + 1) in
-      reading_at n samples (p.x + 1) p.y (p.z + 1) ≡ Value at (border_kind (eqb p.y 0) 2)
+      reading_at n samples (p.x + 1) p.y (p.z + 1) ≡ Ok (at, (border_kind (eqb p.y 0) 2))
   pub z_up : let at = value_at n samples (p.x + 1) (p.y + 1) (p.z + 2) in
-      reading_at n samples (p.x + 1) (p.y + 1) (p.z + 2) ≡ Value at (border_kind (eqb p.z n) 5)
+      reading_at n samples (p.x + 1) (p.y + 1) (p.z + 2) ≡ Ok (at, (border_kind (eqb p.z n) 5))
   pub z_down : let at = value_at n samples (p.x + 1) (p.y + 1) p.z in
-      reading_at n samples (p.x + 1) (p.y + 1) p.z ≡ Value at (border_kind (eqb p.z 0) 4)
+      reading_at n samples (p.x + 1) (p.y + 1) p.z ≡ Ok (at, (border_kind (eqb p.z 0) 4))
 
 -- ---- what was read before is read as before
 
@@ -125,15 +124,15 @@ pub record ReadAsBefore : Type 0 where
 
 pub record PlaceKindPromises : Type 0 where
   pub point : (n : ℕ) (samples : List Float) (x y z : ℤ) → Placed n x y z (read_point n samples x y z)
-  pub came_from : (n : ℕ) (samples : List Float) (x y z : ℤ) (v : Float) (kind : PlaceKind) → read_point n samples x y z ≡ PointRead.Value v kind
+  pub came_from : (n : ℕ) (samples : List Float) (x y z : ℤ) (v : Float) (kind : PlaceKind) → read_point n samples x y z ≡ Ok (v, kind)
       → CameFrom n samples v kind
   -- a record's point read is refused exactly as the first of its judges, 15 the last, says; and else answers the point's value and kind
   pub record_judged : (bytes : List ℕ) (x y z : ℤ)
       → let n = (header_of bytes).block.subdivisions in
-      Judged (sample_judges bytes x y z) (λ r. record_point bytes x y z ≡ PointRead.Refused r)
-      (record_point bytes x y z ≡ PointRead.Value (point_value n (samples_of bytes) x y z) (point_kind n x y z))
+      Judged (sample_judges bytes x y z) (λ r. record_point bytes x y z ≡ Err r)
+      (record_point bytes x y z ≡ Ok ((point_value n (samples_of bytes) x y z), (point_kind n x y z)))
   pub record_point_lem : (bytes : List ℕ) (x y z : ℤ) → Placed (header_of bytes).block.subdivisions x y z (record_point bytes x y z)
-  pub record_came_from : (bytes : List ℕ) (x y z : ℤ) (v : Float) (kind : PlaceKind) → record_point bytes x y z ≡ PointRead.Value v kind
+  pub record_came_from : (bytes : List ℕ) (x y z : ℤ) (v : Float) (kind : PlaceKind) → record_point bytes x y z ≡ Ok (v, kind)
       → CameFrom (header_of bytes).block.subdivisions (samples_of bytes) v kind
   -- at a point of the block a gradient reads an extension face exactly at the border, on that axis and side
   pub gradient : (n : ℕ) (samples : List Float) (p : Xyz) → Within n p → GradientReads n samples p

@@ -2,7 +2,7 @@
 -- answer and leave in the buffers lent to them: the model's `extract`, `read_record`, `write_record`, `read_point`, `record_point` and the viewer's three answers, to
 -- each of which the `ensures` of the call says that the code is equal. The words are set down in Orders (judging), Left (buffers) and closed's Clauses (no hole);
 -- what was promised for a request of document 02 stands in a file of its own. Definitions only.
-use Rattle.std.specs.Prelude.{ℕ, ◌+◌, ◌*◌, ◌^◌, ◌≤◌, ◌<◌, ◌≡◌, cond, List, [], ◌∷◌, ◌++◌, map, T, ℤ, Float, length, get_or, take}
+use Rattle.std.specs.Prelude.{ℕ, ◌+◌, ◌*◌, ◌^◌, ◌≤◌, ◌<◌, ◌≡◌, cond, List, [], ◌∷◌, ◌++◌, map, T, ℤ, Float, length, get_or, take, Err, Ok}
 use Rattle.std.specs.Float.Ieee as Ieee
 use Rattle.std.specs.Float.{nan, binary32}
 use Rattle.std.specs.Float.Ieee.{fits}
@@ -11,10 +11,6 @@ use Rattle.model.specs.declared.Counts.{Counts}
 use Rattle.model.specs.declared.Header.{Header}
 use Rattle.model.specs.declared.Refusal.{Refusal}
 use Rattle.model.specs.declared.Refusal.TheVariants.{NoRoom}
-use Rattle.model.specs.declared.Extraction.TheVariants as Extraction
-use Rattle.model.specs.declared.PointRead.TheVariants as PointRead
-use Rattle.model.specs.declared.RecordRead.TheVariants as RecordRead
-use Rattle.model.specs.declared.RecordWritten.TheVariants as RecordWritten
 use Rattle.model.specs.Limits.{most_mask}
 use Rattle.model.specs.Star.{Star, subdivisions}
 use Rattle.model.specs.Mesh.{store_length, regular_mesh, mesh_of}
@@ -48,27 +44,27 @@ use Rattle.promises.specs.Layered.{LayeredPromises}
 pub record EveryCallIsAnswered : Type 0 where
   -- extraction is refused exactly as the first of 1 to 10 that refuses says, and otherwise accepted with the counts of the definition's mesh
   pub extraction : (s : Star) (lent : Lent)
-      → Judged (extraction_judges s lent) (λ r. answered s lent ≡ Extraction.Refused r) (answered s lent ≡ Extraction.Mesh (counts s))
+      → Judged (extraction_judges s lent) (λ r. answered s lent ≡ Err r) (answered s lent ≡ Ok (counts s))
   -- refused, it leaves every lent buffer as it was
-  pub extraction_untouched : (s : Star) (lent : Lent) (r : Refusal) → answered s lent ≡ Extraction.Refused r → left s lent ≡ lent
+  pub extraction_untouched : (s : Star) (lent : Lent) (r : Refusal) → answered s lent ≡ Err r → left s lent ≡ lent
   -- the reader is refused exactly as the first of 11, 12, 1, 2, 3, 13, 7, 14 says, and otherwise answers the record's block
   pub reading : (bytes : List ℕ) (samples : List Float)
-      → Judged (reading_judges bytes samples) (λ r. (read_record bytes samples).answer ≡ RecordRead.Refused r)
-      ((read_record bytes samples).answer ≡ RecordRead.Block (header_of bytes))
+      → Judged (reading_judges bytes samples) (λ r. (read_record bytes samples).answer ≡ Err r)
+      ((read_record bytes samples).answer ≡ Ok (header_of bytes))
   -- refused, it leaves the lent samples as they were
-  pub reading_untouched : (bytes : List ℕ) (samples : List Float) (r : Refusal) → (read_record bytes samples).answer ≡ RecordRead.Refused r
+  pub reading_untouched : (bytes : List ℕ) (samples : List Float) (r : Refusal) → (read_record bytes samples).answer ≡ Err r
       → (read_record bytes samples).samples ≡ samples
   -- the writer is refused exactly as the first of 1 to 7 and 14 says, and otherwise answers the record's length
   pub writing : (h : Header) (centre neighbours : List Float) (bytes : List ℕ)
-      → Judged (writing_judges h centre neighbours bytes) (λ r. (write_record h centre neighbours bytes).answer ≡ RecordWritten.Refused r)
-      ((write_record h centre neighbours bytes).answer ≡ RecordWritten.Bytes (header_length + 4 * length (centre ++ neighbours)))
+      → Judged (writing_judges h centre neighbours bytes) (λ r. (write_record h centre neighbours bytes).answer ≡ Err r)
+      ((write_record h centre neighbours bytes).answer ≡ Ok (header_length + 4 * length (centre ++ neighbours)))
   -- refused, it leaves the lent bytes as they were
   pub writing_untouched : (h : Header) (centre neighbours : List Float) (bytes : List ℕ) (r : Refusal)
-      → (write_record h centre neighbours bytes).answer ≡ RecordWritten.Refused r → (write_record h centre neighbours bytes).bytes ≡ bytes
+      → (write_record h centre neighbours bytes).answer ≡ Err r → (write_record h centre neighbours bytes).bytes ≡ bytes
   -- a point read is refused exactly as the first of 1, 4, 15 says, and otherwise answers the point's value and where it is stored
   pub point : (n : ℕ) (samples : List Float) (x y z : ℤ)
-      → Judged (point_judges n samples x y z) (λ r. read_point n samples x y z ≡ PointRead.Refused r)
-      (read_point n samples x y z ≡ PointRead.Value (point_value n samples x y z) (point_kind n x y z))
+      → Judged (point_judges n samples x y z) (λ r. read_point n samples x y z ≡ Err r)
+      (read_point n samples x y z ≡ Ok (point_value n samples x y z, point_kind n x y z))
   -- the viewer's calls answer n, whether the block is blank, and a point's bits; or 100 and 2^32 plus the number of the first refusal
   pub viewer_subdivisions : (bytes : List ℕ) → Packed (record_judges bytes) 100 (header_of bytes).block.subdivisions (subdivisions_answer bytes)
   pub viewer_blank : (bytes : List ℕ) → Packed (record_judges bytes) 100 (cond (is_blank (star_of bytes)) 1 0) (blank_answer bytes)
@@ -87,14 +83,14 @@ pub record EqualMesh (s : Star) (lent : Lent) (c : Counts) : Type 0 where
 
 pub record EqualToTheDefinition : Type 0 where
   -- accepted, extraction answers and leaves the definition's mesh and nothing else
-  pub mesh : (s : Star) (lent : Lent) (c : Counts) → answered s lent ≡ Extraction.Mesh c → EqualMesh s lent c
+  pub mesh : (s : Star) (lent : Lent) (c : Counts) → answered s lent ≡ Ok c → EqualMesh s lent c
   -- the counts that refusal 10 asks for are those of the definition's mesh
-  pub wanted : (s : Star) (lent : Lent) (c : Counts) → answered s lent ≡ Extraction.Refused (NoRoom c) → c ≡ counts s
+  pub wanted : (s : Star) (lent : Lent) (c : Counts) → answered s lent ≡ Err (NoRoom c) → c ≡ counts s
   -- accepted, the reader leaves the record's samples in the first places, and the writer the block's record
-  pub samples : (bytes : List ℕ) (samples : List Float) (h : Header) → (read_record bytes samples).answer ≡ RecordRead.Block h
+  pub samples : (bytes : List ℕ) (samples : List Float) (h : Header) → (read_record bytes samples).answer ≡ Ok h
       → Laid (count_of bytes) (samples_of bytes) samples (read_record bytes samples).samples
   pub bytes : (h : Header) (centre neighbours : List Float) (bytes : List ℕ) (k : ℕ)
-      → (write_record h centre neighbours bytes).answer ≡ RecordWritten.Bytes k
+      → (write_record h centre neighbours bytes).answer ≡ Ok k
       → Laid k (record_of h (centre ++ neighbours)) bytes (write_record h centre neighbours bytes).bytes
 
 -- ---- 3. no hole: regular cells, and with Finer the named sides; not the outer faces where no neighbour is finer
@@ -124,15 +120,15 @@ header_floats h = h.threshold ∷ h.block.base.x ∷ h.block.base.y ∷ h.block.
 pub record RecordsRoundTrip : Type 0 where
   -- reading then writing gives the same bytes
   pub read_write : (bytes : List ℕ) (samples : List Float) (out : List ℕ) (h : Header)
-      → AreBytes bytes → (read_record bytes samples).answer ≡ RecordRead.Block h → length bytes ≤ length out
+      → AreBytes bytes → (read_record bytes samples).answer ≡ Ok h → length bytes ≤ length out
       → let read = (read_record bytes samples).samples in
-      write_record h (centre_of h read) (neighbours_of h read) out ≡ record { answer = RecordWritten.Bytes (length bytes); bytes = laid bytes out }
+      write_record h (centre_of h read) (neighbours_of h read) out ≡ record { answer = Ok (length bytes); bytes = laid bytes out }
   -- writing then reading gives the same block
   pub write_read : (h : Header) (centre neighbours : List Float) (out : List ℕ) (samples : List Float) (k : ℕ)
       → AreFloats (header_floats h) → AreFloats (centre ++ neighbours)
-      → (write_record h centre neighbours out).answer ≡ RecordWritten.Bytes k → length (centre ++ neighbours) ≤ length samples
+      → (write_record h centre neighbours out).answer ≡ Ok k → length (centre ++ neighbours) ≤ length samples
       → read_record (take k (write_record h centre neighbours out).bytes) samples
-      ≡ record { answer = RecordRead.Block h; samples = laid (centre ++ neighbours) samples }
+      ≡ record { answer = Ok h; samples = laid (centre ++ neighbours) samples }
 
 -- ---- all, with 5, room that is enough, and 6: the starred figures of document 01, and the requests of document 02
 
@@ -140,9 +136,9 @@ pub record Promises : Type 0 where
   pub every_call : EveryCallIsAnswered
   pub definition : EqualToTheDefinition
   -- accepted, the regular part of what extraction leaves has no hole
-  pub no_hole : (s : Star) (lent : Lent) (c : Counts) → answered s lent ≡ Extraction.Mesh c → NoHoleIsLeft s lent c
+  pub no_hole : (s : Star) (lent : Lent) (c : Counts) → answered s lent ≡ Ok c → NoHoleIsLeft s lent c
   -- and there is no gap at its named sides
-  pub no_gap : (s : Star) (lent : Lent) (c : Counts) → answered s lent ≡ Extraction.Mesh c → NoGapIsLeft s lent c
+  pub no_gap : (s : Star) (lent : Lent) (c : Counts) → answered s lent ≡ Ok c → NoGapIsLeft s lent c
   pub round_trips : RecordsRoundTrip
   -- 5: room that is enough, whatever the samples are
   pub room : (s : Star) → s.mask ≤ most_mask → Enough s

@@ -1,17 +1,14 @@
 -- What the buyer was promised of the repair pass (document 02, [5]), for every input: what the call answers and leaves, what its list tells, and that what it
 -- leaves is not refused for its samples or its faces. It speaks of repair's `repair`, to which the `ensures` of the call says that the code is equal, in the
 -- words of repair's Definition. Definitions only.
-use Rattle.std.specs.Prelude.{ℕ, ◌+◌, ◌*◌, ◌<◌, ◌≡◌, true, List, [], ◌∷◌, ◌++◌, T, Float, length, get_or, take}
+use Rattle.std.specs.Prelude.{ℕ, ◌+◌, ◌*◌, ◌<◌, ◌≡◌, true, List, [], ◌∷◌, ◌++◌, T, Float, length, get_or, take, Err, Ok}
 use Rattle.std.specs.Float.{binary32}
 use Rattle.std.specs.Float.Ieee.{fits}
 use Rattle.laws.specs.Steps.{each}
 use Rattle.model.specs.declared.Header.{Header}
 use Rattle.model.specs.declared.Refusal.{Refusal}
-use Rattle.model.specs.declared.Extraction.TheVariants as Extraction
-use Rattle.model.specs.declared.Verdict.TheVariants.{Passed}
 use Rattle.model.specs.Judging.{usable, judge_star, judge_faces}
 use Rattle.repair.specs.declared.Change.{Change}
-use Rattle.repair.specs.declared.Repaired.TheVariants as Repaired
 use Rattle.repair.specs.Definition.{Delivery, as_star, in_list, applied, undone, no_change, words_of, list_of, judge_filler, judge_changes, repair}
 use Rattle.promises.specs.Left.{Laid, Lent, answered, counts}
 use Rattle.promises.specs.Orders.{Judge, judge, Judged, lent_judges, room_judges}
@@ -28,18 +25,18 @@ repair_judges h d filler changes =
 pub record RepairIsAnswered : Type 0 where
   -- it is refused exactly as the first of 1 to 6, 18, 19 says, and otherwise answers the number of changes
   pub repairing : (h : Header) (d : Delivery) (filler : Float) (changes : List ℕ)
-      → Judged (repair_judges h d filler changes) (λ r. (repair h d filler changes).answer ≡ Repaired.Refused r)
-      ((repair h d filler changes).answer ≡ Repaired.Changes (length (list_of h d filler)))
+      → Judged (repair_judges h d filler changes) (λ r. (repair h d filler changes).answer ≡ Err r)
+      ((repair h d filler changes).answer ≡ Ok (length (list_of h d filler)))
   -- refused, it leaves the delivery and the lent list as they were
   pub delivery_untouched : (h : Header) (d : Delivery) (filler : Float) (changes : List ℕ) (r : Refusal)
-      → (repair h d filler changes).answer ≡ Repaired.Refused r → (repair h d filler changes).left ≡ d
+      → (repair h d filler changes).answer ≡ Err r → (repair h d filler changes).left ≡ d
   pub list_untouched : (h : Header) (d : Delivery) (filler : Float) (changes : List ℕ) (r : Refusal)
-      → (repair h d filler changes).answer ≡ Repaired.Refused r → (repair h d filler changes).changes ≡ changes
+      → (repair h d filler changes).answer ≡ Err r → (repair h d filler changes).changes ≡ changes
   -- accepted, it leaves the delivery with every change made, and the changes in the first places, four words each
   pub made : (h : Header) (d : Delivery) (filler : Float) (changes : List ℕ) (k : ℕ)
-      → (repair h d filler changes).answer ≡ Repaired.Changes k → (repair h d filler changes).left ≡ applied (list_of h d filler) d
+      → (repair h d filler changes).answer ≡ Ok k → (repair h d filler changes).left ≡ applied (list_of h d filler) d
   pub list : (h : Header) (d : Delivery) (filler : Float) (changes : List ℕ) (k : ℕ)
-      → (repair h d filler changes).answer ≡ Repaired.Changes k
+      → (repair h d filler changes).answer ≡ Ok k
       → Laid (4 * k) (each words_of (list_of h d filler)) changes (repair h d filler changes).changes
 
 -- ---- what the list tells
@@ -67,26 +64,26 @@ pub record ListTells (h : Header) (d : Delivery) (filler : Float) : Type 0 where
 
 pub record SoundDelivery (h : Header) (left : Delivery) : Type 0 where
   -- 1 to 7 and 8 are not met
-  pub block_passes : judge_star (as_star h left) ≡ Passed
-  pub faces_pass : judge_faces (as_star h left) ≡ Passed
+  pub block_passes : judge_star (as_star h left) ≡ Ok tt
+  pub faces_pass : judge_faces (as_star h left) ≡ Ok tt
   -- so it meshes: extraction is refused exactly as 9 or 10 says of the buffers, and otherwise accepted
   pub meshes : (lent : Lent)
-      → Judged (room_judges (as_star h left) lent) (λ r. answered (as_star h left) lent ≡ Extraction.Refused r)
-      (answered (as_star h left) lent ≡ Extraction.Mesh (counts (as_star h left)))
+      → Judged (room_judges (as_star h left) lent) (λ r. answered (as_star h left) lent ≡ Err r)
+      (answered (as_star h left) lent ≡ Ok (counts (as_star h left)))
   -- and a second pass, whatever its filler, lists nothing and leaves all as it is
   pub nothing_again : (filler : Float) (changes : List ℕ) → usable filler ≡ true
-      → repair h left filler changes ≡ record { answer = Repaired.Changes 0; left = left; changes = changes }
+      → repair h left filler changes ≡ record { answer = Ok 0; left = left; changes = changes }
 
 -- ---- all of it
 
 pub record RepairPromises : Type 0 where
   pub answered_always : RepairIsAnswered
   pub tells : (h : Header) (d : Delivery) (filler : Float) (changes : List ℕ) (k : ℕ)
-      → (repair h d filler changes).answer ≡ Repaired.Changes k → ListTells h d filler
+      → (repair h d filler changes).answer ≡ Ok k → ListTells h d filler
   -- for any filler that is an f32
   pub mended : (h : Header) (d : Delivery) (filler : Float) (changes : List ℕ) (k : ℕ) → T (fits binary32 filler)
-      → (repair h d filler changes).answer ≡ Repaired.Changes k → SoundDelivery h (repair h d filler changes).left
+      → (repair h d filler changes).answer ≡ Ok k → SoundDelivery h (repair h d filler changes).left
   -- a delivery that 1 to 8 accept is not changed, and nothing is listed
   pub accepted_unchanged : (h : Header) (d : Delivery) (filler : Float) (changes : List ℕ) → usable filler ≡ true
-      → judge_star (as_star h d) ≡ Passed → judge_faces (as_star h d) ≡ Passed
-      → repair h d filler changes ≡ record { answer = Repaired.Changes 0; left = d; changes = changes }
+      → judge_star (as_star h d) ≡ Ok tt → judge_faces (as_star h d) ≡ Ok tt
+      → repair h d filler changes ≡ record { answer = Ok 0; left = d; changes = changes }

@@ -1,12 +1,12 @@
 -- What the buyer was promised of the weld (document 02, [10]), for every input: what extraction with the further list answers and leaves, what the
 -- pass answers and leaves of any lists, and what it leaves of extraction's mesh. It speaks of the model's `extract_whole` and of weld's `weld`, to
 -- which the `ensures` of the calls say that the code is equal, in the words of weld's Definition. Definitions only.
-use Rattle.std.specs.Prelude.{ℕ, ◌*◌, ◌≤◌, ◌<◌, ◌≡◌, true, List, [], ◌∷◌, ◌++◌, ◌↔◌, length, get_or, take}
+use Rattle.std.specs.Prelude.{ℕ, ◌*◌, ◌≤◌, ◌<◌, ◌≡◌, true, List, [], ◌∷◌, ◌++◌, ◌↔◌, length, get_or, take, Err, Ok}
 use Rattle.std.specs.Float.{nan}
 use Rattle.laws.specs.Steps.{listed, each}
 use Rattle.model.specs.declared.Counts.{Counts}
 use Rattle.model.specs.declared.Refusal.{Refusal}
-use Rattle.model.specs.declared.Extraction.{Extraction}
+use Rattle.model.specs.Answers.{Extraction}
 use Rattle.model.specs.Star.{Star, subdivisions}
 use Rattle.model.specs.Judging.{judge_faces, judge_store, judge_room, judge_buffer}
 use Rattle.model.specs.Corners.{judge_named}
@@ -16,7 +16,6 @@ use Rattle.closed.specs.Clauses.{Edge, number, OfBlock, Crossed, no_vertex, edge
 use Rattle.finer.specs.Labels.{labelled_mesh}
 use Rattle.finer.specs.Clauses.{IsSide, CoarseClosed, BorderClosed, SideCorners, RegularLying, SideLying, SameBits}
 use Rattle.weights.specs.Clauses.{AreF32}
-use Rattle.weld.specs.declared.Welded.TheVariants as Welded
 use Rattle.weld.specs.Definition.{number_of, kept, kept_before, new_index, closed_up, Outcome, weld}
 use Rattle.promises.specs.Left.{Laid, Lent, answered, left, counts, number_in, mesh_in}
 use Rattle.promises.specs.Orders.{Judge, judge, Judged, block_judges}
@@ -63,18 +62,18 @@ module _ (s : Star) (lent : LentWhole) where
     -- of these a vertex has the mark exactly if a transition cell made it: those come after all that the regular cells made
     pub marks : (i : ℕ) → i < c.vertices → (edge_in left_whole i ≡ no_edge) ↔ (length (regular_mesh s).made ≤ i)
     -- all else is what extraction answers, leaves and reports without it
-    pub answered_alike : answered s lent.mesh ≡ Extraction.Mesh c
+    pub answered_alike : answered s lent.mesh ≡ Ok c
     pub left_alike : left s lent.mesh ≡ left_whole.mesh
     pub reads_alike : reported s lent.mesh ≡ whole_outcome.mesh.reads
 
 pub record WholeExtraction : Type 0 where
   -- it is refused exactly as the first of 1 to 9, 23, 10 says, and otherwise accepted with the counts of the definition's mesh
   pub extraction : (s : Star) (lent : LentWhole)
-      → Judged (whole_judges s lent) (λ r. answered_whole s lent ≡ Extraction.Refused r) (answered_whole s lent ≡ Extraction.Mesh (counts s))
+      → Judged (whole_judges s lent) (λ r. answered_whole s lent ≡ Err r) (answered_whole s lent ≡ Ok (counts s))
   -- refused, it leaves every list as it was and reports no reads
-  pub untouched : (s : Star) (lent : LentWhole) (r : Refusal) → answered_whole s lent ≡ Extraction.Refused r → left_whole s lent ≡ lent
-  pub no_reads : (s : Star) (lent : LentWhole) (r : Refusal) → answered_whole s lent ≡ Extraction.Refused r → (whole_outcome s lent).mesh.reads ≡ 0
-  pub accepted : (s : Star) (lent : LentWhole) (c : Counts) → answered_whole s lent ≡ Extraction.Mesh c → WholeIsLeft s lent c
+  pub untouched : (s : Star) (lent : LentWhole) (r : Refusal) → answered_whole s lent ≡ Err r → left_whole s lent ≡ lent
+  pub no_reads : (s : Star) (lent : LentWhole) (r : Refusal) → answered_whole s lent ≡ Err r → (whole_outcome s lent).mesh.reads ≡ 0
+  pub accepted : (s : Star) (lent : LentWhole) (c : Counts) → answered_whole s lent ≡ Ok c → WholeIsLeft s lent c
 
 -- ---- the pass, over any lists and counts
 
@@ -148,10 +147,10 @@ pub record IsWelded (c : Counts) (before after : LentWhole) (new : Counts) : Typ
 pub record WeldPass : Type 0 where
   -- it is refused exactly as the first of 14, 14, 23, 17 says, and otherwise answers the new counts
   pub pass : (c : Counts) (lists : LentWhole)
-      → Judged (weld_judges c lists) (λ r. (weld_outcome c lists).answer ≡ Welded.Refused r) ((weld_outcome c lists).answer ≡ Welded.Mesh (new_counts c lists))
+      → Judged (weld_judges c lists) (λ r. (weld_outcome c lists).answer ≡ Err r) ((weld_outcome c lists).answer ≡ Ok (new_counts c lists))
   -- refused, it leaves every list as it was
-  pub untouched : (c : Counts) (lists : LentWhole) (r : Refusal) → (weld_outcome c lists).answer ≡ Welded.Refused r → left_welded c lists ≡ lists
-  pub accepted : (c : Counts) (lists : LentWhole) (new : Counts) → (weld_outcome c lists).answer ≡ Welded.Mesh new → IsWelded c lists (left_welded c lists) new
+  pub untouched : (c : Counts) (lists : LentWhole) (r : Refusal) → (weld_outcome c lists).answer ≡ Err r → left_welded c lists ≡ lists
+  pub accepted : (c : Counts) (lists : LentWhole) (new : Counts) → (weld_outcome c lists).answer ≡ Ok new → IsWelded c lists (left_welded c lists) new
 
 -- ---- the pass over what extraction leaves
 
@@ -202,7 +201,7 @@ module _ (s : Star) (c : Counts) (lists : LentWhole) where
 
   pub record MeshIsWelded : Type 0 where
     -- it is never refused
-    pub welded : (weld_outcome c lists).answer ≡ Welded.Mesh (new_counts c lists)
+    pub welded : (weld_outcome c lists).answer ≡ Ok (new_counts c lists)
     -- demand 3 holds of the regular cells' part of the lists, which comes first, before the pass and after it
     pub before : NoHole s (mesh_in lists.mesh (edge_in lists) regular_vertices regular_triangles)
     pub after : NoHole s (mesh_in (left_welded c lists).mesh (edge_in (left_welded c lists)) regular_kept regular_triangles)
@@ -220,4 +219,4 @@ pub record WeldPromises : Type 0 where
   pub whole : WholeExtraction
   pub any_lists : WeldPass
   -- accepted, extraction leaves lists that are welded
-  pub of_extraction : (s : Star) (lent : LentWhole) (c : Counts) → answered_whole s lent ≡ Extraction.Mesh c → MeshIsWelded s c (left_whole s lent)
+  pub of_extraction : (s : Star) (lent : LentWhole) (c : Counts) → answered_whole s lent ≡ Ok c → MeshIsWelded s c (left_whole s lent)

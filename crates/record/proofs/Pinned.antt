@@ -7,8 +7,8 @@ use Rattle.record.proofs.fields.sample_from.Reads as sample-from
 use Rattle.record.proofs.fields.subdivisions_of.Reads as subdivisions-of
 use Rattle.record.proofs.fields.mask_of.Reads as mask-of
 use Rattle.record.proofs.fields.header_of.Reads as header_of
-use Rattle.record.proofs.fields.count_of.Reads as count_of
-use Rattle.record.proofs.fields.sample_of.Reads as sample-of
+use Rattle.record.proofs.passed.Record.count.Reads as record-count
+use Rattle.record.proofs.passed.Record.sample.Reads as record-sample
 use Rattle.record.proofs.judging.is_usable.Reads as is_usable
 use Rattle.record.proofs.judging.judge_record.Reads as judge-record
 use Rattle.record.proofs.reader.read_record.Reads as read-record
@@ -26,11 +26,11 @@ mask_of_pinned κs a r r' e e' h k = pinned h k
 pub header_of_pinned : (κs : Lfts 1) (a : _) (r r' : _) (e e' : _) → header_of.Learnt κs a r e → header_of.Learnt κs a r' e' → r ≡ r'
 header_of_pinned κs a r r' e e' h k = pinned h k
 
-pub count_of_pinned : (κs : Lfts 1) (a : _) (r r' : _) (e e' : _) → count_of.Learnt κs a r e → count_of.Learnt κs a r' e' → r ≡ r'
-count_of_pinned κs a r r' e e' h k = pinned h k
+pub Record_count_pinned : (κs : Lfts 2) (a : _) (r r' : _) (e e' : _) → record-count.Learnt κs a r e → record-count.Learnt κs a r' e' → r ≡ r'
+Record_count_pinned κs a r r' e e' h k = pinned h k
 
-pub sample_of_pinned : (κs : Lfts 1) (a : _) (r r' : _) (e e' : _) → sample-of.Learnt κs a r e → sample-of.Learnt κs a r' e' → r ≡ r'
-sample_of_pinned κs a r r' e e' h k = pinned h k
+pub Record_sample_pinned : (κs : Lfts 2) (a : _) (r r' : _) (e e' : _) → record-sample.Learnt κs a r e → record-sample.Learnt κs a r' e' → r ≡ r'
+Record_sample_pinned κs a r r' e e' h k = pinned h k
 
 pub is_usable_pinned : (κs : Lfts 0) (a : _) (r r' : _) (e e' : _) → is_usable.Learnt κs a r e → is_usable.Learnt κs a r' e' → r ≡ r'
 is_usable_pinned κs a r r' e e' h k = pinned h k
@@ -43,5 +43,5 @@ pub read_record_pinned : (κs : Lfts 2) (a : _) (r r' : _) (e e' : _) → read-r
 read_record_pinned κs a r r' e e' h k = (λ i. (pinned h k i).answer, λ i. (pinned h k i).samples)
 
 pub write_record_pinned : (κs : Lfts 3) (a : _) (r r' : _) (e e' : _) → write-record.Learnt κs a r e → write-record.Learnt κs a r' e'
-    → (r ≡ r') × (e.1.1.1.0.now ≡ e'.1.1.1.0.now)
+    → (r ≡ r') × (e.1.0.now ≡ e'.1.0.now)
 write_record_pinned κs a r r' e e' h k = (λ i. (pinned h k i).answer, λ i. (pinned h k i).bytes)

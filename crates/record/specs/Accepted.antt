@@ -1,13 +1,12 @@
 -- What holds of a record that no judge refuses, by name, and that this is all that the judges ask. Assumes nothing.
 use Prim.Native.Nat.{ℕ, zero, suc, ◌+◌, ◌-◌, ◌*◌, ◌/◌, ◌≤◌, ◌<◌}
 use Rattle.std.proofs.Common.{arith, sym, ap, ◌∙◌, leb-true, eqb-true, le-leb, eq-eqb}
-use Rattle.std.specs.Prelude.{◌≡◌, true, not, List, T, leb, eqb, Float, length, get_or}
+use Rattle.std.specs.Prelude.{◌≡◌, true, not, List, T, leb, eqb, Float, length, get_or, Ok}
 use Rattle.std.proofs.Math.Bool.{and-eq-true_iff}
 use Rattle.std.specs.Float.{nan}
 use Rattle.std.specs.Float.Ieee.{is_nan}
 use Rattle.model.specs.declared.Block.{Block}
 use Rattle.model.specs.declared.Refusal.TheVariants.{Subdivisions, Mask, RecordLength, Version, SampleCount}
-use Rattle.model.specs.declared.Verdict.TheVariants.{Passed}
 use Rattle.model.specs.Limits.{most_subdivisions, most_mask}
 use Rattle.model.specs.Judging.{usable, judge_measures, judge_samples}
 use Rattle.model.specs.Words.{word_at, float_at}
@@ -36,7 +35,7 @@ measure block threshold (suc (suc zero)) = block.base.y
 measure block threshold (suc (suc (suc zero))) = block.base.z
 measure block threshold (suc (suc (suc (suc k)))) = block.size
 
-pub measure_number : (block : Block) (threshold : Float) (k : ℕ) → judge_measures block threshold ≡ Passed → T (not (is_nan (measure block threshold k)))
+pub measure_number : (block : Block) (threshold : Float) (k : ℕ) → judge_measures block threshold ≡ Ok tt → T (not (is_nan (measure block threshold k)))
 measure_number block threshold zero e = usable_number threshold (measure_usable_lem block threshold 4 e (omega arith))
 measure_number block threshold (suc zero) e = usable_number block.base.x (measure_usable_lem block threshold 0 e (omega arith))
 measure_number block threshold (suc (suc zero)) e = usable_number block.base.y (measure_usable_lem block threshold 1 e (omega arith))
@@ -52,7 +51,7 @@ pub record Accepted (bytes : List ℕ) : Type 0 where
   pub some : 1 ≤ (header_of bytes).block.subdivisions
   pub few : (header_of bytes).block.subdivisions ≤ most_subdivisions
   pub sides : (header_of bytes).mask ≤ most_mask
-  pub measures : judge_measures (header_of bytes).block (header_of bytes).threshold ≡ Passed
+  pub measures : judge_measures (header_of bytes).block (header_of bytes).threshold ≡ Ok tt
   pub counted : length bytes ≡ sample_from (count_of bytes)
   pub usable_samples : (k : ℕ) → k < count_of bytes → usable (float_at bytes (sample_from k)) ≡ true
 
@@ -69,7 +68,7 @@ module _ (bytes : List ℕ) (a : Accepted bytes) where
   pub count_by_length : (length bytes - header_length) / 4 ≡ count_of bytes
   count_by_length = rw a.counted (omega arith)
 
-pub accepted : (bytes : List ℕ) → judge_record bytes ≡ Passed → Accepted bytes
+pub accepted : (bytes : List ℕ) → judge_record bytes ≡ Ok tt → Accepted bytes
 unfolding judge_record header_of
 accepted bytes e =
     let n = (header_of bytes).block.subdivisions in
@@ -97,12 +96,12 @@ accepted bytes e =
           ∙ samples_usable (samples_of bytes) k count-passed.1 (rw (length_samples bytes) h);
     }
 
-pub passes : (bytes : List ℕ) → Accepted bytes → judge_record bytes ≡ Passed
+pub passes : (bytes : List ℕ) → Accepted bytes → judge_record bytes ≡ Ok tt
 unfolding judge_record header_of
 passes bytes a =
     let n = (header_of bytes).block.subdivisions in
     let counted : length bytes - header_length ≡ 4 * count_of bytes = omega (arith, a.counted) in
-    let samples : judge_samples (samples_of bytes) ≡ Passed =
+    let samples : judge_samples (samples_of bytes) ≡ Ok tt =
     samples_pass (samples_of bytes)
     (λ k h. let l : k < count_of bytes = rw (length_samples bytes) at h in ap usable (sample_is bytes k l) ∙ a.usable_samples k l) in
     rw (

@@ -1,12 +1,10 @@
 -- What holds of a block that was read: the record passed, its samples fit the list that was lent, and they are what its first places hold.
 -- Assumes nothing.
-use Rattle.std.specs.Prelude.{ℕ, ◌≤◌, ◌≡◌, refl, List, Float, length}
+use Rattle.std.specs.Prelude.{ℕ, ◌≤◌, ◌≡◌, refl, List, Float, length, Err, Ok}
 use Rattle.std.proofs.Common.{sym, ap, ◌∙◌}
 use Rattle.model.specs.declared.Header.{Header}
-use Rattle.model.specs.declared.Verdict.{Verdict}
-use Rattle.model.specs.declared.Verdict.TheVariants.{Passed, Refused}
-use Rattle.model.specs.declared.RecordRead.{RecordRead}
-use Rattle.model.specs.declared.RecordRead.TheVariants as RecordRead
+use Rattle.model.specs.Answers.{Verdict}
+use Rattle.model.specs.Answers.{RecordRead}
 use Rattle.laws.specs.Steps.{laid}
 use Rattle.laws.specs.Lists.{length_laid}
 use Rattle.model.specs.Limits.{most_subdivisions, most_mask}
@@ -19,10 +17,10 @@ use Rattle.record.specs.Accepted.{Accepted, accepted, length_samples}
 use Rattle.record.specs.ReadingOrder.{buffer_holds}
 
 -- a block is answered only by a record that passes
-answered : (bytes : List ℕ) (samples : List Float) (h : Header) (v : Verdict) → (read_answer bytes samples v).answer ≡ RecordRead.Block h
-    → (v ≡ Passed) × (header_of bytes ≡ h)
-answered bytes samples h Passed e = (refl, cc)
-answered bytes samples h (Refused r) e = (cc, cc)
+answered : (bytes : List ℕ) (samples : List Float) (h : Header) (v : Verdict) → (read_answer bytes samples v).answer ≡ Ok h
+    → (v ≡ Ok tt) × (header_of bytes ≡ h)
+answered bytes samples h (Ok _) e = (refl, cc)
+answered bytes samples h (Err r) e = (cc, cc)
 
 pub record WasRead (bytes : List ℕ) (samples : List Float) (h : Header) : Type 0 where
   pub header_is : header_of bytes ≡ h
@@ -30,7 +28,7 @@ pub record WasRead (bytes : List ℕ) (samples : List Float) (h : Header) : Type
   pub room : count_of bytes ≤ length samples
   pub filled : (read_record bytes samples).samples ≡ laid (samples_of bytes) samples
 
-pub was_read : (bytes : List ℕ) (samples : List Float) (h : Header) → (read_record bytes samples).answer ≡ RecordRead.Block h → WasRead bytes samples h
+pub was_read : (bytes : List ℕ) (samples : List Float) (h : Header) → (read_record bytes samples).answer ≡ Ok h → WasRead bytes samples h
 unfolding read_record
 was_read bytes samples h e =
     let judged = or_else (judge_record bytes) (judge_buffer (count_of bytes) (length samples)) in
@@ -50,7 +48,7 @@ pub record Held (h : Header) (held : ℕ) : Type 0 where
   pub counted : sample_count h.block.subdivisions h.mask ≤ held
 
 pub read_held : (bytes : List ℕ) (samples samples' : List Float) (read : RecordRead) (h : Header)
-    → record { answer = read; samples = samples' } ≡ read_record bytes samples → read ≡ RecordRead.Block h → Held h (length samples')
+    → record { answer = read; samples = samples' } ≡ read_record bytes samples → read ≡ Ok h → Held h (length samples')
 read_held bytes samples samples' read h e told =
     let was = was_read bytes samples h (sym (ap (λ (o : ReadOutcome). o.answer) e) ∙ told) in
     let same : length samples' ≡ length samples =

@@ -1,10 +1,9 @@
 -- Document 01, 'Block record': the reader's order in the parts that it is judged in. Assumes nothing.
-use Rattle.std.specs.Prelude.{ℕ, zero, suc, ◌+◌, ◌-◌, ◌*◌, ◌≤◌, ◌<◌, ◌≡◌, refl, List, leb, eqb, length}
+use Rattle.std.specs.Prelude.{ℕ, zero, suc, ◌+◌, ◌-◌, ◌*◌, ◌≤◌, ◌<◌, ◌≡◌, refl, List, leb, eqb, length, Err, Ok}
 use Rattle.std.proofs.Common.{arith, sym, ap, ◌∙◌, leb-true, eq-eqb, ne_eqb}
 use Rattle.std.proofs.Math.Bool.{and-eq-true_iff}
 use Rattle.model.specs.declared.Refusal.TheVariants.{BadSample, RecordLength, SampleCount, BufferTooShort}
-use Rattle.model.specs.declared.Verdict.{Verdict}
-use Rattle.model.specs.declared.Verdict.TheVariants.{Passed, Refused}
+use Rattle.model.specs.Answers.{Verdict}
 use Rattle.model.specs.Limits.{most_subdivisions, most_mask}
 use Rattle.model.specs.Refusals.{unless, or_else, first}
 use Rattle.model.specs.Judging.{usable, measure_usable, sample_usable, judge_subdivisions, judge_mask, judge_measures, judge_samples, judge_buffer}
@@ -39,7 +38,7 @@ abbrev pub judge_body : List ℕ → Verdict
 judge_body bytes = or_else (judge_count bytes) (first (sample_usable_at bytes) (count_of bytes))
 
 module _ (bytes : List ℕ) (count : ℕ) (is : count ≡ count_of bytes) where
-  pub body_refused : (length bytes - header_length ≡ 4 * count → ⊥) → Refused (SampleCount count) ≡ judge_body bytes
+  pub body_refused : (length bytes - header_length ≡ 4 * count → ⊥) → Err (SampleCount count) ≡ judge_body bytes
   body_refused h =
       rw (is, ne_eqb (length bytes - header_length) (4 * count_of bytes) (λ e. h (e ∙ ap (λ (k : ℕ). 4 * k) (sym is))))
 
@@ -62,12 +61,12 @@ pub record HeadPassed (bytes : List ℕ) : Type 0 where
   pub few : (header_of bytes).block.subdivisions ≤ most_subdivisions
   pub sides : (header_of bytes).mask ≤ most_mask
 
-pub length_passed : (bytes : List ℕ) → judge_length bytes ≡ Passed → header_length ≤ length bytes
+pub length_passed : (bytes : List ℕ) → judge_length bytes ≡ Ok tt → header_length ≤ length bytes
 length_passed bytes e =
     leb-true header_length (length bytes)
     ((and-eq-true_iff (leb header_length (length bytes)) (eqb (word_at bytes 0) (length bytes - 4))).0 (unless_passed _ RecordLength e)).0
 
-pub head_passed : (bytes : List ℕ) → judge_length bytes ≡ Passed → judge_head bytes ≡ Passed → HeadPassed bytes
+pub head_passed : (bytes : List ℕ) → judge_length bytes ≡ Ok tt → judge_head bytes ≡ Ok tt → HeadPassed bytes
 head_passed bytes l e =
     let n = (header_of bytes).block.subdivisions in
     let mask = (header_of bytes).mask in
@@ -77,5 +76,5 @@ head_passed bytes l e =
     record { long = length_passed bytes l; few = kind.few; sides = kind.sides }
 
 -- 14
-pub buffer_holds : (wanted held : ℕ) → judge_buffer wanted held ≡ Passed → wanted ≤ held
+pub buffer_holds : (wanted held : ℕ) → judge_buffer wanted held ≡ Ok tt → wanted ≤ held
 buffer_holds wanted held e = leb-true wanted held (unless_passed (leb wanted held) (BufferTooShort wanted) e)

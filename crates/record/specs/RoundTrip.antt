@@ -1,5 +1,5 @@
 -- Document 01, 'Block record': reading then writing gives the same bytes, and writing then reading the same block.
-use Rattle.std.specs.Prelude.{ℕ, ◌+◌, ◌*◌, ◌≤◌, ◌<◌, ◌≡◌, refl, Bool, true, false, cond, leb, Float}
+use Rattle.std.specs.Prelude.{ℕ, ◌+◌, ◌*◌, ◌≤◌, ◌<◌, ◌≡◌, refl, Bool, true, false, cond, leb, Float, Err, Ok}
 use Rattle.std.proofs.Common.{zero-le, mul-le-mul_right, arith, sym, ap₂, ◌∙◌, subst, length-drop, take_at}
 use Rattle.std.proofs.Math.Path.{ap}
 use mathlib.Core.List.{List, ◌++◌}
@@ -11,10 +11,7 @@ use Rattle.std.proofs.lemmas.List.{take-append-le, drop-append-le}
 use Rattle.std.proofs.Math.Seq.{length-take-le}
 use Rattle.model.specs.declared.Header.{Header}
 use Rattle.model.specs.declared.Refusal.TheVariants.{MissingNeighbour}
-use Rattle.model.specs.declared.Verdict.{Verdict}
-use Rattle.model.specs.declared.Verdict.TheVariants.{Passed, Refused}
-use Rattle.model.specs.declared.RecordRead.TheVariants as RecordRead
-use Rattle.model.specs.declared.RecordWritten.TheVariants as RecordWritten
+use Rattle.model.specs.Answers.{Verdict}
 use Rattle.laws.specs.Steps.{laid}
 use Rattle.model.specs.Samples.{sample_length}
 use Rattle.model.specs.Limits.{most_subdivisions, most_mask, side_count}
@@ -38,12 +35,12 @@ use Rattle.record.specs.Bytes.{measures_of, length_record, length_told, version_
 -- ---- reading then writing
 
 -- no neighbour is missing of a list that is long enough
-none_missing : (n mask held : ℕ) → mask ≤ most_mask → neighbours_length n mask ≤ held → judge_missing n mask held ≡ Passed
+none_missing : (n mask held : ℕ) → mask ≤ most_mask → neighbours_length n mask ≤ held → judge_missing n mask held ≡ Ok tt
 unfolding judge_missing
 none_missing n mask held sides h = passed_over_lem (side_there n mask held) 0 side_count refl (λ side from l. by side l (named mask side) refl) zero-le
   where
     by : (side : ℕ) → side < side_count → (b : Bool) → named mask side ≡ b
-        → cond b (unless (leb ((named_below mask side + 1) * neighbour_length n) held) (MissingNeighbour side)) Passed ≡ Passed
+        → cond b (unless (leb ((named_below mask side + 1) * neighbour_length n) held) (MissingNeighbour side)) (Ok tt) ≡ Ok tt
     by side l true e =
         let fits : (named_below mask side + 1) * neighbour_length n ≤ ones mask * neighbour_length n =
         mul-le-mul_right (neighbour_length n) (omega (arith, named_below_lem mask side sides l e)) in
@@ -58,12 +55,12 @@ module _ (bytes : List ℕ) (a : Accepted bytes) where
   mask = (header_of bytes).mask
 
   pub star_passes : (centre neighbours : List Float) → centre ++ neighbours ≡ samples_of bytes → length centre ≡ sample_length n
-      → judge_star (star (header_of bytes) centre neighbours) ≡ Passed
+      → judge_star (star (header_of bytes) centre neighbours) ≡ Ok tt
   unfolding judge_lent judge_star header_of
   star_passes centre neighbours whole centre_is =
       let neighbours_are : length neighbours ≡ neighbours_length n mask =
       omega (arith, length-append centre neighbours, ap length whole, length_samples bytes) in
-      let samples : judge_samples (centre ++ neighbours) ≡ Passed =
+      let samples : judge_samples (centre ++ neighbours) ≡ Ok tt =
       ap judge_samples whole
       ∙ samples_pass (samples_of bytes)
       (λ k h. let l : k < count_of bytes = rw (length_samples bytes) at h in ap usable (sample_is bytes k l) ∙ a.usable_samples k l) in
@@ -89,7 +86,7 @@ module _ (bytes : List ℕ) (a : Accepted bytes) where
 
   written : Bytes bytes → (out : List ℕ) → length bytes ≤ length out
       → write_record (header_of bytes) (take (sample_length n) (samples_of bytes)) (drop (sample_length n) (samples_of bytes)) out
-      ≡ record { answer = RecordWritten.Bytes (length bytes); bytes = laid bytes out }
+      ≡ record { answer = Ok (length bytes); bytes = laid bytes out }
   unfolding header_of write_record
   written small out room =
       let centre = take (sample_length n) (samples_of bytes) in
@@ -106,7 +103,7 @@ module _ (bytes : List ℕ) (a : Accepted bytes) where
       )
 
 -- what was read is the record's block
-pub read_star : (bytes : List ℕ) (samples : List Float) (h : Header) → (read_record bytes samples).answer ≡ RecordRead.Block h
+pub read_star : (bytes : List ℕ) (samples : List Float) (h : Header) → (read_record bytes samples).answer ≡ Ok h
     → let n = h.block.subdivisions in
     let read = (read_record bytes samples).samples in
     star h (take (sample_length n) read) (take (neighbours_length n h.mask) (drop (sample_length n) read)) ≡ star_of bytes
@@ -125,11 +122,11 @@ read_star bytes samples h e =
     (ap (λ (r : List Float). take k (drop c r)) was.filled ∙ neighbours_part bytes was.whole beyond))
 
 pub read_write : (bytes : List ℕ) (samples : List Float) (out : List ℕ) (h : Header)
-    → Bytes bytes → (read_record bytes samples).answer ≡ RecordRead.Block h → length bytes ≤ length out
+    → Bytes bytes → (read_record bytes samples).answer ≡ Ok h → length bytes ≤ length out
     → let n = h.block.subdivisions in
     let read = (read_record bytes samples).samples in
     write_record h (take (sample_length n) read) (take (neighbours_length n h.mask) (drop (sample_length n) read)) out
-    ≡ record { answer = RecordWritten.Bytes (length bytes); bytes = laid bytes out }
+    ≡ record { answer = Ok (length bytes); bytes = laid bytes out }
 read_write bytes samples out h small e room =
     ap (λ (s : Star). write_record (record { block = s.block; mask = s.mask; threshold = s.threshold }) s.centre s.neighbours out)
     (read_star bytes samples h e)
@@ -138,7 +135,7 @@ read_write bytes samples out h small e room =
 -- ---- writing then reading
 
 module _ (h : Header) (centre neighbours : List Float) (fit-measures : Fit (measures_of h)) (fit : Fit (centre ++ neighbours))
-    (passed : judge_star (star h centre neighbours) ≡ Passed) (shaped : Shaped (star h centre neighbours)) where
+    (passed : judge_star (star h centre neighbours) ≡ Ok tt) (shaped : Shaped (star h centre neighbours)) where
   abbrev samples : List Float
   samples = centre ++ neighbours
 
@@ -183,16 +180,16 @@ module _ (h : Header) (centre neighbours : List Float) (fit-measures : Fit (meas
       }
 
 -- bytes are answered only for a block that passes
-wrote : (h : Header) (samples : List Float) (out : List ℕ) (k : ℕ) (v : Verdict) → (write_answer h samples out v).answer ≡ RecordWritten.Bytes k
-    → (v ≡ Passed) × (sample_from (length samples) ≡ k)
-wrote h samples out k Passed e = (refl, cc)
-wrote h samples out k (Refused r) e = (cc, cc)
+wrote : (h : Header) (samples : List Float) (out : List ℕ) (k : ℕ) (v : Verdict) → (write_answer h samples out v).answer ≡ Ok k
+    → (v ≡ Ok tt) × (sample_from (length samples) ≡ k)
+wrote h samples out k (Ok _) e = (refl, cc)
+wrote h samples out k (Err r) e = (cc, cc)
 
 pub write_read : (h : Header) (centre neighbours : List Float) (out : List ℕ) (samples : List Float) (k : ℕ)
     → Fit (measures_of h) → Fit (centre ++ neighbours)
-    → (write_record h centre neighbours out).answer ≡ RecordWritten.Bytes k → length (centre ++ neighbours) ≤ length samples
+    → (write_record h centre neighbours out).answer ≡ Ok k → length (centre ++ neighbours) ≤ length samples
     → read_record (take k (write_record h centre neighbours out).bytes) samples
-    ≡ record { answer = RecordRead.Block h; samples = laid (centre ++ neighbours) samples }
+    ≡ record { answer = Ok h; samples = laid (centre ++ neighbours) samples }
 unfolding read_record write_record
 write_read h centre neighbours out samples k fit-measures fit e room =
     let s = star h centre neighbours in

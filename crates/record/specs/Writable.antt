@@ -1,11 +1,10 @@
 -- What the writer rests on: what holds of a block that 1 to 7 do not refuse. Assumes nothing.
-use Rattle.std.specs.Prelude.{ℕ, zero, suc, ◌+◌, ◌≤◌, ◌<◌, ◌≡◌, not, List, ◌++◌, T, Float, length, get_or}
+use Rattle.std.specs.Prelude.{ℕ, zero, suc, ◌+◌, ◌≤◌, ◌<◌, ◌≡◌, not, List, ◌++◌, T, Float, length, get_or, Ok}
 use Rattle.std.proofs.Common.{arith, subst, length-append, get_or-append-add}
 use Rattle.std.specs.Float.{nan}
 use Rattle.std.specs.Float.Ieee.{is_nan}
 use Rattle.std.proofs.Math.ListN.{get_or-append}
 use Rattle.model.specs.declared.Header.{Header}
-use Rattle.model.specs.declared.Verdict.TheVariants.{Passed}
 use Rattle.model.specs.Limits.{most_subdivisions}
 use Rattle.model.specs.Star.{star}
 use Rattle.model.specs.Judging.{judge_measures, judge_star}
@@ -23,7 +22,7 @@ pub record Writable (h : Header) (centre neighbours : List Float) : Type 0 where
   pub centre_numbers : Numbers centre
   pub neighbour_numbers : Numbers neighbours
 
-measures_are : (h : Header) → judge_measures h.block h.threshold ≡ Passed → Numbers (measures_of h)
+measures_are : (h : Header) → judge_measures h.block h.threshold ≡ Ok tt → Numbers (measures_of h)
 measures_are h e zero l = measure_number h.block h.threshold 0 e
 measures_are h e (suc zero) l = measure_number h.block h.threshold 1 e
 measures_are h e (suc (suc zero)) l = measure_number h.block h.threshold 2 e
@@ -31,7 +30,7 @@ measures_are h e (suc (suc (suc zero))) l = measure_number h.block h.threshold 3
 measures_are h e (suc (suc (suc (suc zero)))) l = measure_number h.block h.threshold 4 e
 measures_are h e (suc (suc (suc (suc (suc k))))) l = absurd (omega arith)
 
-pub writable : (h : Header) (centre neighbours : List Float) → judge_star (star h centre neighbours) ≡ Passed
+pub writable : (h : Header) (centre neighbours : List Float) → judge_star (star h centre neighbours) ≡ Ok tt
     → Writable h centre neighbours
 writable h centre neighbours passed =
     let s = star h centre neighbours in

@@ -16,8 +16,8 @@ use crate::fields::{
 };
 use grid::transition_sides::sample_count;
 use judge::{judge_mask, judge_subdivisions, unless};
-use model::{Refusal, Verdict};
-use words::big::word_at;
+use model::Refusal;
+use words::orders::{Big, ByteOrder};
 
 // The bit patterns of 1,048,576, of the last number below its half and of 1/1024, and the weight of the sign in a pattern.
 const LIMIT: u32 = 0x4980_0000;
@@ -39,7 +39,7 @@ fn is_usable_at(bytes: &[u8], at: usize) -> bool
     requires { at + 4 ≤ length bytes.now }
     ensures { result ≡ usable (float_at bytes.now at) }
 {
-    is_usable(word_at(bytes, at))
+    is_usable(Big::word_at(bytes, at))
 }
 
 // The pattern is that of 1/1024, that of 1,048,576 or one between.
@@ -47,18 +47,18 @@ fn is_usable_size_at(bytes: &[u8], at: usize) -> bool
     requires { at + 4 ≤ length bytes.now }
     ensures { result ≡ usable_size (float_at bytes.now at) }
 {
-    let size = word_at(bytes, at);
+    let size = Big::word_at(bytes, at);
     (LEAST_SIZE <= size) & (size <= LIMIT)
 }
 
-fn judge_length(bytes: &[u8]) -> Verdict
+fn judge_length(bytes: &[u8]) -> Result<(), Refusal>
     ensures { result ≡ judge_length bytes.now }
 {
     if bytes.len() < HEADER_LENGTH {
-        return Verdict::Refused(Refusal::RecordLength);
+        return Err(Refusal::RecordLength);
     }
     unless(
-        word_at(bytes, 0) as usize == bytes.len() - 4,
+        Big::word_at(bytes, 0) as usize == bytes.len() - 4,
         Refusal::RecordLength,
     )
 }
@@ -68,46 +68,42 @@ fn is_measure_usable(bytes: &[u8], which: usize) -> bool
     requires { (header_length ≤ length bytes.now) × (which < 5) }
     ensures { result ≡ measure_usable (header_of bytes.now).block (header_of bytes.now).threshold which }
 {
-    if which == 3 {
-        return is_usable_size_at(bytes, SIZE_AT);
+    match which {
+        3 => is_usable_size_at(bytes, SIZE_AT),
+        4 => is_usable_at(bytes, THRESHOLD_AT),
+        _ => is_usable_at(bytes, BASE_AT + 4 * which),
     }
-    if which == 4 {
-        return is_usable_at(bytes, THRESHOLD_AT);
-    }
-    is_usable_at(bytes, BASE_AT + 4 * which)
 }
 
-fn judge_measures(bytes: &[u8]) -> Verdict
+fn judge_measures(bytes: &[u8]) -> Result<(), Refusal>
     requires { header_length ≤ length bytes.now }
     ensures { result ≡ judge_measures (header_of bytes.now).block (header_of bytes.now).threshold }
 {
     for which in 0..5 {
         if !is_measure_usable(bytes, which) {
-            return Verdict::Refused(Refusal::Measure(which));
+            return Err(Refusal::Measure(which));
         }
     }
-    Verdict::Passed
+    Ok(())
 }
 
 // 12, 1, 2 and 3.
-fn judge_head(bytes: &[u8]) -> Verdict
+fn judge_head(bytes: &[u8]) -> Result<(), Refusal>
     requires { header_length ≤ length bytes.now }
     ensures { result ≡ judge_head bytes.now }
 {
-    let version = bytes[VERSION_AT];
-    let known = unless(version == 1, Refusal::Version(version as usize));
-    if let Verdict::Refused(r) = known {
-        return Verdict::Refused(r);
-    }
-    let subdivisions = judge_subdivisions(subdivisions_of(bytes));
-    if let Verdict::Refused(r) = subdivisions {
-        return Verdict::Refused(r);
-    }
-    let sides = judge_mask(mask_of(bytes));
-    if let Verdict::Refused(r) = sides {
-        return Verdict::Refused(r);
-    }
+    let version = usize::from(bytes[VERSION_AT]);
+    unless(version == 1, Refusal::Version(version))?;
+    judge_subdivisions(subdivisions_of(bytes))?;
+    judge_mask(mask_of(bytes))?;
     judge_measures(bytes)
+}
+
+fn is_at_most(bytes: &[u8], k: usize, most: u32) -> bool
+    requires { sample_from (k + 1) ≤ length bytes.now }
+    ensures { result ≡ bare_at_most bytes.now most k }
+{
+    Big::word_at(bytes, sample_from(k)) % SIGN <= most
 }
 
 // Whether the patterns of all samples, without their signs, are at most this one. It looks at them all, which the compiler does many at a time.
@@ -115,11 +111,7 @@ fn all_at_most(bytes: &[u8], count: usize, most: u32) -> bool
     requires { length bytes.now ≡ sample_from count }
     ensures { result ≡ all_below (bare_at_most bytes.now most) count }
 {
-    let mut all = true;
-    for k in 0..count {
-        all = all & (word_at(bytes, sample_from(k)) % SIGN <= most);
-    }
-    all
+    (0..count).fold(true, |all, k| all & is_at_most(bytes, k, most))
 }
 
 // Whether all samples can be used. Those of most records are small, which the first byte of each tells: that is asked first.
@@ -127,56 +119,48 @@ fn all_usable(bytes: &[u8], count: usize) -> bool
     requires { length bytes.now ≡ sample_from count }
     ensures { result ≡ all_below (usable_at bytes.now) count }
 {
-    if all_at_most(bytes, count, SMALL) {
-        return true;
-    }
-    all_at_most(bytes, count, LIMIT)
+    all_at_most(bytes, count, SMALL) || all_at_most(bytes, count, LIMIT)
 }
 
-fn first_bad(bytes: &[u8], count: usize) -> Verdict
+// By index: Big reads a word at a place of the bytes, and 7 names the index.
+fn first_bad(bytes: &[u8], count: usize) -> Result<(), Refusal>
     requires { length bytes.now ≡ sample_from count }
     ensures { result ≡ first (sample_usable_at bytes.now) count }
 {
     for k in 0..count {
         if !is_usable_at(bytes, sample_from(k)) {
-            return Verdict::Refused(Refusal::BadSample(k));
+            return Err(Refusal::BadSample(k));
         }
     }
-    Verdict::Passed
+    Ok(())
 }
 
-fn judge_samples(bytes: &[u8], count: usize) -> Verdict
+fn judge_samples(bytes: &[u8], count: usize) -> Result<(), Refusal>
     requires { length bytes.now ≡ sample_from count }
     ensures { result ≡ first (sample_usable_at bytes.now) count }
 {
     if all_usable(bytes, count) {
-        return Verdict::Passed;
+        return Ok(());
     }
     first_bad(bytes, count)
 }
 
 // 13 and 7.
-fn judge_body(bytes: &[u8]) -> Verdict
+fn judge_body(bytes: &[u8]) -> Result<(), Refusal>
     requires { HeadPassed bytes.now }
     ensures { result ≡ judge_body bytes.now }
 {
     let count = sample_count(subdivisions_of(bytes), mask_of(bytes));
     if bytes.len() - HEADER_LENGTH != 4 * count {
-        return Verdict::Refused(Refusal::SampleCount(count));
+        return Err(Refusal::SampleCount(count));
     }
     judge_samples(bytes, count)
 }
 
-pub fn judge_record(bytes: &[u8]) -> Verdict
+pub fn judge_record(bytes: &[u8]) -> Result<(), Refusal>
     ensures { result ≡ judge_record bytes.now }
 {
-    let length = judge_length(bytes);
-    if let Verdict::Refused(r) = length {
-        return Verdict::Refused(r);
-    }
-    let head = judge_head(bytes);
-    if let Verdict::Refused(r) = head {
-        return Verdict::Refused(r);
-    }
+    judge_length(bytes)?;
+    judge_head(bytes)?;
     judge_body(bytes)
 }

@@ -4,5 +4,6 @@
 
 pub mod fields;
 pub mod judging;
+pub mod passed;
 pub mod reader;
 pub mod writer;

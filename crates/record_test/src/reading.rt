@@ -1,10 +1,7 @@
 // A vector of the reader and of the viewer's calls. Its first words: length, record's bytes, places lent, the answer's four numbers, the
-// header's seven, subdivisions, blank, samples filled, points asked.
-ghost use Rattle.std.specs.Prelude.{◌≤◌, length};
-
-use crate::vectors::word;
-use judge::numbers_of;
-use model::{Header, PlaceKind, PointRead, RecordRead};
+// header's seven, subdivisions, blank, samples filled, points asked. Then come the record, the samples filled and the points.
+use crate::vectors::{number, numbers, word, words};
+use model::{Header, Numbers, PlaceKind, Refusal};
 use record::reader::read_record;
 use viewer::{blank, read_point, sample, subdivisions};
 use words::floats::bits_of;
@@ -14,179 +11,125 @@ const ROOM: usize = 8192;
 
 const UNTOUCHED: f32 = -1234.5;
 
-// The coordinate that a number stands for.
-fn coordinate(code: u32) -> i32 {
-    match code {
-        0 => -2147483648,
-        1 => -3,
-        2 => -2,
-        3 => -1,
-        4 => 0,
-        5 => 1,
-        6 => 2,
-        7 => 3,
-        8 => 4,
-        9 => 5,
-        10 => 6,
-        11 => 7,
-        12 => 8,
-        13 => 9,
-        14 => 10,
-        15 => 11,
-        16 => 12,
-        17 => 13,
-        18 => 14,
-        19 => 15,
-        20 => 16,
-        21 => 17,
-        22 => 18,
-        23 => 19,
-        _ => 2147483647,
+// The bytes of the first words, and of a point.
+const HEAD: usize = 72;
+
+const POINT: usize = 28;
+
+#[derive(Clone, Copy)]
+struct Trial<'a> {
+    head: &'a [u8],
+    record: &'a [u8],
+    samples: &'a [u8],
+    points: &'a [u8],
+}
+
+impl<'a> Trial<'a> {
+    // None where the vector is too short for what it tells.
+    fn new(vector: &'a [u8]) -> Option<Trial<'a>> {
+        let (head, rest) = vector.split_at_checked(HEAD)?;
+        let (record, rest) = rest.split_at_checked(number(head, 1))?;
+        let rest = rest.get((4 - record.len() % 4) % 4..)?;
+        let (samples, points) = rest.split_at_checked(4 * number(head, 16))?;
+        Some(Trial {
+            head,
+            record,
+            samples,
+            points,
+        })
     }
 }
 
-fn header_agrees(vector: &[u8], header: Header) -> bool {
-    let block = header.block;
-    let base = block.base;
-    block.subdivisions == word(vector, 28) as usize
-        && header.mask as u32 == word(vector, 32)
-        && bits_of(header.threshold) == word(vector, 36)
-        && bits_of(base.x) == word(vector, 40)
-        && bits_of(base.y) == word(vector, 44)
-        && bits_of(base.z) == word(vector, 48)
-        && bits_of(block.size) == word(vector, 52)
+// The coordinate that a number stands for.
+fn coordinate(code: u32) -> i32 {
+    match code {
+        0 => i32::MIN,
+        1..=23 => code as i32 - 4,
+        _ => i32::MAX,
+    }
 }
 
-fn answer_agrees(vector: &[u8], answer: RecordRead) -> bool {
+// By bits, of -0 too, which `==` takes for 0.
+fn header_agrees(head: &[u8], header: Header) -> bool {
+    let block = header.block;
+    let base = block.base;
+    block.subdivisions == number(head, 7)
+        && u32::from(header.mask) == word(head, 8)
+        && bits_of(header.threshold) == word(head, 9)
+        && bits_of(base.x) == word(head, 10)
+        && bits_of(base.y) == word(head, 11)
+        && bits_of(base.z) == word(head, 12)
+        && bits_of(block.size) == word(head, 13)
+}
+
+fn answer_agrees(head: &[u8], answer: Result<Header, Refusal>) -> bool {
     match answer {
-        RecordRead::Block(header) => word(vector, 12) == 0 && header_agrees(vector, header),
-        RecordRead::Refused(refusal) => {
-            let numbers = numbers_of(refusal);
-            numbers.number == word(vector, 12) as usize
-                && numbers.first == word(vector, 16) as usize
-                && numbers.second == word(vector, 20) as usize
-                && numbers.third == word(vector, 24) as usize
-        }
+        Ok(header) => word(head, 3) == 0 && header_agrees(head, header),
+        Err(refusal) => Numbers::from(refusal) == numbers(head, 3),
     }
 }
 
 // The first places hold the vector's samples, and all beyond is untouched.
-fn samples_agree(vector: &[u8], from: usize, filled: usize, samples: &[f32]) -> bool
-    requires { (from ≤ 131072) × (length samples.now ≤ 8192) }
-{
-    for k in 0..samples.len() {
-        let wanted = if k < filled {
-            word(vector, from + 4 * k)
-        } else {
-            bits_of(UNTOUCHED)
-        };
-        if bits_of(samples[k]) != wanted {
-            return false;
-        }
-    }
-    true
+fn samples_agree(told: &[u8], samples: &[f32]) -> bool {
+    let told = words(told);
+    let Some((filled, beyond)) = samples.split_at_checked(told.len()) else {
+        return false;
+    };
+    filled.iter().zip(told).all(|(sample, word)| bits_of(*sample) == u32::from_le_bytes(*word))
+        && beyond.iter().all(|sample| *sample == UNTOUCHED)
 }
 
-// A face's kind is its number, and in-block 6.
-fn kind_agrees(vector: &[u8], at: usize, kind: PlaceKind) -> bool
-    requires { at ≤ 1048832 }
-{
+fn read_agrees(trial: &Trial<'_>) -> bool {
+    let mut samples = [UNTOUCHED; ROOM];
+    let Some(lent) = samples.get_mut(..number(trial.head, 2)) else {
+        return false;
+    };
+    let answer = read_record(trial.record, lent);
+    answer_agrees(trial.head, answer) && samples_agree(trial.samples, &samples)
+}
+
+// A face's kind is its number, and in-block 6: the vector files have them so.
+fn kind_number(kind: PlaceKind) -> usize {
     match kind {
-        PlaceKind::InBlock => word(vector, at) == 6,
-        PlaceKind::Face(face) => word(vector, at) as usize == face,
+        PlaceKind::InBlock => 6,
+        PlaceKind::Face(face) => face,
     }
 }
 
-fn read_point_agrees(vector: &[u8], at: usize, read: PointRead) -> bool
-    requires { at ≤ 1048576 }
-{
-    match read {
-        PointRead::Value(_, kind) => kind_agrees(vector, at + 20, kind)
-            && word(vector, at + 24) == 0,
-        PointRead::Refused(refusal) => {
-            word(vector, at + 20) == 0
-                && numbers_of(refusal).first == word(vector, at + 24) as usize
-        }
-    }
+fn read_point_agrees(point: &[u8], read: Result<(f32, PlaceKind), Refusal>) -> bool {
+    let (kind, first) = match read {
+        Ok((_, kind)) => (kind_number(kind), 0),
+        Err(refusal) => (0, Numbers::from(refusal).first),
+    };
+    kind == number(point, 5) && first == number(point, 6)
 }
 
-fn point_agrees(vector: &[u8], at: usize, src: &[u8]) -> bool
-    requires { at ≤ 1048576 }
-{
-    let x = coordinate(word(vector, at));
-    let y = coordinate(word(vector, at + 4));
-    let z = coordinate(word(vector, at + 8));
+fn point_agrees(point: &[u8], src: &[u8]) -> bool {
+    let x = coordinate(word(point, 0));
+    let y = coordinate(word(point, 1));
+    let z = coordinate(word(point, 2));
     let found = sample(src, x, y, z);
-    found % 4294967296 == word(vector, at + 12) as u64
-        && found / 4294967296 == word(vector, at + 16) as u64
-        && read_point_agrees(vector, at, read_point(src, x, y, z))
+    found % 4294967296 == u64::from(word(point, 3))
+        && found / 4294967296 == u64::from(word(point, 4))
+        && read_point_agrees(point, read_point(src, x, y, z))
 }
 
-fn points_agree(vector: &[u8], from: usize, points: usize, src: &[u8]) -> bool
-    requires { (from ≤ 262144) × (points ≤ 1024) }
-{
-    for k in 0..points {
-        if !point_agrees(vector, from + 28 * k, src) {
-            return false;
-        }
-    }
-    true
+fn points_agree(trial: &Trial<'_>) -> bool {
+    trial.points.len() == POINT * number(trial.head, 17)
+        && trial
+            .points
+            .chunks_exact(POINT)
+            .all(|point| point_agrees(point, trial.record))
 }
 
-fn calls_agree(vector: &[u8], src: &[u8]) -> bool {
-    subdivisions(src) == word(vector, 56) as u64 && blank(src) == word(vector, 60) as u64
-}
-
-fn read_agrees(vector: &[u8], samples: &mut [f32]) -> bool
-    requires { length samples.old ≤ 8192 }
-{
-    let bytes = word(vector, 4) as usize;
-    let held = word(vector, 8) as usize;
-    let filled = word(vector, 64) as usize;
-    if vector.len() < 72 {
-        return false;
-    }
-    if vector.len() - 72 < bytes {
-        return false;
-    }
-    if 65536 < bytes {
-        return false;
-    }
-    if samples.len() < held {
-        return false;
-    }
-    let end = 72 + bytes;
-    let answer = read_record(&vector[72..end], &mut samples[..held]);
-    answer_agrees(vector, answer)
-        && samples_agree(vector, 72 + (bytes + 3) / 4 * 4, filled, samples)
-}
-
-fn viewer_agrees(vector: &[u8]) -> bool {
-    let bytes = word(vector, 4) as usize;
-    let filled = word(vector, 64) as usize;
-    let points = word(vector, 68) as usize;
-    if vector.len() < 72 {
-        return false;
-    }
-    if vector.len() - 72 < bytes {
-        return false;
-    }
-    if 65536 < bytes {
-        return false;
-    }
-    if 8192 < filled {
-        return false;
-    }
-    if 1024 < points {
-        return false;
-    }
-    let end = 72 + bytes;
-    let src = &vector[72..end];
-    calls_agree(vector, src)
-        && points_agree(vector, 72 + (bytes + 3) / 4 * 4 + 4 * filled, points, src)
+fn calls_agree(trial: &Trial<'_>) -> bool {
+    subdivisions(trial.record) == u64::from(word(trial.head, 14))
+        && blank(trial.record) == u64::from(word(trial.head, 15))
 }
 
 pub fn agrees(vector: &[u8]) -> bool {
-    let mut samples = [UNTOUCHED; ROOM];
-    read_agrees(vector, &mut samples) && viewer_agrees(vector)
+    match Trial::new(vector) {
+        Some(trial) => read_agrees(&trial) && calls_agree(&trial) && points_agree(&trial),
+        None => false,
+    }
 }

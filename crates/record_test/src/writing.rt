@@ -1,10 +1,7 @@
 // A vector of the writer. Its first words: length, n, mask, threshold, base x, y, z, size, the centre's samples, the neighbours' samples,
-// bytes lent, the answer's four numbers.
-ghost use Rattle.std.specs.Prelude.{◌≤◌, length};
-
-use crate::vectors::word;
-use judge::numbers_of;
-use model::{Block, Header, RecordWritten, Vector};
+// bytes lent, the answer's four numbers. Then come the samples and the bytes written.
+use crate::vectors::{number, numbers, word, words};
+use model::{Block, Header, Lent, Numbers, Refusal, Vector};
 use record::writer::write_record;
 use words::floats::float_of;
 
@@ -15,107 +12,86 @@ const BYTES: usize = 32768;
 
 const UNTOUCHED: u8 = 165;
 
-fn header_of(vector: &[u8]) -> Header {
+// The bytes of the first words.
+const HEAD: usize = 60;
+
+fn header_of(head: &[u8]) -> Header {
     let base = Vector {
-        x: float_of(word(vector, 16)),
-        y: float_of(word(vector, 20)),
-        z: float_of(word(vector, 24)),
+        x: float_of(word(head, 4)),
+        y: float_of(word(head, 5)),
+        z: float_of(word(head, 6)),
     };
     let block = Block {
         base,
-        size: float_of(word(vector, 28)),
-        subdivisions: word(vector, 4) as usize,
+        size: float_of(word(head, 7)),
+        subdivisions: number(head, 1),
     };
     Header {
         block,
-        mask: (word(vector, 8) % 256) as u8,
-        threshold: float_of(word(vector, 12)),
+        mask: (word(head, 2) % 256) as u8,
+        threshold: float_of(word(head, 3)),
     }
 }
 
-fn fill(samples: &mut [f32], count: usize, vector: &[u8], from: usize)
-    requires { (from ≤ 131072) × ((count ≤ length samples.old) × (count ≤ 8192)) }
-{
-    for k in 0..count {
-        samples[k] = float_of(word(vector, from + 4 * k));
+// The samples, as many as there is room for.
+fn fill(samples: &mut [f32], told: &[u8]) {
+    for (sample, word) in samples.iter_mut().zip(words(told)) {
+        *sample = float_of(u32::from_le_bytes(*word));
     }
 }
 
-fn answer_agrees(vector: &[u8], answer: RecordWritten) -> bool {
+// What is written is told by its length.
+fn answer_agrees(head: &[u8], answer: Result<usize, Refusal>) -> bool {
     match answer {
-        RecordWritten::Bytes(written) => word(vector, 44) == 0
-            && written == word(vector, 48) as usize,
-        RecordWritten::Refused(refusal) => {
-            let numbers = numbers_of(refusal);
-            numbers.number == word(vector, 44) as usize
-                && numbers.first == word(vector, 48) as usize
-                && numbers.second == word(vector, 52) as usize
-                && numbers.third == word(vector, 56) as usize
-        }
+        Ok(written) => word(head, 11) == 0 && written == number(head, 12),
+        Err(refusal) => Numbers::from(refusal) == numbers(head, 11),
     }
 }
 
-// How many bytes the vector says are written.
-fn written_by(vector: &[u8]) -> usize {
-    if word(vector, 44) == 0 {
-        word(vector, 48) as usize
+// The first bytes are those that the vector says are written, and all beyond is untouched.
+fn bytes_agree(head: &[u8], told: &[u8], bytes: &[u8]) -> bool {
+    let length = if word(head, 11) == 0 {
+        number(head, 12)
     } else {
         0
-    }
+    };
+    let Some(told) = told.get(..length) else {
+        return false;
+    };
+    let Some((written, beyond)) = bytes.split_at_checked(length) else {
+        return false;
+    };
+    written == told && beyond.iter().all(|byte| *byte == UNTOUCHED)
 }
 
-fn byte(vector: &[u8], at: usize) -> u8 {
-    if at < vector.len() { vector[at] } else { 0 }
+// Of a block with so many samples of its own, then its neighbours', and the bytes written.
+fn write_agrees(head: &[u8], samples: &[f32], told: &[u8]) -> bool {
+    let Some((centre, neighbours)) = samples.split_at_checked(number(head, 8)) else {
+        return false;
+    };
+    let lent = Lent {
+        header: header_of(head),
+        centre,
+        neighbours,
+    };
+    let mut bytes = [UNTOUCHED; BYTES];
+    let Some(room) = bytes.get_mut(..number(head, 10)) else {
+        return false;
+    };
+    let answer = write_record(&lent, room);
+    answer_agrees(head, answer) && bytes_agree(head, told, &bytes)
 }
 
-// The first bytes are the vector's, and all beyond is untouched.
-fn bytes_agree(vector: &[u8], from: usize, bytes: &[u8]) -> bool {
-    let written = written_by(vector);
-    if vector.len() < from {
-        return false;
-    }
-    for k in 0..bytes.len() {
-        let wanted = if k < written {
-            byte(&vector[from..], k)
-        } else {
-            UNTOUCHED
-        };
-        if bytes[k] != wanted {
-            return false;
-        }
-    }
-    true
-}
-
-fn write_agrees(vector: &[u8], own: &mut [f32], theirs: &mut [f32], bytes: &mut [u8]) -> bool
-    requires { (length own.old ≤ 8192) × (length theirs.old ≤ 8192) }
-{
-    let centre = word(vector, 32) as usize;
-    let neighbours = word(vector, 36) as usize;
-    let held = word(vector, 40) as usize;
-    if own.len() < centre {
-        return false;
-    }
-    if theirs.len() < neighbours {
-        return false;
-    }
-    if bytes.len() < held {
-        return false;
-    }
-    fill(own, centre, vector, 60);
-    fill(theirs, neighbours, vector, 60 + 4 * centre);
-    let answer = write_record(
-        header_of(vector),
-        &own[..centre],
-        &theirs[..neighbours],
-        &mut bytes[..held],
-    );
-    answer_agrees(vector, answer) && bytes_agree(vector, 60 + 4 * (centre + neighbours), bytes)
+// None where the vector is too short for what it tells, or tells too many samples.
+fn trial(vector: &[u8]) -> Option<bool> {
+    let (head, rest) = vector.split_at_checked(HEAD)?;
+    let count = number(head, 8) + number(head, 9);
+    let (told, rest) = rest.split_at_checked(4 * count)?;
+    let mut samples = [0f32; 2 * ROOM];
+    fill(&mut samples, told);
+    Some(write_agrees(head, samples.get(..count)?, rest))
 }
 
 pub fn agrees(vector: &[u8]) -> bool {
-    let mut own = [0f32; ROOM];
-    let mut theirs = [0f32; ROOM];
-    let mut bytes = [UNTOUCHED; BYTES];
-    write_agrees(vector, &mut own, &mut theirs, &mut bytes)
+    trial(vector).unwrap_or(false)
 }

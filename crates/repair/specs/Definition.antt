@@ -1,6 +1,6 @@
 -- Document 02, [5]: a repair pass for damaged deliveries. Samples are bit patterns here, since a NaN's bits can be told only so. What is changed and
 -- how it is listed, what is refused and when, and what the call leaves. Definitions only.
-use Rattle.std.specs.Prelude.{ℕ, zero, suc, ◌+◌, ◌*◌, ◌/◌, Bool, true, false, cond, List, [], ◌∷◌, ◌++◌, map, leb, Float, length, get_or, set}
+use Rattle.std.specs.Prelude.{ℕ, zero, suc, ◌+◌, ◌*◌, ◌/◌, Bool, true, false, cond, List, [], ◌∷◌, ◌++◌, map, leb, Float, length, get_or, set, Err, Ok}
 use Rattle.std.specs.Float.{binary32}
 use Rattle.std.specs.Float.Ieee.{of_bits, to_bits}
 use Rattle.laws.specs.Steps.{each, laid}
@@ -8,8 +8,7 @@ use Rattle.laws.specs.Counting.{gather}
 use Rattle.model.specs.declared.Xyz.{Xyz}
 use Rattle.model.specs.declared.Header.{Header}
 use Rattle.model.specs.declared.Refusal.TheVariants.{BadFiller, ChangesTooShort}
-use Rattle.model.specs.declared.Verdict.{Verdict}
-use Rattle.model.specs.declared.Verdict.TheVariants as Verdict
+use Rattle.model.specs.Answers.{Verdict}
 use Rattle.model.specs.Limits.{side_count}
 use Rattle.model.specs.Samples.{place_of}
 use Rattle.model.specs.Sides.{named, named_below, neighbour_length}
@@ -18,8 +17,7 @@ use Rattle.model.specs.Star.{Star, star}
 use Rattle.model.specs.Refusals.{unless, or_else}
 use Rattle.model.specs.Judging.{usable, faces_agree, judge_lent}
 use Rattle.repair.specs.declared.Change.{Change}
-use Rattle.repair.specs.declared.Repaired.{Repaired}
-use Rattle.repair.specs.declared.Repaired.TheVariants as Repaired
+use Rattle.repair.specs.Answers.{Repaired}
 
 -- ---- a delivery: the bits of the centre's samples and of the neighbours'
 
@@ -153,9 +151,9 @@ pub record RepairOutcome : Type 0 where
   pub changes : List ℕ
 
 abbrev pub repair_answer : List Change → Delivery → List ℕ → Verdict → RepairOutcome
-repair_answer list d changes Verdict.Passed =
-    record { answer = Repaired.Changes (length list); left = applied list d; changes = laid (each words_of list) changes }
-repair_answer list d changes (Verdict.Refused r) = record { answer = Repaired.Refused r; left = d; changes = changes }
+repair_answer list d changes (Ok _) =
+    record { answer = Ok (length list); left = applied list d; changes = laid (each words_of list) changes }
+repair_answer list d changes (Err r) = record { answer = Err r; left = d; changes = changes }
 
 unfoldable pub repair : Header → Delivery → Float → List ℕ → RepairOutcome
 repair h d filler changes =

@@ -1,4 +1,6 @@
 -- what a reader must believe
+pub mod Answers
+pub mod Damaged
 pub mod Definition
 -- what the code is proved by
 pub mod Spots

@@ -1,6 +1,6 @@
 -- Document 02, [5]: the list of changes in a lent buffer, four words a change: what was found at a spot, laid behind what is there, and read back.
 -- Assumes nothing.
-use Rattle.std.specs.Prelude.{ℕ, zero, suc, ◌+◌, ◌*◌, ◌≤◌, ◌<◌, ◌≡◌, refl, List, [], ◌∷◌, ◌++◌, length, get_or, take, drop}
+use Rattle.std.specs.Prelude.{ℕ, zero, suc, ◌+◌, ◌*◌, ◌/◌, ◌≤◌, ◌<◌, ◌≡◌, refl, List, [], ◌∷◌, ◌++◌, length, get_or, take, drop, None, Some}
 use Rattle.std.proofs.Common.{sym, ap, ap₂, ◌∙◌, subst, add-zero, le_of_lt, add-one, arith, length-append, take-suc}
 use Rattle.std.proofs.Math.ListN.{get_or-append}
 use Rattle.std.proofs.lemmas.List.Edits.{sets}
@@ -11,15 +11,18 @@ use Rattle.laws.specs.Iterated.{iterate_keeps}
 use Rattle.laws.specs.Lists.{length_each, sets_first}
 use Rattle.laws.specs.Laying.{lay, lay_none, length_lay, lay_append}
 use Rattle.repair.specs.declared.Change.{Change}
-use Rattle.repair.specs.declared.listing.Found.{Found}
-use Rattle.repair.specs.declared.listing.Found.TheVariants.{At, Nothing}
+use Rattle.repair.specs.Answers.{Found}
 use Rattle.repair.specs.Definition.{Delivery, in_list, made, applied, no_change, words_of}
 use Rattle.laws.specs.Rounds.{gather_upto, each_at}
 use Rattle.repair.specs.Spots.{applied_append, length_put_in, length_applied, AllTell, told_at}
 
 abbrev pub found_of : Found → List Change
-found_of (At c) = c ∷ []
-found_of Nothing = []
+found_of (Some c) = c ∷ []
+found_of None = []
+
+pub few_found : (found : Found) → length (found_of found) ≤ 1
+few_found (Some c) = omega arith
+few_found None = omega arith
 
 -- the changes stand as entries from `at` on, and `next` is the entry after them
 pub record Put (before : List ℕ) (at : ℕ) (changes : List Change) (next : ℕ) (after : List ℕ) : Type 0 where
@@ -46,6 +49,32 @@ put_one before at c = record { next_is = refl; laid_is = refl }
 pub length_put : {before after : List ℕ} {at next : ℕ} {changes : List Change} → Put before at changes next after → length after ≡ length before
 length_put {before} {after} {at} {next} {changes} p = ap length p.laid_is ∙ length_lay 4 words_of before at changes
 
+-- all are counted, and where there is room for all of them they stand so
+pub record Listed (before : List ℕ) (at : ℕ) (changes : List Change) (next : ℕ) (after : List ℕ) : Type 0 where
+  pub next_is : next ≡ at + length changes
+  pub long : length after ≡ length before
+  pub put : 4 * (at + length changes) ≤ length before → Put before at changes next after
+
+pub listed_none : (before : List ℕ) (at : ℕ) → Listed before at [] at before
+listed_none before at = record { next_is = sym (add-zero at); long = refl; put = λ _. put_none before at }
+
+pub listed_one : (before : List ℕ) (at : ℕ) (c : Change) → Listed before at (c ∷ []) (at + 1) (sets before (4 * at) (words_of c))
+listed_one before at c = let one = put_one before at c in record { next_is = refl; long = length_put one; put = λ _. one }
+
+pub listed_past : (before : List ℕ) (at : ℕ) (c : Change) → length before / 4 ≤ at → Listed before at (c ∷ []) (at + 1) before
+listed_past before at c l = record { next_is = refl; long = refl; put = λ room. absurd (omega arith) }
+
+pub listed_more : {before middle after : List ℕ} {at from next : ℕ} {one other : List Change}
+    → Listed before at one from middle → Listed middle from other next after → Listed before at (one ++ other) next after
+listed_more {before} {middle} {after} {at} {from} {next} {one} {other} p q =
+    record {
+      next_is = omega (arith, q.next_is, p.next_is, length-append one other);
+      long = q.long ∙ p.long;
+      put = λ room.
+          put_more (p.put (omega (arith, length-append one other)))
+          (q.put (omega (arith, p.next_is, p.long, length-append one other)));
+    }
+
 -- ---- what is found at one spot after another
 
 pub count_turn : (f : ℕ → List Change) {k count more : ℕ} {found : List Change} → count ≡ length (gather f k) → more ≡ length found → found ≡ f k
@@ -61,6 +90,10 @@ module _ (f : ℕ → List Change) (from : ℕ) where
   pub put_turn : {k : ℕ} {before middle after : List ℕ} {at next : ℕ} {found : List Change} → Put before from (gather f k) at middle
       → Put middle at found next after → found ≡ f k → Put before from (gather f (k + 1)) next after
   put_turn {k} p q found-is = rw (add-one, ← found-is) (put_more p q)
+
+  pub listed_turn : {k : ℕ} {before middle after : List ℕ} {at next : ℕ} {found : List Change} → Listed before from (gather f k) at middle
+      → Listed middle at found next after → found ≡ f k → Listed before from (gather f (k + 1)) next after
+  listed_turn {k} p q found-is = rw (add-one, ← found-is) (listed_more p q)
 
 -- ---- read back
 

@@ -1,5 +1,5 @@
 -- Document 02, [5]: what a repair leaves. After it 7 and 8 cannot be met; where they are not met, nothing is listed, so a second pass lists nothing.
-use Rattle.std.specs.Prelude.{ℕ, zero, suc, ◌+◌, ◌*◌, ◌/◌, ◌%◌, ◌<◌, ◌≡◌, Bool, eqb, length, get_or, set}
+use Rattle.std.specs.Prelude.{ℕ, zero, suc, ◌+◌, ◌*◌, ◌/◌, ◌%◌, ◌<◌, ◌≡◌, Bool, eqb, length, get_or, set, Ok}
 use Rattle.std.proofs.Common.{mul-suc, mul-le-mul_left, le_refl, arith, sym, ◌∙◌, subst, eqb-true, get_or-set_same, get_or-set_other}
 use Rattle.std.proofs.Math.Nat.{le_step}
 use Rattle.std.proofs.Math.Path.{refl, ap, ap₂}
@@ -13,7 +13,6 @@ use Rattle.laws.specs.Ranges.{eq_beq}
 use Rattle.laws.specs.Rounds.{gather_none, get_d_mapped}
 use Rattle.model.specs.declared.FacePoint.{FacePoint}
 use Rattle.model.specs.declared.Header.{Header}
-use Rattle.model.specs.declared.Verdict.TheVariants.{Passed}
 use Rattle.model.specs.Limits.{side_count}
 use Rattle.model.specs.Sides.{named}
 use Rattle.model.specs.Formulas.{inside}
@@ -211,10 +210,10 @@ module _ (h : Header) (filler : ℕ) (d : Delivery) (shaped : Shaped (as_star h 
 
   -- ---- 7 and 8 cannot be met
 
-  pub seven_passes : judge_samples (map value_of repaired.centre ++ map value_of repaired.neighbours) ≡ Passed
+  pub seven_passes : judge_samples (map value_of repaired.centre ++ map value_of repaired.neighbours) ≡ Ok tt
   seven_passes = lists_pass repaired centre_usable neighbours_usable
 
-  pub eight_passes : judge_faces (as_star h repaired) ≡ Passed
+  pub eight_passes : judge_faces (as_star h repaired) ≡ Ok tt
   eight_passes = faces_pass (as_star h repaired) repaired_agrees
 
   -- and a second pass, whatever its filler, lists nothing
@@ -222,8 +221,8 @@ module _ (h : Header) (filler : ℕ) (d : Delivery) (shaped : Shaped (as_star h 
   nothing_again other = nothing_listed h other repaired centre_usable neighbours_usable repaired_agrees
 
 -- a delivery that 7 and 8 accept is not changed
-pub accepted_kept : (h : Header) (filler : ℕ) (d : Delivery) → judge_samples (map value_of d.centre ++ map value_of d.neighbours) ≡ Passed
-    → judge_faces (as_star h d) ≡ Passed → changes_of h filler d ≡ []
+pub accepted_kept : (h : Header) (filler : ℕ) (d : Delivery) → judge_samples (map value_of d.centre ++ map value_of d.neighbours) ≡ Ok tt
+    → judge_faces (as_star h d) ≡ Ok tt → changes_of h filler d ≡ []
 accepted_kept h filler d seven eight =
     let usable = lists_usable d seven in
     nothing_listed h filler d usable.0 usable.1 (faces_agree_lem (as_star h d) eight)

@@ -4,7 +4,7 @@ ghost use Rattle.laws.specs.Steps.{iterate};
 ghost use Rattle.repair.specs.Definition.{delivery, in_list, made};
 ghost use Rattle.repair.specs.Listed.{change_in, makes, AllWithin};
 
-use crate::Change;
+use crate::{CENTRE, Change};
 
 fn change_at(changes: &[u32], k: usize) -> Change
     requires { 4 * (k + 1) ≤ length changes.now }
@@ -24,7 +24,7 @@ fn apply_one(change: Change, centre: &mut [u32], neighbours: &mut [u32])
     ensures { delivery centre.new neighbours.new ≡ made change (delivery centre.old neighbours.old) }
 {
     let place = change.place as usize;
-    if change.list == 0 {
+    if change.list == CENTRE {
         centre[place] = change.new;
     } else {
         neighbours[place] = change.new;

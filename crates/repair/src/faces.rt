@@ -2,19 +2,17 @@
 // they lie on two sides of the threshold.
 ghost use Rattle.std.specs.Prelude.{◌≡◌, ◌≤◌, ◌<◌};
 ghost use Rattle.model.specs.Limits.{most_subdivisions};
-ghost use Rattle.grid.specs.Shape.{Shaped};
-ghost use Rattle.repair.specs.Definition.{delivery, as_star};
+ghost use Rattle.repair.specs.Damaged.{delivered};
 ghost use Rattle.repair.specs.Filled.{filled_in};
 ghost use Rattle.repair.specs.Faces.{Spot, spot_count, spot_of, places_of, agree_bits, mismatch_spot};
 ghost use Rattle.repair.specs.Listed.{found_of};
 
-use crate::Change;
-use crate::listing::Found;
-use crate::samples::filled;
+use crate::samples::{Damaged, filled};
+use crate::{Change, NEIGHBOURS};
 use grid::rotation::side_point;
 use grid::transition_sides::{SIDES, count_below, is_named};
 use grid::voxel_blocks::{in_block, inside, sample_length};
-use model::{FacePoint, Header};
+use model::FacePoint;
 use words::floats::float_of;
 
 // The places of a face's point in the list of the centre and in that of the neighbours.
@@ -63,34 +61,30 @@ fn agree(threshold: f32, here: u32, there: u32) -> bool
     inside(threshold, float_of(here)) == inside(threshold, float_of(there))
 }
 
-// Judged as the fillers leave the samples.
-pub fn mismatch_at(
-    header: Header,
-    centre: &[u32],
-    neighbours: &[u32],
-    filler: u32,
-    k: usize,
-) -> Found
-    requires { Shaped (as_star header (delivery centre.now neighbours.now)) × (k < spot_count header.block.subdivisions) }
-    ensures { found_of result ≡ mismatch_spot header (filled_in filler (delivery centre.now neighbours.now)) k }
-{
-    let n = header.block.subdivisions;
-    let at = spot_of(n, k);
-    if !is_named(header.mask, at.side) {
-        return Found::Nothing;
+impl Damaged<'_> {
+    // Judged as the fillers leave the samples.
+    pub fn mismatch_at(&self, k: usize) -> Option<Change>
+        requires { k < spot_count self.now.header.block.subdivisions }
+        ensures { found_of result ≡ mismatch_spot self.now.header (filled_in self.now.filler (delivered self.now)) k }
+    {
+        let n = self.header.block.subdivisions;
+        let at = spot_of(n, k);
+        if !is_named(self.header.mask, at.side) {
+            return None;
+        }
+        let places = places_of(n, self.header.mask, at);
+        let coarse = places.coarse;
+        let fine = places.fine;
+        let here = filled(self.centre[coarse], self.filler);
+        let there = filled(self.neighbours[fine], self.filler);
+        if agree(self.header.threshold, here, there) {
+            return None;
+        }
+        Some(Change {
+            list: NEIGHBOURS,
+            place: fine as u32,
+            old: there,
+            new: here,
+        })
     }
-    let places = places_of(n, header.mask, at);
-    let coarse = places.coarse;
-    let fine = places.fine;
-    let here = filled(centre[coarse], filler);
-    let there = filled(neighbours[fine], filler);
-    if agree(header.threshold, here, there) {
-        return Found::Nothing;
-    }
-    Found::At(Change {
-        list: 1,
-        place: fine as u32,
-        old: there,
-        new: here,
-    })
 }

@@ -12,24 +12,21 @@ mod samples;
 
 use applying::apply;
 use judge::{is_usable, judge_lent, unless};
-use listing::{count_changes, list_changes};
-use model::{Header, Refusal, Verdict};
+use model::{Header, Refusal};
+use samples::Damaged;
 use words::floats::bits_of;
 
-// A sample that was changed: list 0 is the centre, 1 the neighbours.
+const CENTRE: u32 = 0;
+
+const NEIGHBOURS: u32 = 1;
+
+// A sample that was changed. Its list is a number, CENTRE or NEIGHBOURS, since it is a word of the list of changes, which C reads.
 #[derive(Clone, Copy)]
 pub struct Change {
     pub list: u32,
     pub place: u32,
     pub old: u32,
     pub new: u32,
-}
-
-// The number of changes that were made.
-#[derive(Clone, Copy)]
-pub enum Repaired {
-    Changes(usize),
-    Refused(Refusal),
 }
 
 // 1 to 6, 18, 19.
@@ -39,18 +36,18 @@ fn judge_repair(
     neighbours: &[u32],
     filler: f32,
     held: usize,
-) -> Verdict
+) -> Result<(), Refusal>
     ensures { result ≡ judge_repair header (delivery centre.now neighbours.now) filler held }
 {
-    let lent = judge_lent(header, centre.len(), neighbours.len());
-    if let Verdict::Refused(r) = lent {
-        return Verdict::Refused(r);
-    }
-    let usable = unless(is_usable(filler), Refusal::BadFiller);
-    if let Verdict::Refused(r) = usable {
-        return Verdict::Refused(r);
-    }
-    let wanted = count_changes(header, centre, neighbours, bits_of(filler));
+    judge_lent(header, centre.len(), neighbours.len())?;
+    unless(is_usable(filler), Refusal::BadFiller)?;
+    let damaged = Damaged {
+        header,
+        centre,
+        neighbours,
+        filler: bits_of(filler),
+    };
+    let wanted = damaged.list_changes(&mut []);
     unless(wanted <= held / 4, Refusal::ChangesTooShort(wanted))
 }
 
@@ -61,14 +58,17 @@ pub fn repair(
     neighbours: &mut [u32],
     filler: f32,
     changes: &mut [u32],
-) -> Repaired
+) -> Result<usize, Refusal>
     ensures { record { answer = result; left = delivery centre.new neighbours.new; changes = changes.new } ≡ repair header (delivery centre.old neighbours.old) filler changes.old }
 {
-    let verdict = judge_repair(header, centre, neighbours, filler, changes.len());
-    if let Verdict::Refused(r) = verdict {
-        return Repaired::Refused(r);
-    }
-    let count = list_changes(header, centre, neighbours, bits_of(filler), changes);
+    judge_repair(header, centre, neighbours, filler, changes.len())?;
+    let damaged = Damaged {
+        header,
+        centre,
+        neighbours,
+        filler: bits_of(filler),
+    };
+    let count = damaged.list_changes(changes);
     apply(changes, count, centre, neighbours);
-    Repaired::Changes(count)
+    Ok(count)
 }

@@ -1,72 +1,44 @@
-// The list of changes: how many there are, and the words of each, four a change.
-ghost use Rattle.std.specs.Prelude.{◌≡◌, ◌+◌, ◌*◌, ◌≤◌, length};
+// The list of changes, the words of each, four a change: as many as there is room for, and all are counted.
+ghost use Rattle.std.specs.Prelude.{◌≡◌, ◌+◌, ◌*◌, ◌^◌, ◌≤◌, ◌<◌, length};
 ghost use Rattle.std.proofs.lemmas.List.Edits.{sets};
 ghost use Rattle.grid.specs.Counts.{most_samples};
-ghost use Rattle.grid.specs.Shape.{Shaped};
-ghost use Rattle.repair.specs.Definition.{delivery, as_star, words_of, fillers_in, mismatches, changes_of};
+ghost use Rattle.repair.specs.Definition.{words_of, fillers_in, mismatches, changes_of};
+ghost use Rattle.repair.specs.Damaged.{delivered};
 ghost use Rattle.repair.specs.Filled.{filled_in};
-ghost use Rattle.repair.specs.Faces.{spot_count};
-ghost use Rattle.repair.specs.Listed.{found_of, Put};
+ghost use Rattle.repair.specs.Listed.{found_of, Listed};
 
-use crate::Change;
-use crate::faces::{mismatch_at, spot_count};
-use crate::samples::filler_at;
-use model::Header;
-
-#[derive(Clone, Copy)]
-pub enum Found {
-    At(Change),
-    Nothing,
-}
-
-fn count_found(found: Found) -> usize
-    ensures { (result ≡ length (found_of found)) × (result ≤ 1) }
-{
-    match found {
-        Found::At(_) => 1,
-        Found::Nothing => 0,
-    }
-}
+use crate::faces::spot_count;
+use crate::samples::{Damaged, filler_at};
+use crate::{CENTRE, Change, NEIGHBOURS};
 
 fn put_change(changes: &mut [u32], at: usize, change: Change)
     requires { 4 * (at + 1) ≤ length changes.old }
     ensures { changes.new ≡ sets changes.old (4 * at) (words_of change) }
 {
-    let from = 4 * at;
-    changes[from] = change.list;
-    changes[from + 1] = change.place;
-    changes[from + 2] = change.old;
-    changes[from + 3] = change.new;
+    let words = [change.list, change.place, change.old, change.new];
+    changes[4 * at..4 * at + 4].copy_from_slice(&words);
 }
 
-// What was found, if anything, as entry `at`; and the next entry.
-fn put_found(changes: &mut [u32], at: usize, found: Found) -> usize
-    requires { 4 * (at + length (found_of found)) ≤ length changes.old }
-    ensures { Put changes.old at (found_of found) result changes.new }
+// What was found, if anything, as entry `at` where there is room; and the next entry.
+fn put_found(changes: &mut [u32], at: usize, found: Option<Change>) -> usize
+    requires { at + 1 < 2 ^ 64 }
+    ensures { Listed changes.old at (found_of found) result changes.new }
 {
     match found {
-        Found::At(change) => {
-            put_change(changes, at, change);
+        Some(change) => {
+            if at < changes.len() / 4 {
+                put_change(changes, at, change);
+            }
             at + 1
         }
-        Found::Nothing => at,
+        None => at,
     }
-}
-
-fn count_bad(list: u32, bits: &[u32], filler: u32) -> usize
-    requires { length bits.now ≤ most_samples }
-    ensures { (result ≡ length (fillers_in list filler bits.now)) × (result ≤ length bits.now) }
-{
-    let mut bad = 0;
-    for place in 0..bits.len() {
-        bad += count_found(filler_at(list, bits, filler, place));
-    }
-    bad
 }
 
 fn list_bad(list: u32, bits: &[u32], filler: u32, changes: &mut [u32], from: usize) -> usize
-    requires { (length bits.now ≤ most_samples) × (4 * (from + length (fillers_in list filler bits.now)) ≤ length changes.old) }
-    ensures { Put changes.old from (fillers_in list filler bits.now) result changes.new }
+    requires { (length bits.now ≤ most_samples) × (from ≤ most_samples) }
+    ensures few { result ≤ from + length bits.now }
+    ensures listed { Listed changes.old from (fillers_in list filler bits.now) result changes.new }
 {
     let mut at = from;
     for place in 0..bits.len() {
@@ -75,60 +47,24 @@ fn list_bad(list: u32, bits: &[u32], filler: u32, changes: &mut [u32], from: usi
     at
 }
 
-fn count_mismatches(header: Header, centre: &[u32], neighbours: &[u32], filler: u32) -> usize
-    requires { Shaped (as_star header (delivery centre.now neighbours.now)) }
-    ensures { (result ≡ length (mismatches header (filled_in filler (delivery centre.now neighbours.now)))) × (result ≤ spot_count header.block.subdivisions) }
-{
-    let mut count = 0;
-    for k in 0..spot_count(header.block.subdivisions) {
-        count += count_found(mismatch_at(header, centre, neighbours, filler, k));
+impl Damaged<'_> {
+    fn list_mismatches(&self, changes: &mut [u32], from: usize) -> usize
+        requires { from ≤ 2 * most_samples }
+        ensures { Listed changes.old from (mismatches self.now.header (filled_in self.now.filler (delivered self.now))) result changes.new }
+    {
+        let mut at = from;
+        for k in 0..spot_count(self.header.block.subdivisions) {
+            at = put_found(changes, at, self.mismatch_at(k));
+        }
+        at
     }
-    count
-}
 
-fn list_mismatches(
-    header: Header,
-    centre: &[u32],
-    neighbours: &[u32],
-    filler: u32,
-    changes: &mut [u32],
-    from: usize,
-) -> usize
-    requires shaped { Shaped (as_star header (delivery centre.now neighbours.now)) }
-    requires neighbours_in_bounds { 4 * (from + length (mismatches header (filled_in filler (delivery centre.now neighbours.now)))) ≤ length changes.old }
-    ensures { Put changes.old from (mismatches header (filled_in filler (delivery centre.now neighbours.now))) result changes.new }
-{
-    let mut at = from;
-    for k in 0..spot_count(header.block.subdivisions) {
-        at = put_found(
-            changes,
-            at,
-            mismatch_at(header, centre, neighbours, filler, k),
-        );
+    // An empty list has room for none, and tells how many there are.
+    pub fn list_changes(&self, changes: &mut [u32]) -> usize
+        ensures { Listed changes.old 0 (changes_of self.now.header self.now.filler (delivered self.now)) result changes.new }
+    {
+        let of_centre = list_bad(CENTRE, self.centre, self.filler, changes, 0);
+        let bad = list_bad(NEIGHBOURS, self.neighbours, self.filler, changes, of_centre);
+        self.list_mismatches(changes, bad)
     }
-    at
-}
-
-pub fn count_changes(header: Header, centre: &[u32], neighbours: &[u32], filler: u32) -> usize
-    requires { Shaped (as_star header (delivery centre.now neighbours.now)) }
-    ensures { result ≡ length (changes_of header filler (delivery centre.now neighbours.now)) }
-{
-    let bad = count_bad(0, centre, filler) + count_bad(1, neighbours, filler);
-    bad + count_mismatches(header, centre, neighbours, filler)
-}
-
-pub fn list_changes(
-    header: Header,
-    centre: &[u32],
-    neighbours: &[u32],
-    filler: u32,
-    changes: &mut [u32],
-) -> usize
-    requires shaped { Shaped (as_star header (delivery centre.now neighbours.now)) }
-    requires neighbours_in_bounds { 4 * length (changes_of header filler (delivery centre.now neighbours.now)) ≤ length changes.old }
-    ensures { Put changes.old 0 (changes_of header filler (delivery centre.now neighbours.now)) result changes.new }
-{
-    let of_centre = list_bad(0, centre, filler, changes, 0);
-    let bad = list_bad(1, neighbours, filler, changes, of_centre);
-    list_mismatches(header, centre, neighbours, filler, changes, bad)
 }

@@ -1,240 +1,125 @@
-// A vector's call, made again. A vector has six parts:
-//   0  the call: 0 for a record or 1 for a block; the places lent of the index store, the vertices and the triangles; the length of the
-//      centre; and of a record the places lent to the reader, of a block n, mask, and the bits of threshold, base x, y, z and size
-//   1  the record, or the block's samples as runs: how many, and their bits
-//   2  the answer: its number and three numbers (for a mesh 0, its vertices, triangles and sample reads), and how many places of the index store are
-//      cleared
-//   3  the bits of the vertices' numbers
-//   4  the triangles' indices
-//   5  the index store's places that are not 0, each with its index
-// A record is read and then meshed. A block is meshed as it stands: so extraction meets what the reader would have refused, and
-// blocks whose records are too long for an array: 16 and 17 subdivisions with six finer neighbours, and 33 and 64 alone.
+// A vector's call, made again. A record is read and then meshed. A block is meshed as it stands: so extraction meets what the reader would
+// have refused, and blocks whose records are too long for an array: 16 and 17 subdivisions with six finer neighbours, and 33 and 64 alone.
 ghost use Rattle.std.specs.Prelude.{◌≤◌, length};
 
-use crate::agreeing::{MARK, answer_agrees, floats_agree};
-use crate::parts::{number, part, word};
-use model::{Block, Extraction, Header, Numbers, RecordRead, Report, Vector};
+use crate::agreeing::{Lists, MARK, answer_agrees, floats_agree};
+use crate::parts::{number, word};
+use crate::vector::Trial;
+use model::{Header, Lent, Numbers, Report};
 use record::fields::HEADER_LENGTH;
+use record::reader::read_record;
 use words::floats::float_of;
 
 fn numbers_of(report: Report) -> Numbers {
-    let reads = report.reads as usize;
-    let answer = report.answer;
-    match answer {
-        Extraction::Mesh(counts) => Numbers {
+    match report.answer {
+        Ok(counts) => Numbers {
             number: 0,
             first: counts.vertices,
             second: counts.triangles,
-            third: reads,
+            third: report.reads as usize,
         },
-        Extraction::Refused(refusal) => judge::numbers_of(refusal),
+        Err(refusal) => Numbers::from(refusal),
     }
 }
 
 // Meshed with as many places of the buffers as the vector says.
-fn mesh_agrees(
-    vector: &[u8],
-    header: Header,
-    centre: &[f32],
-    neighbours: &[f32],
-    store: &mut [u32],
-    vertices: &mut [f32],
-    triangles: &mut [u32],
-) -> bool {
-    let call = part(vector, 0);
-    let places = number(call, 1);
-    let numbers = number(call, 2);
-    let indices = number(call, 3);
-    if store.len() < places {
+fn mesh_agrees(trial: &Trial<'_>, lent: &Lent<'_>, lists: &mut Lists<'_>) -> bool {
+    let Some(store) = lists.store.get_mut(..number(trial.call, 1)) else {
         return false;
-    }
-    if vertices.len() < numbers {
+    };
+    let Some(vertices) = lists.vertices.get_mut(..number(trial.call, 2)) else {
         return false;
-    }
-    if triangles.len() < indices {
+    };
+    let Some(triangles) = lists.triangles.get_mut(..number(trial.call, 3)) else {
         return false;
-    }
+    };
     let report = algorithm::extract(
-        header,
-        centre,
-        neighbours,
-        &mut store[0..places],
-        &mut vertices[0..numbers],
-        &mut triangles[0..indices],
+        lent.header,
+        lent.centre,
+        lent.neighbours,
+        store,
+        vertices,
+        triangles,
     );
-    answer_agrees(vector, numbers_of(report), store, vertices, triangles)
+    answer_agrees(trial, numbers_of(report), lists)
 }
 
 // The first of the samples are the centre's, as many as the vector says.
 fn samples_agree(
-    vector: &[u8],
+    trial: &Trial<'_>,
     header: Header,
     samples: &[f32],
-    store: &mut [u32],
-    vertices: &mut [f32],
-    triangles: &mut [u32],
+    lists: &mut Lists<'_>,
 ) -> bool {
-    let split = number(part(vector, 0), 4);
-    if samples.len() < split {
+    let Some((centre, neighbours)) = samples.split_at_checked(number(trial.call, 4)) else {
         return false;
-    }
-    mesh_agrees(
-        vector,
+    };
+    let lent = Lent {
         header,
-        &samples[0..split],
-        &samples[split..],
-        store,
-        vertices,
-        triangles,
-    )
+        centre,
+        neighbours,
+    };
+    mesh_agrees(trial, &lent, lists)
 }
 
 // The samples that were read are the record's, and all beyond is as it was.
-fn read_agrees(
-    vector: &[u8],
-    header: Header,
-    samples: &[f32],
-    store: &mut [u32],
-    vertices: &mut [f32],
-    triangles: &mut [u32],
-) -> bool {
-    let src = part(vector, 1);
-    if src.len() < HEADER_LENGTH {
+fn read_agrees(trial: &Trial<'_>, header: Header, samples: &[f32], lists: &mut Lists<'_>) -> bool {
+    let Some(read) = trial.input.get(HEADER_LENGTH..) else {
         return false;
-    }
-    let read = &src[HEADER_LENGTH..];
-    if !floats_agree(samples, read) {
+    };
+    let Some(held) = samples.get(..read.len() / 4) else {
         return false;
-    }
-    let count = read.len() / 4;
-    if samples.len() < count {
-        return false;
-    }
-    samples_agree(
-        vector,
-        header,
-        &samples[0..count],
-        store,
-        vertices,
-        triangles,
-    )
+    };
+    floats_agree(samples, read) && samples_agree(trial, header, held, lists)
 }
 
-fn record_agrees(
-    vector: &[u8],
-    samples: &mut [f32],
-    store: &mut [u32],
-    vertices: &mut [f32],
-    triangles: &mut [u32],
-) -> bool {
-    let lent = number(part(vector, 0), 5);
-    if samples.len() < lent {
+fn record_agrees(trial: &Trial<'_>, samples: &mut [f32], lists: &mut Lists<'_>) -> bool {
+    let Some(lent) = samples.get_mut(..number(trial.call, 5)) else {
         return false;
-    }
-    let src = part(vector, 1);
-    let read = record::reader::read_record(src, &mut samples[0..lent]);
-    match read {
-        RecordRead::Block(header) => {
-            read_agrees(vector, header, samples, store, vertices, triangles)
-        }
-        RecordRead::Refused(refusal) => {
-            if !floats_agree(samples, &src[0..0]) {
-                return false;
-            }
-            answer_agrees(
-                vector,
-                judge::numbers_of(refusal),
-                store,
-                vertices,
-                triangles,
-            )
+    };
+    match read_record(trial.input, lent) {
+        Ok(header) => read_agrees(trial, header, samples, lists),
+        Err(refusal) => {
+            floats_agree(samples, &[]) && answer_agrees(trial, Numbers::from(refusal), lists)
         }
     }
 }
 
-// The next places take a sample; answers where they end.
-fn put_run(samples: &mut [f32], from: usize, count: usize, sample: f32) -> usize
-    requires { from ≤ length samples.old }
-    ensures { result ≤ length samples.new }
-{
-    let mut at = from;
-    let mut left = count;
-    while left > 0 {
-        if samples.len() <= at {
-            return at;
-        }
-        samples[at] = sample;
-        at += 1;
-        left -= 1;
-    }
-    at
-}
-
-// The samples that the runs tell; answers how many.
+// The samples that the runs tell, as many as there is room for; answers how many.
 fn fill(samples: &mut [f32], runs: &[u8]) -> usize
     ensures { result ≤ length samples.new }
 {
     let mut at = 0;
-    for k in 0..runs.len() / 8 {
-        let count = number(runs, 2 * k);
-        let sample = float_of(word(runs, 2 * k + 1));
-        at = put_run(samples, at, count, sample);
+    for run in runs.chunks_exact(8) {
+        let end = at + number(run, 0).min(samples.len() - at);
+        samples[at..end].fill(float_of(word(run, 1)));
+        at = end;
     }
     at
 }
 
-fn header_of(call: &[u8]) -> Header {
-    let base = Vector {
-        x: float_of(word(call, 8)),
-        y: float_of(word(call, 9)),
-        z: float_of(word(call, 10)),
-    };
-    let block = Block {
-        base,
-        size: float_of(word(call, 11)),
-        subdivisions: number(call, 5),
-    };
-    Header {
-        block,
-        mask: (word(call, 6) % 256) as u8,
-        threshold: float_of(word(call, 7)),
+fn block_agrees(trial: &Trial<'_>, samples: &mut [f32], lists: &mut Lists<'_>) -> bool {
+    let count = fill(samples, trial.input);
+    samples_agree(trial, trial.header(), &samples[..count], lists)
+}
+
+fn call_agrees(trial: &Trial<'_>, samples: &mut [f32], lists: &mut Lists<'_>) -> bool {
+    if trial.is_record() {
+        record_agrees(trial, samples, lists)
+    } else {
+        block_agrees(trial, samples, lists)
     }
 }
 
-fn block_agrees(
-    vector: &[u8],
-    samples: &mut [f32],
-    store: &mut [u32],
-    vertices: &mut [f32],
-    triangles: &mut [u32],
-) -> bool {
-    let count = fill(samples, part(vector, 1));
-    let header = header_of(part(vector, 0));
-    samples_agree(
-        vector,
-        header,
-        &samples[0..count],
-        store,
-        vertices,
-        triangles,
-    )
-}
-
-fn call_agrees(
-    vector: &[u8],
-    samples: &mut [f32],
-    store: &mut [u32],
-    vertices: &mut [f32],
-    triangles: &mut [u32],
-) -> bool {
-    if is_record(vector) {
-        return record_agrees(vector, samples, store, vertices, triangles);
-    }
-    block_agrees(vector, samples, store, vertices, triangles)
-}
-
-fn is_record(vector: &[u8]) -> bool {
-    number(part(vector, 0), 0) == 0
+fn agrees_in<const STORE: usize>(trial: &Trial<'_>, samples: &mut [f32]) -> bool
+    requires { STORE ≤ 1294340 }
+{
+    let mut lists = Lists {
+        store: &mut [MARK; STORE],
+        vertices: &mut [float_of(MARK); 5000],
+        triangles: &mut [MARK; 4000],
+    };
+    call_agrees(trial, samples, &mut lists)
 }
 
 // 16 subdivisions have a store of 31,744 places, and 64 one of 1,294,336.
@@ -242,41 +127,23 @@ const STORE: usize = 31750;
 
 const LARGER_STORE: usize = 1294340;
 
-fn agrees(vector: &[u8], samples: &mut [f32], store: &mut [u32]) -> bool {
-    let mark = float_of(MARK);
-    let mut vertices = [mark; 5000];
-    let mut triangles = [MARK; 4000];
-    call_agrees(vector, samples, store, &mut vertices, &mut triangles)
-}
-
-fn larger_agrees(vector: &[u8], samples: &mut [f32]) -> bool {
-    let mut store = [MARK; LARGER_STORE];
-    agrees(vector, samples, &mut store)
-}
-
-fn stored_agrees(vector: &[u8], samples: &mut [f32]) -> bool {
-    if STORE < number(part(vector, 0), 1) {
-        return larger_agrees(vector, samples);
+fn agrees_with<const SAMPLES: usize>(trial: &Trial<'_>) -> bool
+    requires { SAMPLES ≤ 309130 }
+{
+    let mut samples = [float_of(MARK); SAMPLES];
+    if STORE < number(trial.call, 1) {
+        agrees_in::<LARGER_STORE>(trial, &mut samples)
+    } else {
+        agrees_in::<STORE>(trial, &mut samples)
     }
-    let mut store = [MARK; STORE];
-    agrees(vector, samples, &mut store)
 }
 
-// The longest record has 6,647 samples.
-fn record_passes(vector: &[u8]) -> bool {
-    let mut samples = [float_of(MARK); 6650];
-    stored_agrees(vector, &mut samples)
-}
-
-// 17 subdivisions and six neighbours have 309,126 samples, and 64 alone 299,975.
-fn block_passes(vector: &[u8]) -> bool {
-    let mut samples = [float_of(MARK); 309130];
-    stored_agrees(vector, &mut samples)
-}
-
+// The longest record has 6,647 samples; 17 subdivisions and six neighbours have 309,126, and 64 alone 299,975.
 pub fn passes(vector: &[u8]) -> bool {
-    if is_record(vector) {
-        return record_passes(vector);
+    let trial = Trial::new(vector);
+    if trial.is_record() {
+        agrees_with::<6650>(&trial)
+    } else {
+        agrees_with::<309130>(&trial)
     }
-    block_passes(vector)
 }

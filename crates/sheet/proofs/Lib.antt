@@ -1,3 +1,5 @@
 pub mod CellCounts
 pub mod Counted
+pub mod Parts
 pub mod Pinned
+pub mod Whole

@@ -1,6 +1,6 @@
 -- Document 02, [2]: totals over a day's blocks. A block's figures from its samples alone, with no mesh and no index store; the line of a
 -- record; the lines of a run, which has its records end to end by their length fields; and their total. Definitions only.
-use Rattle.std.specs.Prelude.{ℕ, zero, suc, ◌+◌, Bool, cond, not, ◌&&◌, ◌||◌, List, [], ◌∷◌, eqb, leb, ltb, length, take, drop}
+use Rattle.std.specs.Prelude.{ℕ, zero, suc, ◌+◌, Bool, cond, not, ◌&&◌, ◌||◌, List, [], ◌∷◌, eqb, leb, ltb, length, take, drop, Err, None, Ok, Some}
 use Rattle.std.specs.Bool.{beq}
 use Rattle.tables.specs.Codes.{is_new}
 use Rattle.tables.specs.Cases.{regular_code, regular_vertices, transition_code, transition_vertices}
@@ -8,8 +8,7 @@ use Rattle.laws.specs.Steps.{total}
 use Rattle.laws.specs.Counting.{one}
 use Rattle.model.specs.declared.Xyz.{Xyz}
 use Rattle.model.specs.declared.Refusal.TheVariants.{RecordLength}
-use Rattle.model.specs.declared.Verdict.{Verdict}
-use Rattle.model.specs.declared.Verdict.TheVariants as Verdict
+use Rattle.model.specs.Answers.{Verdict}
 use Rattle.model.specs.Samples.{sample_of}
 use Rattle.model.specs.Rotations.{xyz}
 use Rattle.model.specs.Formulas.{inside}
@@ -21,13 +20,11 @@ use Rattle.model.specs.OverCells.{over_cells, triangles_at, triangles_on_side}
 use Rattle.model.specs.Judging.{judge_faces}
 use Rattle.model.specs.Words.{word_at}
 use Rattle.model.specs.Record.{star_of, judge_record}
+use Rattle.sheet.specs.declared.Edges.{Edges}
 use Rattle.sheet.specs.declared.Figures.{Figures}
-use Rattle.sheet.specs.declared.Line.{Line}
-use Rattle.sheet.specs.declared.Line.TheVariants as Line
-use Rattle.sheet.specs.declared.SheetLine.{SheetLine}
-use Rattle.sheet.specs.declared.SheetLine.TheVariants as SheetLine
-use Rattle.sheet.specs.declared.SheetTotal.{SheetTotal}
-use Rattle.sheet.specs.declared.SheetTotal.TheVariants as SheetTotal
+use Rattle.sheet.specs.Answers.{Line}
+use Rattle.sheet.specs.Answers.{SheetLine}
+use Rattle.sheet.specs.Answers.{SheetTotal}
 
 -- ---- samples and grid edges
 
@@ -118,8 +115,8 @@ unfoldable pub judge_line : List ℕ → Verdict
 judge_line bytes = or_else (judge_record bytes) (judge_faces (star_of bytes))
 
 abbrev pub line_by : Verdict → Figures → Line
-line_by Verdict.Passed figures = Line.Counted figures
-line_by (Verdict.Refused r) figures = Line.Refused r
+line_by (Ok _) figures = Ok figures
+line_by (Err r) figures = Err r
 
 unfoldable pub line_of : List ℕ → Line
 line_of bytes = line_by (judge_line bytes) (figures_of (star_of bytes))
@@ -144,7 +141,7 @@ unfoldable pub row_of : List ℕ → Row
 row_of rest =
     cond (is_whole rest)
     (record { bytes = take (record_length rest) rest; line = line_of (take (record_length rest) rest) })
-    (record { bytes = rest; line = Line.Refused RecordLength })
+    (record { bytes = rest; line = Err RecordLength })
 
 -- at most k lines of what is left, each with at least one byte
 abbrev pub rows_from : ℕ → List ℕ → List Row
@@ -161,23 +158,22 @@ rows_of run = rows_from (length run) run
 abbrev pub none : Figures
 none = record { inside = 0; edges = record { x = 0; y = 0; z = 0 }; vertices = 0; triangles = 0 }
 
+abbrev pub plus_edges : Edges → Edges → Edges
+plus_edges a b = record { x = a.x + b.x; y = a.y + b.y; z = a.z + b.z }
+
 abbrev pub plus : Figures → Figures → Figures
 plus a b =
     record {
       inside = a.inside + b.inside;
-      edges = record {
-        x = a.edges.x + b.edges.x;
-        y = a.edges.y + b.edges.y;
-        z = a.edges.z + b.edges.z;
-      };
+      edges = plus_edges a.edges b.edges;
       vertices = a.vertices + b.vertices;
       triangles = a.triangles + b.triangles;
     }
 
 -- a refused record adds nothing
 abbrev pub adds : Line → Figures
-adds (Line.Counted figures) = figures
-adds (Line.Refused r) = none
+adds (Ok figures) = figures
+adds (Err r) = none
 
 abbrev pub total_of : List Row → Figures
 total_of [] = none
@@ -190,14 +186,14 @@ abbrev pub most_run : ℕ
 most_run = 1073741824
 
 abbrev pub line_answer : Row → ℕ → SheetLine
-line_answer row at = SheetLine.Line (record { line = row.line; next = at + length row.bytes })
+line_answer row at = Ok (Some (record { line = row.line; next = at + length row.bytes }))
 
 -- the line of the record that begins at a place
 unfoldable pub sheet_line : List ℕ → ℕ → SheetLine
 sheet_line run at =
     cond (leb (length run) most_run)
-    (cond (ltb at (length run)) (line_answer (row_of (drop at run)) at) SheetLine.End)
-    (SheetLine.Refused RecordLength)
+    (cond (ltb at (length run)) (line_answer (row_of (drop at run)) at) (Ok None))
+    (Err RecordLength)
 
 unfoldable pub sheet_total : List ℕ → SheetTotal
-sheet_total run = cond (leb (length run) most_run) (SheetTotal.Total (total_of (rows_of run))) (SheetTotal.Refused RecordLength)
+sheet_total run = cond (leb (length run) most_run) (Ok (total_of (rows_of run))) (Err RecordLength)

@@ -5,7 +5,7 @@ use Rattle.std.proofs.Common.{sym, ap, subst, arith}
 use Rattle.std.proofs.Math.Bool.{beq}
 use Rattle.std.specs.Float.{nan}
 use Rattle.model.specs.declared.Header.{Header}
-use Rattle.model.specs.declared.Verdict.{Verdict}
+use Rattle.model.specs.Answers.{Verdict}
 use Rattle.model.specs.Limits.{side_count}
 use Rattle.model.specs.Formulas.{inside}
 use Rattle.model.specs.Refusals.{first}

@@ -1,6 +1,6 @@
 -- A plane of a block's samples, the points at one x line by line: what is counted in it, and in the layer of cells and edges from it to the next, is
 -- what the definition counts there.
-use Rattle.std.specs.Prelude.{◌≡◌, not, List, ℕ, zero, suc, ◌+◌, ◌*◌, ◌≤◌, ◌<◌, Float, get_or}
+use Rattle.std.specs.Prelude.{◌≡◌, not, List, ℕ, zero, suc, ◌+◌, ◌*◌, ◌≤◌, ◌<◌, Float, get_or, Ok}
 use Rattle.std.proofs.Math.Path.{refl, ap}
 use Rattle.std.proofs.Common.{sym, ap₂, ◌∙◌, subst, mul-add, mul-le-mul_left, zero-add, add-one, arith, get_or-take}
 use Rattle.std.specs.Bool.{beq}
@@ -10,8 +10,7 @@ use Rattle.laws.specs.Counting.{one}
 use Rattle.laws.specs.Sums.{total_same, total_rows, square, cube}
 use Rattle.model.specs.declared.Counts.{Counts}
 use Rattle.model.specs.declared.PlaceKind.TheVariants.{InBlock}
-use Rattle.model.specs.declared.Reading.{Reading}
-use Rattle.model.specs.declared.Reading.TheVariants.{Value}
+use Rattle.model.specs.Answers.{Reading}
 use Rattle.model.specs.Limits.{most_subdivisions}
 use Rattle.model.specs.Samples.{sample_length, in_block, value_of, value_at, sample_of}
 use Rattle.model.specs.Rotations.{xyz}
@@ -31,7 +30,7 @@ abbrev pub plane_places : ℕ
 plane_places = (most_subdivisions + 1) * (most_subdivisions + 1)
 
 abbrev of_block : Float → Reading
-of_block v = Value v InBlock
+of_block v = Ok (v, InBlock)
 
 -- 1 if just one of two samples is inside
 abbrev pub crossing_bit : Float → Float → Float → ℕ

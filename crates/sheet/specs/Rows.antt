@@ -1,12 +1,11 @@
 -- The words that the laws of crossing edges, of a run and of its total are said in. Definitions only.
-use Rattle.std.specs.Prelude.{◌≡◌, Bool, false, List, [], map, ℕ, ◌≤◌, length, get_or, take}
+use Rattle.std.specs.Prelude.{◌≡◌, Bool, false, List, [], map, ℕ, ◌≤◌, length, get_or, take, Err}
 use Rattle.laws.specs.Steps.{total, each}
 use Rattle.laws.specs.Counting.{has}
 use Rattle.model.specs.declared.Refusal.TheVariants.{RecordLength}
 use Rattle.model.specs.Star.{Star}
 use Rattle.model.specs.Mesh.{Made, regular_mesh}
 use Rattle.sheet.specs.declared.Figures.{Figures}
-use Rattle.sheet.specs.declared.Line.TheVariants as Line
 use Rattle.sheet.specs.Definition.{line_of, record_length, Row, is_whole, adds}
 
 -- the numbers of the grid edges that vertices stand on
@@ -22,7 +21,7 @@ abbrev pub bytes_of : List Row → List ℕ
 bytes_of = each (λ (r : Row). r.bytes)
 
 abbrev pub no_row : Row
-no_row = record { bytes = []; line = Line.Refused RecordLength }
+no_row = record { bytes = []; line = Err RecordLength }
 
 abbrev pub row_at : List Row → ℕ → Row
 row_at rows k = get_or rows k no_row
@@ -40,7 +39,7 @@ pub record OfRecord (row : Row) : Type 0 where
 pub record OfCutEnd (rest : List ℕ) (row : Row) : Type 0 where
   pub all : row.bytes ≡ rest
   pub cut : is_whole rest ≡ false
-  pub line_is : row.line ≡ Line.Refused RecordLength
+  pub line_is : row.line ≡ Err RecordLength
 
 -- each figure is at most so much
 pub record AtMost (most : ℕ) (f : Figures) : Type 0 where

@@ -1,6 +1,6 @@
 -- The rows of a run cover it: each byte belongs to one record, or to the cut end. A row is found again by where its bytes begin, and the rows from
 -- there on are the rest of them.
-use Rattle.std.specs.Prelude.{◌≡◌, refl, ◌⊎◌, Bool, true, false, List, [], ◌∷◌, ◌++◌, ℕ, zero, suc, ◌+◌, ◌≤◌, ◌<◌, leb, length, take, drop}
+use Rattle.std.specs.Prelude.{◌≡◌, refl, ◌⊎◌, Bool, true, false, List, [], ◌∷◌, ◌++◌, ℕ, zero, suc, ◌+◌, ◌≤◌, ◌<◌, leb, length, take, drop, Err}
 use Rattle.std.proofs.Common.{sym, ap, ◌∙◌, inl, inr, append-nil, not-suc-le-zero, le_of_suc-le-suc, zero-add, arith, leb-true, le-leb, length-append, length-drop, take-append-drop, length-take-le, get_or-take, drop-drop}
 use Rattle.std.proofs.Math.Bool.{and-false, and-eq-true_iff}
 use Rattle.std.proofs.Math.Decide.{dec_lt}
@@ -8,7 +8,6 @@ use Rattle.std.proofs.lemmas.Bool.{lt-leb}
 use Rattle.std.proofs.Math.Seq.{take-length, drop-length}
 use Rattle.model.specs.declared.Refusal.TheVariants.{RecordLength}
 use Rattle.model.specs.Words.{word_at}
-use Rattle.sheet.specs.declared.Line.TheVariants as Line
 use Rattle.sheet.specs.Definition.{line_of, record_length, Row, is_whole, row_of, rows_from, rows_of}
 use Rattle.sheet.specs.Rows.{bytes_of, row_at, begin_of, OfRecord, OfCutEnd}
 
@@ -28,7 +27,7 @@ module _ (rest : List ℕ) where
   unfolding row_of
   row_whole e = rw e
 
-  pub row_cut : is_whole rest ≡ false → row_of rest ≡ record { bytes = rest; line = Line.Refused RecordLength }
+  pub row_cut : is_whole rest ≡ false → row_of rest ≡ record { bytes = rest; line = Err RecordLength }
   unfolding row_of
   row_cut e = rw e
 
@@ -36,7 +35,7 @@ module _ (rest : List ℕ) where
   pub whole_answer : is_whole rest ≡ true → (line_of (take (record_length rest) rest) ≡ (row_of rest).line) × (record_length rest ≡ length (row_of rest).bytes)
   whole_answer e = rw (row_whole e) (refl, sym (length-take-le (record_length rest) rest (whole_fits e)))
 
-  pub cut_answer : is_whole rest ≡ false → (Line.Refused RecordLength ≡ (row_of rest).line) × (length rest ≡ length (row_of rest).bytes)
+  pub cut_answer : is_whole rest ≡ false → (Err RecordLength ≡ (row_of rest).line) × (length rest ≡ length (row_of rest).bytes)
   cut_answer e = rw (row_cut e) (refl, refl)
 
   pub cut_before : length rest < 4 → is_whole rest ≡ false

@@ -1,13 +1,13 @@
 -- How large figures are: at most what so many layers of cells add. So no sum over the records of a run wraps.
-use Rattle.std.specs.Prelude.{ℕ, ◌+◌, ◌-◌, ◌*◌, ◌^◌, ◌≤◌, ◌≡◌, refl}
+use Rattle.std.specs.Prelude.{ℕ, ◌+◌, ◌-◌, ◌*◌, ◌^◌, ◌≤◌, ◌<◌, ◌≡◌, refl, Err, Ok}
 use Rattle.std.proofs.Common.{zero-le, arith}
 use Rattle.model.specs.declared.Refusal.{Refusal}
 use Rattle.model.specs.Limits.{most_subdivisions, side_count}
 use Rattle.cases.specs.Sheets.{sheet_places}
 use Rattle.cells.specs.Puts.{most_of_cell}
+use Rattle.sheet.specs.declared.Edges.{Edges}
 use Rattle.sheet.specs.declared.Figures.{Figures}
-use Rattle.sheet.specs.declared.Line.{Line}
-use Rattle.sheet.specs.declared.Line.TheVariants as Line
+use Rattle.sheet.specs.Answers.{Line}
 use Rattle.sheet.specs.Definition.{none, plus, adds, most_run}
 use Rattle.sheet.specs.Rows.{AtMost}
 
@@ -24,6 +24,11 @@ most_layers = most_planes + side_count
 -- each fits its 64 bits
 abbrev pub Fits : Figures → Type 0
 Fits = AtMost (2 ^ 64 - 1)
+
+pub record EdgesFit (e : Edges) : Type 0 where
+  pub x : e.x < 2 ^ 64
+  pub y : e.y < 2 ^ 64
+  pub z : e.z < 2 ^ 64
 
 -- at most what so many layers add
 abbrev pub Small : ℕ → Figures → Type 0
@@ -67,16 +72,16 @@ small_fits k h p = at_most_of (2 ^ 64 - 1) (omega arith) p
 -- ---- a line, and the lines up to a place of a run
 
 -- a refused one adds nothing
-pub refused_adds : (r : Refusal) → adds (Line.Refused r) ≡ none
+pub refused_adds : (r : Refusal) → adds (Err r) ≡ none
 refused_adds r = refl
 
 abbrev pub SmallLine : Line → Type 0
-SmallLine (Line.Counted f) = Small most_layers f
-SmallLine (Line.Refused r) = Unit {0}
+SmallLine (Ok f) = Small most_layers f
+SmallLine (Err r) = Unit {0}
 
 small_adds : (line : Line) → SmallLine line → Small most_layers (adds line)
-small_adds (Line.Counted f) p = p
-small_adds (Line.Refused r) p = at_most_none (most_of_layer * most_layers)
+small_adds (Ok f) p = p
+small_adds (Err r) p = at_most_none (most_of_layer * most_layers)
 
 pub small_start : Small (most_layers * 0) none
 small_start = at_most_none (most_of_layer * (most_layers * 0))

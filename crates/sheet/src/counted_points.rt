@@ -10,44 +10,36 @@ use grid::voxel_blocks::inside;
 fn inside_bit(threshold: f32, sample: f32) -> u32
     ensures { (result ≡ inside_bit threshold sample) × (result ≤ 1) }
 {
-    if inside(threshold, sample) { 1 } else { 0 }
+    u32::from(inside(threshold, sample))
 }
 
 // 1 if just one of two samples is inside.
 fn crossing_bit(threshold: f32, a: f32, b: f32) -> u32
     ensures { (result ≡ crossing_bit threshold a b) × (result ≤ 1) }
 {
-    if inside(threshold, a) == inside(threshold, b) {
-        0
-    } else {
-        1
-    }
+    u32::from(inside(threshold, a) != inside(threshold, b))
 }
 
-// Of the first samples of a list, so many. Sums of thirty-two bits keep the compiler's lanes narrow.
-pub fn insides(threshold: f32, samples: &[f32], count: usize) -> u32
-    requires { (count ≤ length samples.now) × (count < 2 ^ 32) }
-    ensures { (result ≡ total (λ k. inside_bit threshold (get_or samples.now k nan)) count) × (result ≤ count) }
+// So many samples. Here a sum over a map was tried, and the proof that the sum fits did not close; `count` counts in usize, wider than a sample.
+pub fn insides(threshold: f32, samples: &[f32]) -> u32
+    requires { length samples.now < 2 ^ 32 }
+    ensures { (result ≡ total (λ k. inside_bit threshold (get_or samples.now k nan)) (length samples.now)) × (result ≤ length samples.now) }
 {
     let mut found = 0;
-    let mut k = 0;
-    while k < count {
-        found += inside_bit(threshold, samples[k]);
-        k += 1;
+    for sample in samples {
+        found += inside_bit(threshold, *sample);
     }
     found
 }
 
-// Of the edges from each sample of a list from a place on to the one as far on in another, so many.
-pub fn crossings(threshold: f32, a: &[f32], at: usize, b: &[f32], to: usize, count: usize) -> u32
-    requires { (at + count ≤ length a.now) × ((to + count ≤ length b.now) × (count < 2 ^ 32)) }
-    ensures { (result ≡ crossing_sum threshold a.now at b.now to count) × (result ≤ count) }
+// Of the edges from each sample of a list to the one as far on in another, so many.
+pub fn crossings(threshold: f32, a: &[f32], b: &[f32]) -> u32
+    requires { (length a.now ≡ length b.now) × (length a.now < 2 ^ 32) }
+    ensures { (result ≡ crossing_sum threshold a.now 0 b.now 0 (length a.now)) × (result ≤ length a.now) }
 {
     let mut found = 0;
-    let mut k = 0;
-    while k < count {
-        found += crossing_bit(threshold, a[at + k], b[to + k]);
-        k += 1;
+    for (from, to) in a.iter().zip(b) {
+        found += crossing_bit(threshold, *from, *to);
     }
     found
 }

@@ -3,11 +3,10 @@
 #![tactic(auto)]
 
 ghost use Rattle.std.specs.Prelude.{◌≡◌, ◌+◌, ◌≤◌, ◌<◌, length, drop};
-ghost use Rattle.model.specs.Record.{header_of, star_of};
-ghost use Rattle.record.specs.Accepted.{Accepted};
+ghost use Rattle.model.specs.Record.{star_of};
 ghost use Rattle.sheet.specs.Definition as Definition;
 ghost use Rattle.sheet.specs.Definition.{figures_of, line_of, adds, most_run, row_of, sheet_line, sheet_total};
-ghost use Rattle.sheet.specs.Sizes.{most_layers, Small, SmallLine, Fits};
+ghost use Rattle.sheet.specs.Sizes.{most_layers, Small, SmallLine, Fits, EdgesFit};
 
 mod counted_points;
 mod faces;
@@ -15,12 +14,12 @@ mod planes;
 mod sides;
 
 use faces::judge_faces;
-use model::{Header, Refusal, Verdict};
+use model::Refusal;
 use planes::count_layers;
-use record::fields::header_of;
-use record::judging::judge_record;
+use record::passed::Record;
 use sides::count_sides;
-use words::big::word_at;
+use std::ops::Add;
+use words::orders::{Big, ByteOrder};
 
 // Grid edges, by the axis that they lie along.
 #[repr(C)]
@@ -41,32 +40,11 @@ pub struct Figures {
     pub triangles: u64,
 }
 
-// A record's line: its figures, or why it is refused.
-#[derive(Clone, Copy)]
-pub enum Line {
-    Counted(Figures),
-    Refused(Refusal),
-}
-
-// A line, and where the next record begins: at the run's end there is none.
+// A line, and where the next record begins: at the run's end there is none. Both are told by the C interface.
 #[derive(Clone, Copy)]
 pub struct LineAt {
-    pub line: Line,
+    pub line: Result<Figures, Refusal>,
     pub next: usize,
-}
-
-// What stands at a place of a run: a line, nothing more, or that the whole run is refused.
-#[derive(Clone, Copy)]
-pub enum SheetLine {
-    Line(LineAt),
-    End,
-    Refused(Refusal),
-}
-
-#[derive(Clone, Copy)]
-pub enum SheetTotal {
-    Total(Figures),
-    Refused(Refusal),
 }
 
 // A longer run is refused.
@@ -79,55 +57,58 @@ pub const NO_FIGURES: Figures = Figures {
     triangles: 0,
 };
 
-fn plus(a: Figures, b: Figures) -> Figures
-    requires { Fits (Definition.plus a b) }
-    ensures { result ≡ Definition.plus a b }
-{
-    Figures {
-        inside: a.inside + b.inside,
-        edges: Edges {
-            x: a.edges.x + b.edges.x,
-            y: a.edges.y + b.edges.y,
-            z: a.edges.z + b.edges.z,
-        },
-        vertices: a.vertices + b.vertices,
-        triangles: a.triangles + b.triangles,
+impl Add for Edges {
+    type Output = Edges;
+
+    ghost can_add = { λ a b. EdgesFit (Definition.plus_edges a b) };
+
+    ghost add_gives = { λ a b c. c ≡ Definition.plus_edges a b };
+
+    fn add(self, rhs: Edges) -> Edges {
+        Edges {
+            x: self.x + rhs.x,
+            y: self.y + rhs.y,
+            z: self.z + rhs.z,
+        }
     }
 }
 
-// The figures of a record that passed.
-fn figures_of(src: &[u8], header: Header) -> Figures
-    requires { Accepted src.now × (header ≡ header_of src.now) }
-    ensures { Small most_layers result × (result ≡ figures_of (star_of src.now)) }
+impl Add for Figures {
+    type Output = Figures;
+
+    ghost can_add = { λ a b. Fits (Definition.plus a b) };
+
+    ghost add_gives = { λ a b c. c ≡ Definition.plus a b };
+
+    fn add(self, rhs: Figures) -> Figures {
+        Figures {
+            inside: self.inside + rhs.inside,
+            edges: self.edges + rhs.edges,
+            vertices: self.vertices + rhs.vertices,
+            triangles: self.triangles + rhs.triangles,
+        }
+    }
+}
+
+fn figures_of(src: &Record<'_>) -> Figures
+    ensures { Small most_layers result × (result ≡ figures_of (star_of src.now.bytes.now)) }
 {
-    let regular = count_layers(src, header);
-    let transition = count_sides(src, header);
+    let regular = count_layers(src);
+    let transition = count_sides(src);
     Figures {
-        inside: regular.inside,
-        edges: Edges {
-            x: regular.edges.x,
-            y: regular.edges.y,
-            z: regular.edges.z,
-        },
         vertices: regular.vertices + transition.vertices as u64,
         triangles: regular.triangles + transition.triangles as u64,
+        ..regular
     }
 }
 
 // The line of a record: the reader's judges, then 8.
-fn line_of(src: &[u8]) -> Line
+fn line_of(src: &[u8]) -> Result<Figures, Refusal>
     ensures { SmallLine result × (result ≡ line_of src.now) }
 {
-    let whole = judge_record(src);
-    if let Verdict::Refused(r) = whole {
-        return Line::Refused(r);
-    }
-    let header = header_of(src);
-    let faces = judge_faces(src, header);
-    if let Verdict::Refused(r) = faces {
-        return Line::Refused(r);
-    }
-    Line::Counted(figures_of(src, header))
+    let whole = Record::new(src)?;
+    judge_faces(&whole)?;
+    Ok(figures_of(&whole))
 }
 
 // The line of the record that begins at a place of a run, and where the next one begins. A cut one has all that is left.
@@ -137,13 +118,13 @@ fn line_at(run: &[u8], at: usize) -> LineAt
 {
     let rest = &run[at..];
     let cut = LineAt {
-        line: Line::Refused(Refusal::RecordLength),
+        line: Err(Refusal::RecordLength),
         next: run.len(),
     };
     if rest.len() < 4 {
         return cut;
     }
-    let size = 4 + word_at(rest, 0) as usize;
+    let size = 4 + Big::word_at(rest, 0) as usize;
     if rest.len() < size {
         return cut;
     }
@@ -153,42 +134,42 @@ fn line_at(run: &[u8], at: usize) -> LineAt
     }
 }
 
-pub fn sheet_line(run: &[u8], at: usize) -> SheetLine
+pub fn sheet_line(run: &[u8], at: usize) -> Result<Option<LineAt>, Refusal>
     ensures { result ≡ sheet_line run.now at }
 {
     if run.len() > MOST_RUN {
-        return SheetLine::Refused(Refusal::RecordLength);
+        return Err(Refusal::RecordLength);
     }
     if at >= run.len() {
-        return SheetLine::End;
+        return Ok(None);
     }
-    SheetLine::Line(line_at(run, at))
+    Ok(Some(line_at(run, at)))
 }
 
 // A refused record adds nothing.
-fn with_line(sum: Figures, line: Line) -> Figures
+fn with_line(sum: Figures, line: Result<Figures, Refusal>) -> Figures
     requires { Fits (Definition.plus sum (adds line)) }
     ensures { result ≡ Definition.plus sum (adds line) }
 {
     match line {
-        Line::Counted(figures) => plus(sum, figures),
-        Line::Refused(_) => sum,
+        Ok(figures) => sum + figures,
+        Err(_) => sum,
     }
 }
 
-pub fn sheet_total(run: &[u8]) -> SheetTotal
+pub fn sheet_total(run: &[u8]) -> Result<Figures, Refusal>
     ensures { result ≡ sheet_total run.now }
 {
     if run.len() > MOST_RUN {
-        return SheetTotal::Refused(Refusal::RecordLength);
+        return Err(Refusal::RecordLength);
     }
     let mut sum = NO_FIGURES;
     let mut at = 0;
+    // Each line tells where the next begins.
     while at < run.len() {
         let found = line_at(run, at);
-        let line = found.line;
-        sum = with_line(sum, line);
+        sum = with_line(sum, found.line);
         at = found.next;
     }
-    SheetTotal::Total(sum)
+    Ok(sum)
 }

@@ -1,11 +1,9 @@
 // The transition cells of a record, from its bytes: the three fine lines that a row of cells lies on are decoded at a time.
 ghost use Rattle.std.specs.Prelude.{◌≡◌, [], ℕ, ◌+◌, ◌*◌, ◌≤◌, ◌<◌, length, get_or};
 ghost use Rattle.std.specs.Float.{nan};
-ghost use Rattle.std.proofs.lemmas.List.Edits.{sets};
 ghost use Rattle.laws.specs.Steps.{listed};
 ghost use Rattle.model.specs.Limits.{side_count};
-ghost use Rattle.model.specs.Record.{count_of, header_of, samples_of, star_of};
-ghost use Rattle.record.specs.Accepted.{Accepted};
+ghost use Rattle.model.specs.Record.{count_of, samples_of, star_of};
 ghost use Rattle.lines.specs.Lines.{place_on, OnLine, NamedSide};
 ghost use Rattle.cases.specs.Sheets.{sheet_places};
 ghost use Rattle.cells.specs.Puts.{Few};
@@ -16,103 +14,101 @@ ghost use Rattle.sheet.specs.Fine.{three_lines, FineLines, SideCounts};
 use cases::SHEET;
 use cases::transition::rows_on;
 use cells::SheetIndex;
-use counting::{NONE, count_sheet, plus};
+use cells::sheet_cells::{CaseNumbers, LentSheet, LentTables};
+use counting::count_sheet;
 use grid::face_walk::{FaceWalk, Stride};
-use grid::transition_sides::{SIDES, next_side};
+use grid::named_sides::named_sides;
 use grid::voxel_blocks::MOST_SUBDIVISIONS;
 use lines::{Line, NEXT, fine_line, sample_on};
-use model::{Counts, Header};
+use model::{Counts, NO_COUNTS};
+use record::passed::Record;
 use tables::{transition_cell_class, transition_cell_data, transition_vertex_data};
-use walk::NO_LAYER;
 
 const THREE_LINES: usize = 3 * (2 * MOST_SUBDIVISIONS + 1);
 
-// A line's samples, from a place on.
-fn fill_line(src: &[u8], line: Line, samples: &mut [f32], at: usize)
-    requires accepted { Accepted src.now × ((k : ℕ) → k < line.points → OnLine (count_of src.now) line k) }
-    requires points_in_bounds { at + line.points ≤ length samples.old }
-    ensures { samples.new ≡ sets samples.old at (listed (λ k. get_or (samples_of src.now) (place_on line k) nan) line.points) }
+// A line's samples.
+fn fill_line(src: &Record<'_>, line: Line, samples: &mut [f32])
+    requires on_line { (k : ℕ) → k < line.points → OnLine (count_of src.now.bytes.now) line k }
+    requires points { length samples.old ≡ line.points }
+    ensures { samples.new ≡ listed (λ k. get_or (samples_of src.now.bytes.now) (place_on line k) nan) line.points }
 {
-    for k in 0..line.points {
-        samples[at + k] = sample_on(src, line, k);
+    for (k, sample) in samples.iter_mut().enumerate() {
+        *sample = sample_on(src, line, k);
     }
 }
 
 // The fine lines that the cells in row u lie on, one after another.
-fn fill_lines(src: &[u8], header: Header, side: usize, u: usize, samples: &mut [f32])
-    requires accepted { Accepted src.now × ((header ≡ header_of src.now) × NamedSide header side) }
-    requires u_lt_subdivisions { (u < header.block.subdivisions) × (length samples.old ≡ three_lines) }
-    ensures { FineLines (star_of src.now) side u samples.new }
+fn fill_lines(src: &Record<'_>, side: usize, u: usize, samples: &mut [f32])
+    requires named { NamedSide src.now.header side }
+    requires u_lt_subdivisions { (u < src.now.header.block.subdivisions) × (length samples.old ≡ three_lines) }
+    ensures { FineLines (star_of src.now.bytes.now) side u samples.new }
 {
-    let width = 2 * header.block.subdivisions + 1;
-    let mut i = 0;
-    while i < 3 {
-        let line = fine_line(header, side, 2 * u + i);
-        fill_line(src, line, samples, width * i);
-        i += 1;
+    let width = 2 * src.header.block.subdivisions + 1;
+    for i in 0..3 {
+        let line = fine_line(src.header, side, 2 * u + i);
+        fill_line(src, line, &mut samples[width * i..width * i + width]);
     }
 }
 
 // The case numbers of the cells of a named side, and their marks.
-fn face_cases(src: &[u8], header: Header, side: usize, cases: &mut [u16], marks: &mut [u8])
-    requires accepted { Accepted src.now × ((header ≡ header_of src.now) × NamedSide header side) }
+fn face_cases(src: &Record<'_>, side: usize, cases: &mut [u16], marks: &mut [u8])
+    requires named { NamedSide src.now.header side }
     requires cases_len { (length cases.old ≡ sheet_places) × (length marks.old ≡ sheet_places) }
-    ensures { Held (star_of src.now) (Side side) header.block.subdivisions [] cases.new marks.new }
+    ensures { Held (star_of src.now.bytes.now) (Side side) src.now.header.block.subdivisions [] cases.new marks.new }
 {
-    let n = header.block.subdivisions;
-    let width = 2 * n + 1;
+    let n = src.header.block.subdivisions;
     let walk = FaceWalk {
         first: 0,
-        u: Stride { up: width, down: 0 },
+        u: Stride {
+            up: 2 * n + 1,
+            down: 0,
+        },
         v: NEXT,
     };
     let mut samples = [0.0f32; THREE_LINES];
-    let mut u = 0;
-    while u < n {
-        fill_lines(src, header, side, u, &mut samples);
-        rows_on(n, header.threshold, &samples, walk, 1, cases, marks, u);
-        u += 1;
+    for u in 0..n {
+        fill_lines(src, side, u, &mut samples);
+        rows_on(n, src.header.threshold, &samples, walk, 1, cases, marks, u);
     }
 }
 
-fn count_named_sides(src: &[u8], header: Header) -> Counts
-    requires { Accepted src.now × (header ≡ header_of src.now) }
-    ensures { Few (sheet_places * side_count) result × SideCounts (star_of src.now) side_count result }
+// As crates/counting's, but for how a side's sheet is filled. One function for both would take that as a closure, and say of every block what the
+// closure's writes must be for it: more than the loop that it saves.
+fn count_named_sides(src: &Record<'_>) -> Counts
+    ensures { Few (sheet_places * side_count) result × SideCounts (star_of src.now.bytes.now) side_count result }
 {
-    let n = header.block.subdivisions;
-    let mask = header.mask;
+    let n = src.header.block.subdivisions;
     let classes = transition_cell_class();
     let cells = transition_cell_data();
     let codes = transition_vertex_data();
+    let tables = LentTables {
+        classes: &classes,
+        cells: &cells,
+        codes: &codes,
+    };
     let mut cases = [0u16; SHEET];
     let mut marks = [0u8; SHEET];
-    let mut counts = NONE;
-    let mut side = next_side(mask, 0);
-    while side < SIDES {
-        face_cases(src, header, side, &mut cases, &mut marks);
-        let more = count_sheet(
-            n,
-            SheetIndex::Side(side),
-            &classes,
-            &cells,
-            &codes,
-            &NO_LAYER,
-            &cases,
-            &marks,
-        );
-        counts = plus(counts, more);
-        side = next_side(mask, side + 1);
+    let mut counts = NO_COUNTS;
+    for side in named_sides(src.header.mask) {
+        face_cases(src, side, &mut cases, &mut marks);
+        let sheet = LentSheet {
+            index: SheetIndex::Side(side),
+            tables,
+            numbers: CaseNumbers::Words(&cases),
+            marks: &marks,
+        };
+        let more = count_sheet(n, &sheet);
+        counts = counts + more;
     }
     counts
 }
 
 // The transition tables are fetched only where there is a finer neighbour.
-pub fn count_sides(src: &[u8], header: Header) -> Counts
-    requires { Accepted src.now × (header ≡ header_of src.now) }
-    ensures { Few (sheet_places * side_count) result × SideCounts (star_of src.now) side_count result }
+pub fn count_sides(src: &Record<'_>) -> Counts
+    ensures { Few (sheet_places * side_count) result × SideCounts (star_of src.now.bytes.now) side_count result }
 {
-    if header.mask == 0 {
-        return NONE;
+    if src.header.mask == 0 {
+        return NO_COUNTS;
     }
-    count_named_sides(src, header)
+    count_named_sides(src)
 }

@@ -1,38 +1,19 @@
 -- What the C calls answer and leave, from what the model says: a refusal as its four numbers beside zeros, or zeros beside the answer.
 -- Definitions only.
-use Rattle.std.specs.Prelude.{ℕ, List, Float}
+use Rattle.std.specs.Prelude.{ℕ, List, Float, Result, Ok, Err, Some, None}
 use Rattle.std.specs.Float.{binary32}
 use Rattle.std.specs.Float.Ieee.{of_bits}
 use Rattle.model.specs.declared.Header.{Header}
 use Rattle.model.specs.declared.Numbers.{Numbers}
-use Rattle.model.specs.declared.Extraction.{Extraction}
-use Rattle.model.specs.declared.Extraction.TheVariants as Extraction
+use Rattle.model.specs.declared.Refusal.{Refusal}
+use Rattle.model.specs.Answers.{Verdict, PointRead, Extraction, RecordRead, RecordWritten}
 use Rattle.model.specs.declared.PlaceKind.{PlaceKind}
 use Rattle.model.specs.declared.PlaceKind.TheVariants.{InBlock, Face}
-use Rattle.model.specs.declared.PointRead.{PointRead}
-use Rattle.model.specs.declared.PointRead.TheVariants as PointRead
-use Rattle.model.specs.declared.Verdict.{Verdict}
-use Rattle.model.specs.declared.Verdict.TheVariants as Verdict
-use Rattle.model.specs.declared.RecordRead.{RecordRead}
-use Rattle.model.specs.declared.RecordRead.TheVariants as RecordRead
-use Rattle.model.specs.declared.RecordWritten.{RecordWritten}
-use Rattle.model.specs.declared.RecordWritten.TheVariants as RecordWritten
-use Rattle.stl.specs.declared.StlWritten.{StlWritten}
-use Rattle.stl.specs.declared.StlWritten.TheVariants as StlWritten
-use Rattle.stl.specs.declared.StlRead.{StlRead}
-use Rattle.stl.specs.declared.StlRead.TheVariants as StlRead
-use Rattle.repair.specs.declared.Repaired.{Repaired}
-use Rattle.repair.specs.declared.Repaired.TheVariants as Repaired
-use Rattle.volume.specs.declared.BlockCut.{BlockCut}
-use Rattle.volume.specs.declared.BlockCut.TheVariants as BlockCut
-use Rattle.sheet.specs.declared.Line.{Line}
-use Rattle.sheet.specs.declared.Line.TheVariants as Line
-use Rattle.sheet.specs.declared.SheetLine.{SheetLine}
-use Rattle.sheet.specs.declared.SheetLine.TheVariants as SheetLine
-use Rattle.sheet.specs.declared.SheetTotal.{SheetTotal}
-use Rattle.sheet.specs.declared.SheetTotal.TheVariants as SheetTotal
-use Rattle.weld.specs.declared.Welded.{Welded}
-use Rattle.weld.specs.declared.Welded.TheVariants as Welded
+use Rattle.stl.specs.Answers.{StlWritten, StlRead}
+use Rattle.repair.specs.Answers.{Repaired}
+use Rattle.volume.specs.Answers.{BlockCut}
+use Rattle.sheet.specs.Answers.{Line, SheetLine, SheetTotal}
+use Rattle.weld.specs.Answers.{Welded}
 use Rattle.model.specs.Limits.{side_count}
 use Rattle.model.specs.Formulas.{vector}
 use Rattle.model.specs.Refusals.{numbers, numbers_of}
@@ -59,6 +40,11 @@ use Rattle.sirveshan.specs.declared.WeldedCounts.{WeldedCounts}
 abbrev pub not_refused : Numbers
 not_refused = numbers 0 0 0 0
 
+-- an answer taken apart: the numbers of its refusal, and its value, or what stands for one where there is a refusal
+abbrev pub told : {T : Type 0} → Result T Refusal → T → Numbers × T
+told (Ok value) none = (not_refused, value)
+told (Err r) none = (numbers_of r, none)
+
 -- the f32 whose bits are all 0
 abbrev pub zero : Float
 zero = of_bits binary32 0
@@ -73,32 +59,32 @@ no_header =
 
 -- the reads stand beside it as the model reports them: 0 where something is refused
 abbrev pub as_extracted : Extraction → ℕ → Extracted
-as_extracted (Extraction.Mesh counts) reads = record { refused = not_refused; counts = counts; reads = reads }
-as_extracted (Extraction.Refused r) reads = record { refused = numbers_of r; counts = record { vertices = 0; triangles = 0 }; reads = reads }
+as_extracted (Ok counts) reads = record { refused = not_refused; counts = counts; reads = reads }
+as_extracted (Err r) reads = record { refused = numbers_of r; counts = record { vertices = 0; triangles = 0 }; reads = reads }
 
 abbrev pub as_header_read : RecordRead → HeaderRead
-as_header_read (RecordRead.Block header) = record { refused = not_refused; header = header }
-as_header_read (RecordRead.Refused r) = record { refused = numbers_of r; header = no_header }
+as_header_read (Ok header) = record { refused = not_refused; header = header }
+as_header_read (Err r) = record { refused = numbers_of r; header = no_header }
 
 abbrev pub as_written : RecordWritten → Written
-as_written (RecordWritten.Bytes length) = record { refused = not_refused; length = length }
-as_written (RecordWritten.Refused r) = record { refused = numbers_of r; length = 0 }
+as_written (Ok length) = record { refused = not_refused; length = length }
+as_written (Err r) = record { refused = numbers_of r; length = 0 }
 
 abbrev pub as_stl_written : StlWritten → Written
-as_stl_written (StlWritten.Bytes length) = record { refused = not_refused; length = length }
-as_stl_written (StlWritten.Refused r) = record { refused = numbers_of r; length = 0 }
+as_stl_written (Ok length) = record { refused = not_refused; length = length }
+as_stl_written (Err r) = record { refused = numbers_of r; length = 0 }
 
 abbrev pub as_triangles_read : StlRead → TrianglesRead
-as_triangles_read (StlRead.Triangles triangles) = record { refused = not_refused; triangles = triangles }
-as_triangles_read (StlRead.Refused r) = record { refused = numbers_of r; triangles = 0 }
+as_triangles_read (Ok triangles) = record { refused = not_refused; triangles = triangles }
+as_triangles_read (Err r) = record { refused = numbers_of r; triangles = 0 }
 
 abbrev pub as_mended : Repaired → Mended
-as_mended (Repaired.Changes changes) = record { refused = not_refused; changes = changes }
-as_mended (Repaired.Refused r) = record { refused = numbers_of r; changes = 0 }
+as_mended (Ok changes) = record { refused = not_refused; changes = changes }
+as_mended (Err r) = record { refused = numbers_of r; changes = 0 }
 
 abbrev pub as_samples_cut : BlockCut → SamplesCut
-as_samples_cut (BlockCut.Samples samples) = record { refused = not_refused; samples = samples }
-as_samples_cut (BlockCut.Refused r) = record { refused = numbers_of r; samples = 0 }
+as_samples_cut (Ok samples) = record { refused = not_refused; samples = samples }
+as_samples_cut (Err r) = record { refused = numbers_of r; samples = 0 }
 
 -- a face's kind is its own number, and in-block the next one
 abbrev pub kind_number : PlaceKind → ℕ
@@ -106,31 +92,31 @@ kind_number (Face face) = face
 kind_number InBlock = side_count
 
 abbrev pub as_sampled : PointRead → Sampled
-as_sampled (PointRead.Value value kind) = record { refused = not_refused; value = value; kind = kind_number kind }
-as_sampled (PointRead.Refused r) = record { refused = numbers_of r; value = zero; kind = 0 }
+as_sampled (Ok (value, kind)) = record { refused = not_refused; value = value; kind = kind_number kind }
+as_sampled (Err r) = record { refused = numbers_of r; value = zero; kind = 0 }
 
 -- a refused line has no figures; where there is no line, next is 0
 abbrev pub line_told : Line → ℕ → LineTold
-line_told (Line.Counted figures) next = record { refused = not_refused; figures = figures; next = next }
-line_told (Line.Refused r) next = record { refused = numbers_of r; figures = Sheet.none; next = next }
+line_told (Ok figures) next = record { refused = not_refused; figures = figures; next = next }
+line_told (Err r) next = record { refused = numbers_of r; figures = Sheet.none; next = next }
 
 abbrev pub as_line_told : SheetLine → LineTold
-as_line_told (SheetLine.Line at) = line_told at.line at.next
-as_line_told SheetLine.End = record { refused = not_refused; figures = Sheet.none; next = 0 }
-as_line_told (SheetLine.Refused r) = record { refused = numbers_of r; figures = Sheet.none; next = 0 }
+as_line_told (Ok (Some at)) = line_told at.line at.next
+as_line_told (Ok None) = record { refused = not_refused; figures = Sheet.none; next = 0 }
+as_line_told (Err r) = record { refused = numbers_of r; figures = Sheet.none; next = 0 }
 
 abbrev pub as_total_told : SheetTotal → TotalTold
-as_total_told (SheetTotal.Total figures) = record { refused = not_refused; figures = figures }
-as_total_told (SheetTotal.Refused r) = record { refused = numbers_of r; figures = Sheet.none }
+as_total_told (Ok figures) = record { refused = not_refused; figures = figures }
+as_total_told (Err r) = record { refused = numbers_of r; figures = Sheet.none }
 
 abbrev pub as_welded_counts : Welded → WeldedCounts
-as_welded_counts (Welded.Mesh counts) = record { refused = not_refused; counts = counts }
-as_welded_counts (Welded.Refused r) = record { refused = numbers_of r; counts = record { vertices = 0; triangles = 0 } }
+as_welded_counts (Ok counts) = record { refused = not_refused; counts = counts }
+as_welded_counts (Err r) = record { refused = numbers_of r; counts = record { vertices = 0; triangles = 0 } }
 
 -- a call that has nothing to tell but its refusal
 abbrev pub as_judged : Verdict → Numbers
-as_judged Verdict.Passed = not_refused
-as_judged (Verdict.Refused r) = numbers_of r
+as_judged (Ok _) = not_refused
+as_judged (Err r) = numbers_of r
 
 -- ---- the answer, and every buffer that is lent to be written
 

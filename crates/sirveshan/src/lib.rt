@@ -15,30 +15,25 @@ ghost use Rattle.volume.specs.Definition.{cut_block};
 ghost use Rattle.sheet.specs.Definition.{sheet_line, sheet_total};
 ghost use Rattle.weld.specs.Definition.{weld};
 ghost use Rattle.layers.specs.Definition.{make_summary, set_sample};
-ghost use Rattle.sirveshan.specs.Calls.{as_extracted, as_header_read, as_written, as_stl_written, as_triangles_read, as_mended, as_samples_cut, kind_number, as_sampled, as_welded_counts};
+ghost use Rattle.sirveshan.specs.Calls.{as_extracted, as_header_read, as_written, as_triangles_read, as_mended, as_samples_cut, kind_number, as_sampled, as_welded_counts};
 ghost use Rattle.sirveshan.specs.Calls.{extract_call, extract_whole_call, read_call, write_call, write_stl_call, read_stl_call, repair_call, cut_call, weld_call};
 ghost use Rattle.sirveshan.specs.Calls.{line_told, as_line_told, as_total_told};
-ghost use Rattle.sirveshan.specs.Calls.{as_judged, make_call, set_call};
+ghost use Rattle.sirveshan.specs.Calls.{told, as_judged, make_call, set_call};
 
 use grid::transition_sides::SIDES;
-use judge::numbers_of;
 use layers::making::make_summary;
 use layers::setting::set_sample;
 use model::{
-    Block, Counts, Extraction, Header, Numbers, PlaceKind, PointRead, RecordRead, RecordWritten,
-    Report, Vector, Verdict, Xyz,
+    Block, Counts, Header, Lent, NO_COUNTS, Numbers, PlaceKind, Refusal, Report, Vector, Xyz,
 };
 use record::reader::read_record;
 use record::writer::write_record;
-use repair::Repaired;
-use sheet::{Figures, Line, NO_FIGURES, SheetLine, SheetTotal};
+use sheet::{Figures, LineAt, NO_FIGURES};
 use stl::reader::read_stl;
 use stl::writer::write_stl;
-use stl::{StlRead, StlWritten};
-use volume::{BlockCut, cut_block};
-use weld::Welded;
+use volume::cut_block;
 
-// In each answer the refusal's number is 0 where nothing is refused, and what stands beside it is 0 where something is.
+// In each answer the refusal's number is 0 where nothing is refused, and what stands beside it is 0 where something is, but for a line's next.
 #[repr(C)]
 #[derive(Clone, Copy)]
 pub struct Extracted {
@@ -54,6 +49,7 @@ pub struct HeaderRead {
     pub header: Header,
 }
 
+// This and the next three are of one shape: the C interface names each number for what it counts.
 #[repr(C)]
 #[derive(Clone, Copy)]
 pub struct Written {
@@ -100,7 +96,7 @@ pub struct WeldedCounts {
 // The number of the kind in-block; a face has its own.
 const IN_BLOCK: usize = SIDES;
 
-// The next record begins there; 0 where there is no line.
+// The next record begins at next, also where this one's line is refused; 0 where there is no line.
 #[repr(C)]
 #[derive(Clone, Copy)]
 pub struct LineTold {
@@ -123,11 +119,6 @@ const NOT_REFUSED: Numbers = Numbers {
     third: 0,
 };
 
-const NO_COUNTS: Counts = Counts {
-    vertices: 0,
-    triangles: 0,
-};
-
 const NO_HEADER: Header = Header {
     block: Block {
         base: Vector {
@@ -142,115 +133,76 @@ const NO_HEADER: Header = Header {
     threshold: 0.0,
 };
 
-fn as_extracted(report: Report) -> Extracted
-    ensures { result ≡ as_extracted report.answer report.reads }
+// What an answer is taken apart into: the numbers of its refusal, and its value, or what stands for one where there is a refusal.
+fn told<T: Drop>(answer: Result<T, Refusal>, none: T) -> (Numbers, T)
+    ensures { result ≡ told answer none }
 {
-    let reads = report.reads;
-    let answer = report.answer;
     match answer {
-        Extraction::Mesh(counts) => Extracted {
-            refused: NOT_REFUSED,
+        Ok(value) => (NOT_REFUSED, value),
+        Err(refusal) => (Numbers::from(refusal), none),
+    }
+}
+
+impl From<Report> for Extracted {
+    ghost from_gives = { λ report told. told ≡ as_extracted report.answer report.reads };
+
+    fn from(report: Report) -> Extracted {
+        let (refused, counts) = told(report.answer, NO_COUNTS);
+        Extracted {
+            refused,
             counts,
-            reads,
-        },
-        Extraction::Refused(refusal) => Extracted {
-            refused: numbers_of(refusal),
-            counts: NO_COUNTS,
-            reads,
-        },
+            reads: report.reads,
+        }
     }
 }
 
-fn as_header_read(answer: RecordRead) -> HeaderRead
-    ensures { result ≡ as_header_read answer }
-{
-    match answer {
-        RecordRead::Block(header) => HeaderRead {
-            refused: NOT_REFUSED,
-            header,
-        },
-        RecordRead::Refused(refusal) => HeaderRead {
-            refused: numbers_of(refusal),
-            header: NO_HEADER,
-        },
+impl From<Result<Header, Refusal>> for HeaderRead {
+    ghost from_gives = { λ answer told. told ≡ as_header_read answer };
+
+    fn from(answer: Result<Header, Refusal>) -> HeaderRead {
+        let (refused, header) = told(answer, NO_HEADER);
+        HeaderRead { refused, header }
     }
 }
 
-fn as_written(answer: RecordWritten) -> Written
-    ensures { result ≡ as_written answer }
-{
-    match answer {
-        RecordWritten::Bytes(length) => Written {
-            refused: NOT_REFUSED,
-            length,
-        },
-        RecordWritten::Refused(refusal) => Written {
-            refused: numbers_of(refusal),
-            length: 0,
-        },
+// Of a record and of an STL file.
+impl From<Result<usize, Refusal>> for Written {
+    ghost from_gives = { λ answer told. told ≡ as_written answer };
+
+    fn from(answer: Result<usize, Refusal>) -> Written {
+        let (refused, length) = told(answer, 0);
+        Written { refused, length }
     }
 }
 
-fn as_stl_written(answer: StlWritten) -> Written
-    ensures { result ≡ as_stl_written answer }
-{
-    match answer {
-        StlWritten::Bytes(length) => Written {
-            refused: NOT_REFUSED,
-            length,
-        },
-        StlWritten::Refused(refusal) => Written {
-            refused: numbers_of(refusal),
-            length: 0,
-        },
+impl From<Result<usize, Refusal>> for TrianglesRead {
+    ghost from_gives = { λ answer told. told ≡ as_triangles_read answer };
+
+    fn from(answer: Result<usize, Refusal>) -> TrianglesRead {
+        let (refused, triangles) = told(answer, 0);
+        TrianglesRead { refused, triangles }
     }
 }
 
-fn as_triangles_read(answer: StlRead) -> TrianglesRead
-    ensures { result ≡ as_triangles_read answer }
-{
-    match answer {
-        StlRead::Triangles(triangles) => TrianglesRead {
-            refused: NOT_REFUSED,
-            triangles,
-        },
-        StlRead::Refused(refusal) => TrianglesRead {
-            refused: numbers_of(refusal),
-            triangles: 0,
-        },
+impl From<Result<usize, Refusal>> for Mended {
+    ghost from_gives = { λ answer told. told ≡ as_mended answer };
+
+    fn from(answer: Result<usize, Refusal>) -> Mended {
+        let (refused, changes) = told(answer, 0);
+        Mended { refused, changes }
     }
 }
 
-fn as_mended(answer: Repaired) -> Mended
-    ensures { result ≡ as_mended answer }
-{
-    match answer {
-        Repaired::Changes(changes) => Mended {
-            refused: NOT_REFUSED,
-            changes,
-        },
-        Repaired::Refused(refusal) => Mended {
-            refused: numbers_of(refusal),
-            changes: 0,
-        },
+impl From<Result<usize, Refusal>> for SamplesCut {
+    ghost from_gives = { λ answer told. told ≡ as_samples_cut answer };
+
+    fn from(answer: Result<usize, Refusal>) -> SamplesCut {
+        let (refused, samples) = told(answer, 0);
+        SamplesCut { refused, samples }
     }
 }
 
-fn as_samples_cut(answer: BlockCut) -> SamplesCut
-    ensures { result ≡ as_samples_cut answer }
-{
-    match answer {
-        BlockCut::Samples(samples) => SamplesCut {
-            refused: NOT_REFUSED,
-            samples,
-        },
-        BlockCut::Refused(refusal) => SamplesCut {
-            refused: numbers_of(refusal),
-            samples: 0,
-        },
-    }
-}
-
+// The C interface has a kind as a number.
 fn kind_number(kind: PlaceKind) -> usize
     ensures { result ≡ kind_number kind }
 {
@@ -260,97 +212,73 @@ fn kind_number(kind: PlaceKind) -> usize
     }
 }
 
-fn as_sampled(answer: PointRead) -> Sampled
-    ensures { result ≡ as_sampled answer }
-{
-    match answer {
-        PointRead::Value(value, kind) => Sampled {
-            refused: NOT_REFUSED,
-            value,
-            kind: kind_number(kind),
-        },
-        PointRead::Refused(refusal) => Sampled {
-            refused: numbers_of(refusal),
-            value: 0.0,
-            kind: 0,
-        },
+impl From<Result<(f32, PlaceKind), Refusal>> for Sampled {
+    ghost from_gives = { λ answer told. told ≡ as_sampled answer };
+
+    fn from(answer: Result<(f32, PlaceKind), Refusal>) -> Sampled {
+        match answer {
+            Ok((value, kind)) => Sampled {
+                refused: NOT_REFUSED,
+                value,
+                kind: kind_number(kind),
+            },
+            Err(refusal) => Sampled {
+                refused: Numbers::from(refusal),
+                value: 0.0,
+                kind: 0,
+            },
+        }
     }
 }
 
-fn line_told(line: Line, next: usize) -> LineTold
+fn line_told(line: Result<Figures, Refusal>, next: usize) -> LineTold
     ensures { result ≡ line_told line next }
 {
-    match line {
-        Line::Counted(figures) => LineTold {
-            refused: NOT_REFUSED,
-            figures,
-            next,
-        },
-        Line::Refused(refusal) => LineTold {
-            refused: numbers_of(refusal),
-            figures: NO_FIGURES,
-            next,
-        },
+    let (refused, figures) = told(line, NO_FIGURES);
+    LineTold {
+        refused,
+        figures,
+        next,
     }
 }
 
-fn as_line_told(answer: SheetLine) -> LineTold
-    ensures { result ≡ as_line_told answer }
-{
-    match answer {
-        SheetLine::Line(at) => {
-            let line = at.line;
-            line_told(line, at.next)
+impl From<Result<Option<LineAt>, Refusal>> for LineTold {
+    ghost from_gives = { λ answer told. told ≡ as_line_told answer };
+
+    fn from(answer: Result<Option<LineAt>, Refusal>) -> LineTold {
+        match answer {
+            Ok(Some(found)) => line_told(found.line, found.next),
+            Ok(None) => line_told(Ok(NO_FIGURES), 0),
+            Err(refusal) => line_told(Err(refusal), 0),
         }
-        SheetLine::End => LineTold {
-            refused: NOT_REFUSED,
-            figures: NO_FIGURES,
-            next: 0,
-        },
-        SheetLine::Refused(refusal) => LineTold {
-            refused: numbers_of(refusal),
-            figures: NO_FIGURES,
-            next: 0,
-        },
     }
 }
 
-fn as_total_told(answer: SheetTotal) -> TotalTold
-    ensures { result ≡ as_total_told answer }
-{
-    match answer {
-        SheetTotal::Total(figures) => TotalTold {
-            refused: NOT_REFUSED,
-            figures,
-        },
-        SheetTotal::Refused(refusal) => TotalTold {
-            refused: numbers_of(refusal),
-            figures: NO_FIGURES,
-        },
+impl From<Result<Figures, Refusal>> for TotalTold {
+    ghost from_gives = { λ answer told. told ≡ as_total_told answer };
+
+    fn from(answer: Result<Figures, Refusal>) -> TotalTold {
+        let (refused, figures) = told(answer, NO_FIGURES);
+        TotalTold { refused, figures }
     }
 }
 
-fn as_welded_counts(answer: Welded) -> WeldedCounts
-    ensures { result ≡ as_welded_counts answer }
-{
-    match answer {
-        Welded::Mesh(counts) => WeldedCounts {
-            refused: NOT_REFUSED,
-            counts,
-        },
-        Welded::Refused(refusal) => WeldedCounts {
-            refused: numbers_of(refusal),
-            counts: NO_COUNTS,
-        },
+impl From<Result<Counts, Refusal>> for WeldedCounts {
+    ghost from_gives = { λ answer told. told ≡ as_welded_counts answer };
+
+    fn from(answer: Result<Counts, Refusal>) -> WeldedCounts {
+        let (refused, counts) = told(answer, NO_COUNTS);
+        WeldedCounts { refused, counts }
     }
 }
 
-fn as_judged(verdict: Verdict) -> Numbers
+// Of a call that has nothing to tell but its refusal.
+fn as_judged(verdict: Result<(), Refusal>) -> Numbers
     ensures { result ≡ as_judged verdict }
 {
     match verdict {
-        Verdict::Refused(refusal) => numbers_of(refusal),
-        Verdict::Passed => NOT_REFUSED,
+        Ok(()) => NOT_REFUSED,
+        Err(refusal) => Numbers::from(refusal),
     }
 }
 
@@ -367,7 +295,7 @@ pub extern "C" fn sirveshan_extract(
     ensures { record { answer = result; store = store.new; vertices = vertices.new; triangles = triangles.new }
         ≡ extract_call (extract (star header centre.now neighbours.now) store.old vertices.old triangles.old) }
 {
-    as_extracted(algorithm::extract(header, centre, neighbours, store, vertices, triangles))
+    Extracted::from(algorithm::extract(header, centre, neighbours, store, vertices, triangles))
 }
 
 // The same, and the number of each vertex's grid edge in a further list.
@@ -384,7 +312,7 @@ pub extern "C" fn sirveshan_extract_whole(
     ensures { record { answer = result; store = store.new; vertices = vertices.new; triangles = triangles.new; edges = edges.new }
         ≡ extract_whole_call (extract_whole (star header centre.now neighbours.now) store.old vertices.old triangles.old edges.old) }
 {
-    as_extracted(algorithm::extract_whole(
+    Extracted::from(algorithm::extract_whole(
         header, centre, neighbours, store, vertices, triangles, edges,
     ))
 }
@@ -404,7 +332,7 @@ pub extern "C" fn sirveshan_extract_layered(
     ensures { record { answer = result; store = store.new; vertices = vertices.new; triangles = triangles.new; edges = edges.new }
         ≡ extract_whole_call (extract_layered (star header centre.now neighbours.now) summary.now store.old vertices.old triangles.old edges.old) }
 {
-    as_extracted(algorithm::extract_layered(
+    Extracted::from(algorithm::extract_layered(
         header, centre, neighbours, summary, store, vertices, triangles, edges,
     ))
 }
@@ -414,7 +342,7 @@ pub extern "C" fn sirveshan_extract_layered(
 pub extern "C" fn sirveshan_read(src: &[u8], samples: &mut [f32]) -> HeaderRead
     ensures { record { answer = result; samples = samples.new } ≡ read_call (read_record src.now samples.old) }
 {
-    as_header_read(read_record(src, samples))
+    HeaderRead::from(read_record(src, samples))
 }
 
 // A block and its samples as a record, in the first places of a lent buffer.
@@ -427,7 +355,12 @@ pub extern "C" fn sirveshan_write(
 ) -> Written
     ensures { record { answer = result; bytes = bytes.new } ≡ write_call (write_record header centre.now neighbours.now bytes.old) }
 {
-    as_written(write_record(header, centre, neighbours, bytes))
+    let lent = Lent {
+        header,
+        centre,
+        neighbours,
+    };
+    Written::from(write_record(&lent, bytes))
 }
 
 // A mesh as a binary STL file, in the first places of a lent buffer.
@@ -439,7 +372,7 @@ pub extern "C" fn sirveshan_write_stl(
 ) -> Written
     ensures { record { answer = result; bytes = bytes.new } ≡ write_stl_call (write_stl vertices.now triangles.now bytes.old) }
 {
-    as_stl_written(write_stl(vertices, triangles, bytes))
+    Written::from(write_stl(vertices, triangles, bytes))
 }
 
 // The corners of a binary STL file's triangles, nine numbers a triangle, in the first places of a lent list.
@@ -447,7 +380,7 @@ pub extern "C" fn sirveshan_write_stl(
 pub extern "C" fn sirveshan_read_stl(src: &[u8], positions: &mut [f32]) -> TrianglesRead
     ensures { record { answer = result; positions = positions.new } ≡ read_stl_call (read_stl src.now positions.old) }
 {
-    as_triangles_read(read_stl(src, positions))
+    TrianglesRead::from(read_stl(src, positions))
 }
 
 // A block's samples and its neighbours', by their bits, repaired in place: bad ones become the filler, fine ones that disagree take the
@@ -463,7 +396,7 @@ pub extern "C" fn sirveshan_repair(
     ensures { record { answer = result; centre = centre.new; neighbours = neighbours.new; changes = changes.new }
         ≡ repair_call (repair header (delivery centre.old neighbours.old) filler changes.old) }
 {
-    as_mended(repair::repair(header, centre, neighbours, filler, changes))
+    Mended::from(repair::repair(header, centre, neighbours, filler, changes))
 }
 
 // The block of n subdivisions whose (0, 0, 0) is the point `first` of a raw volume, in the first places of a lent list.
@@ -477,7 +410,7 @@ pub extern "C" fn sirveshan_cut(
 ) -> SamplesCut
     ensures { record { answer = result; samples = samples.new } ≡ cut_call (cut_block src.now sizes n first samples.old) }
 {
-    as_samples_cut(cut_block(src, sizes, n, first, samples))
+    SamplesCut::from(cut_block(src, sizes, n, first, samples))
 }
 
 // A mesh's lists once the vertices made on one grid edge are welded.
@@ -492,7 +425,7 @@ pub extern "C" fn sirveshan_weld(
     ensures { record { answer = result; vertices = vertices.new; triangles = triangles.new; edges = edges.new }
         ≡ weld_call (weld v t vertices.old triangles.old edges.old) }
 {
-    as_welded_counts(weld::weld(v, t, vertices, triangles, edges))
+    WeldedCounts::from(weld::weld(v, t, vertices, triangles, edges))
 }
 
 // The summary by layer of a block's samples, two numbers a layer, in the first places of a lent list.
@@ -547,7 +480,7 @@ pub extern "C" fn sirveshan_sample(src: &[u8], x: i32, y: i32, z: i32) -> u64
 pub extern "C" fn sirveshan_sample_kind(src: &[u8], x: i32, y: i32, z: i32) -> Sampled
     ensures { result ≡ as_sampled (record_point src.now x y z) }
 {
-    as_sampled(viewer::read_point(src, x, y, z))
+    Sampled::from(viewer::read_point(src, x, y, z))
 }
 
 // The line of the record that begins at a place of a run of records.
@@ -555,7 +488,7 @@ pub extern "C" fn sirveshan_sample_kind(src: &[u8], x: i32, y: i32, z: i32) -> S
 pub extern "C" fn sirveshan_sheet_line(src: &[u8], at: usize) -> LineTold
     ensures { result ≡ as_line_told (sheet_line src.now at) }
 {
-    as_line_told(sheet::sheet_line(src, at))
+    LineTold::from(sheet::sheet_line(src, at))
 }
 
 // The figures of all records of a run that are not refused, added up.
@@ -563,5 +496,5 @@ pub extern "C" fn sirveshan_sheet_line(src: &[u8], at: usize) -> LineTold
 pub extern "C" fn sirveshan_sheet_total(src: &[u8]) -> TotalTold
     ensures { result ≡ as_total_told (sheet_total src.now) }
 {
-    as_total_told(sheet::sheet_total(src))
+    TotalTold::from(sheet::sheet_total(src))
 }

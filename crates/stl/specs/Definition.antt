@@ -1,20 +1,17 @@
 -- Document 02, [1]: binary STL. The bytes of a mesh's file, what writing and reading refuse and when, and what they leave. All numbers of
 -- a file are little-endian; a NaN is written as 0x7fc00000. Definitions only.
-use Rattle.std.specs.Prelude.{ℕ, ◌+◌, ◌*◌, ◌/◌, List, ◌++◌, eqb, leb, Float, length, get_or, replicate}
+use Rattle.std.specs.Prelude.{ℕ, ◌+◌, ◌*◌, ◌/◌, List, ◌++◌, eqb, leb, Float, length, get_or, replicate, Err, Ok}
 use Rattle.std.specs.Float.{nan}
 use Rattle.laws.specs.Steps.{listed, each, laid}
 use Rattle.laws.specs.Counting.{gather}
 use Rattle.model.specs.declared.Refusal.TheVariants.{StlLength}
-use Rattle.model.specs.declared.Verdict.{Verdict}
-use Rattle.model.specs.declared.Verdict.TheVariants as Verdict
+use Rattle.model.specs.Answers.{Verdict}
 use Rattle.model.specs.Words.{little_at, little_bytes, little_float_at, little_float_bytes}
 use Rattle.model.specs.Refusals.{unless, or_else}
 use Rattle.model.specs.Judging.{judge_buffer}
 use Rattle.model.specs.Corners.{triangle_count, corner_of, judge_named}
-use Rattle.stl.specs.declared.StlWritten.{StlWritten}
-use Rattle.stl.specs.declared.StlWritten.TheVariants as StlWritten
-use Rattle.stl.specs.declared.StlRead.{StlRead}
-use Rattle.stl.specs.declared.StlRead.TheVariants as StlRead
+use Rattle.stl.specs.Answers.{StlWritten}
+use Rattle.stl.specs.Answers.{StlRead}
 
 -- ---- the lists of a mesh: six f32 a vertex, the first three its position; three indices a triangle (model's Corners). A last part vertex
 -- or triangle is not read.
@@ -89,12 +86,12 @@ pub record WriteOutcome : Type 0 where
   pub bytes : List ℕ
 
 abbrev pub write_answer : List Float → List ℕ → List ℕ → Verdict → WriteOutcome
-write_answer vertices triangles bytes Verdict.Passed =
+write_answer vertices triangles bytes (Ok _) =
     record {
-      answer = StlWritten.Bytes (file_length (triangle_count triangles));
+      answer = Ok (file_length (triangle_count triangles));
       bytes = laid (file_of vertices triangles) bytes;
     }
-write_answer vertices triangles bytes (Verdict.Refused r) = record { answer = StlWritten.Refused r; bytes = bytes }
+write_answer vertices triangles bytes (Err r) = record { answer = Err r; bytes = bytes }
 
 unfoldable pub write_stl : List Float → List ℕ → List ℕ → WriteOutcome
 write_stl vertices triangles bytes =
@@ -134,9 +131,9 @@ pub record ReadOutcome : Type 0 where
   pub positions : List Float
 
 abbrev pub read_answer : List ℕ → List Float → Verdict → ReadOutcome
-read_answer bytes positions Verdict.Passed =
-    record { answer = StlRead.Triangles (count_in bytes); positions = laid (positions_in bytes) positions }
-read_answer bytes positions (Verdict.Refused r) = record { answer = StlRead.Refused r; positions = positions }
+read_answer bytes positions (Ok _) =
+    record { answer = Ok (count_in bytes); positions = laid (positions_in bytes) positions }
+read_answer bytes positions (Err r) = record { answer = Err r; positions = positions }
 
 unfoldable pub read_stl : List ℕ → List Float → ReadOutcome
 read_stl bytes positions = read_answer bytes positions (judge_reading bytes (length positions))

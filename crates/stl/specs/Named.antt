@@ -1,7 +1,6 @@
 -- Document 02, [1]: what passes 17 names a vertex with each corner, said of each triangle's three places, as the writer asks for it.
-use Rattle.std.specs.Prelude.{ℕ, zero, suc, ◌+◌, ◌*◌, ◌<◌, ◌≡◌, List, Float, get_or}
+use Rattle.std.specs.Prelude.{ℕ, zero, suc, ◌+◌, ◌*◌, ◌<◌, ◌≡◌, List, Float, get_or, Ok}
 use Rattle.std.proofs.Common.{add-zero, arith}
-use Rattle.model.specs.declared.Verdict.TheVariants.{Passed}
 use Rattle.model.specs.Corners.{triangle_count, corner_of, judge_named}
 use Rattle.naming.specs.Corners.{corner_named, by_place, places_named}
 use Rattle.stl.specs.Definition.{vertex_count}
@@ -19,7 +18,7 @@ module _ (vertices : List Float) (triangles : List ℕ) where
   abbrev held : ℕ
   held = vertex_count vertices
 
-  pub names : judge_named held triangles ≡ Passed → AllName vertices triangles
+  pub names : judge_named held triangles ≡ Ok tt → AllName vertices triangles
   names e t h =
       record {
         one = rw add-zero at (corner_named held triangles e t 0 h (omega arith));
@@ -27,7 +26,7 @@ module _ (vertices : List Float) (triangles : List ℕ) where
         three = corner_named held triangles e t 2 h (omega arith);
       }
 
-  pub all_name_passes : AllName vertices triangles → judge_named held triangles ≡ Passed
+  pub all_name_passes : AllName vertices triangles → judge_named held triangles ≡ Ok tt
   all_name_passes name = places_named held triangles (by_place held triangles corner)
     where
       corner : (t corner : ℕ) → t < triangle_count triangles → corner < 3 → corner_of triangles t corner < held

@@ -1,7 +1,6 @@
 -- Document 02, [1]: what the judges of writing and of reading let pass, and that they let it pass.
-use Rattle.std.specs.Prelude.{ℕ, ◌*◌, ◌≤◌, ◌≡◌, List, Float, length}
+use Rattle.std.specs.Prelude.{ℕ, ◌*◌, ◌≤◌, ◌≡◌, List, Float, length, Ok}
 use borrow.Author.Tests.{leb-true, eqb-true, le-leb, eq-eqb}
-use Rattle.model.specs.declared.Verdict.TheVariants.{Passed}
 use Rattle.judge.specs.First.{both_passed, unless_passed}
 use Rattle.model.specs.Corners.{triangle_count, judge_named}
 use Rattle.stl.specs.Definition.{vertex_count, start_length, file_length, most_triangles, judge_writing, count_in, float_count, judge_file, judge_reading}
@@ -15,7 +14,7 @@ pub record Writable (vertices : List Float) (triangles : List ℕ) (room : ℕ) 
   pub fits : file_length (triangle_count triangles) ≤ room
 
 module _ (vertices : List Float) (triangles : List ℕ) (room : ℕ) where
-  pub writable : judge_writing (vertex_count vertices) triangles room ≡ Passed → Writable vertices triangles room
+  pub writable : judge_writing (vertex_count vertices) triangles room ≡ Ok tt → Writable vertices triangles room
   unfolding judge_writing
   writable e =
       let many = both_passed _ _ e in
@@ -26,7 +25,7 @@ module _ (vertices : List Float) (triangles : List ℕ) (room : ℕ) where
         fits = leb-true _ _ (unless_passed _ _ rest.1);
       }
 
-  pub writing_passes : Writable vertices triangles room → judge_writing (vertex_count vertices) triangles room ≡ Passed
+  pub writing_passes : Writable vertices triangles room → judge_writing (vertex_count vertices) triangles room ≡ Ok tt
   unfolding judge_writing
   writing_passes w =
       rw (
@@ -43,12 +42,12 @@ pub record Whole (bytes : List ℕ) : Type 0 where
   pub counted : length bytes ≡ file_length (count_in bytes)
 
 module _ (bytes : List ℕ) where
-  pub whole : judge_file bytes ≡ Passed → Whole bytes
+  pub whole : judge_file bytes ≡ Ok tt → Whole bytes
   whole e =
       let parts = both_passed _ _ e in
       record { long = leb-true _ _ (unless_passed _ _ parts.0); counted = eqb-true _ _ (unless_passed _ _ parts.1) }
 
-  pub file_passes : Whole bytes → judge_file bytes ≡ Passed
+  pub file_passes : Whole bytes → judge_file bytes ≡ Ok tt
   file_passes w = rw (le-leb start_length (length bytes) w.long, eq-eqb (length bytes) (file_length (count_in bytes)) w.counted)
 
 pub record Readable (bytes : List ℕ) (room : ℕ) : Type 0 where
@@ -56,12 +55,12 @@ pub record Readable (bytes : List ℕ) (room : ℕ) : Type 0 where
   pub fits : float_count * count_in bytes ≤ room
 
 module _ (bytes : List ℕ) (room : ℕ) where
-  pub readable : judge_reading bytes room ≡ Passed → Readable bytes room
+  pub readable : judge_reading bytes room ≡ Ok tt → Readable bytes room
   unfolding judge_reading
   readable e =
       let parts = both_passed (judge_file bytes) _ e in
       record { file = whole bytes parts.0; fits = leb-true _ _ (unless_passed _ _ parts.1) }
 
-  pub reading_passes : Readable bytes room → judge_reading bytes room ≡ Passed
+  pub reading_passes : Readable bytes room → judge_reading bytes room ≡ Ok tt
   unfolding judge_reading
   reading_passes r = rw (file_passes bytes r.file, le-leb (float_count * count_in bytes) room r.fits)

@@ -1,6 +1,6 @@
 -- Document 02, [1]: header, normals and attributes are not looked at: two files that differ in nothing else read the same. And what an answer
 -- with a count says of the file and of the positions.
-use Rattle.std.specs.Prelude.{ℕ, ◌+◌, ◌*◌, ◌<◌, ◌≡◌, refl, List, Float, length, get_or}
+use Rattle.std.specs.Prelude.{ℕ, ◌+◌, ◌*◌, ◌<◌, ◌≡◌, refl, List, Float, length, get_or, Err, Ok}
 use Rattle.std.proofs.Common.{add-zero, add_assoc, arith, ◌∙◌}
 use Rattle.std.proofs.Math.Path.{ap}
 use Rattle.std.specs.Float.{binary32}
@@ -8,10 +8,8 @@ use Rattle.std.specs.Float.Ieee.{of_bits}
 use Rattle.laws.specs.Steps.{laid}
 use Rattle.laws.specs.Counting.{gather}
 use Rattle.laws.specs.Gathered.{listed_same_below, length_gather, gather_same}
-use Rattle.model.specs.declared.Verdict.{Verdict}
-use Rattle.model.specs.declared.Verdict.TheVariants.{Passed, Refused}
+use Rattle.model.specs.Answers.{Verdict}
 use Rattle.model.specs.Words.{little_at}
-use Rattle.stl.specs.declared.StlRead.TheVariants as StlRead
 use Rattle.stl.specs.Definition.{header_length, float_count, corners_from, count_in, corners_in, positions_in, judge_reading, read_answer, read_stl}
 use Rattle.stl.specs.Passing.{Readable, readable}
 use Rattle.stl.specs.Files.{SameCorners}
@@ -44,8 +42,8 @@ module _ (one other : List ℕ) (same : SameCorners one other) where
   judged_same room = rw (same.long, count_same)
 
   answer_same : (positions : List Float) (v : Verdict) → read_answer one positions v ≡ read_answer other positions v
-  answer_same positions Passed = λ i. record { answer = StlRead.Triangles (count_same i); positions = laid (positions_same i) positions }
-  answer_same positions (Refused r) = refl
+  answer_same positions (Ok _) = λ i. record { answer = Ok (count_same i); positions = laid (positions_same i) positions }
+  answer_same positions (Err r) = refl
 
   pub same_read : (positions : List Float) → read_stl one positions ≡ read_stl other positions
   unfolding read_stl
@@ -60,12 +58,12 @@ pub record WasRead (bytes : List ℕ) (positions : List Float) (count : ℕ) : T
   pub left : (read_stl bytes positions).positions ≡ laid (positions_in bytes) positions
 
 -- a count is answered only for what passes
-answered : (bytes : List ℕ) (positions : List Float) (count : ℕ) (v : Verdict) → (read_answer bytes positions v).answer ≡ StlRead.Triangles count
-    → (v ≡ Passed) × (count_in bytes ≡ count)
-answered bytes positions count Passed e = (refl, cc)
-answered bytes positions count (Refused r) e = (cc, cc)
+answered : (bytes : List ℕ) (positions : List Float) (count : ℕ) (v : Verdict) → (read_answer bytes positions v).answer ≡ Ok count
+    → (v ≡ Ok tt) × (count_in bytes ≡ count)
+answered bytes positions count (Ok _) e = (refl, cc)
+answered bytes positions count (Err r) e = (cc, cc)
 
-pub was_read : (bytes : List ℕ) (positions : List Float) (count : ℕ) → (read_stl bytes positions).answer ≡ StlRead.Triangles count
+pub was_read : (bytes : List ℕ) (positions : List Float) (count : ℕ) → (read_stl bytes positions).answer ≡ Ok count
     → WasRead bytes positions count
 unfolding read_stl
 was_read bytes positions count e =

@@ -1,6 +1,6 @@
 -- Document 02, [1]: writing then reading gives each corner the position of the vertex that its triangle names; reading then writing gives
 -- the file back where header, normals and attributes are zero and no corner is a NaN.
-use Rattle.std.specs.Prelude.{ℕ, ◌+◌, ◌*◌, ◌≤◌, ◌<◌, ◌≡◌, refl, Float, take, drop}
+use Rattle.std.specs.Prelude.{ℕ, ◌+◌, ◌*◌, ◌≤◌, ◌<◌, ◌≡◌, refl, Float, take, drop, Ok}
 use Rattle.std.proofs.Common.{zero-add, add-zero, sym, ◌∙◌, length-drop, take-append-drop, ext_get_or, get_or-take, get_or-drop, take-add, take_all, drop-drop, length-take-le}
 use native.Mathlib.Omega.{arith}
 use Rattle.std.proofs.Math.Path.{ap, ap₂}
@@ -15,8 +15,6 @@ use Rattle.laws.specs.Gathered.{length_gather, get_d_gather, gather_pieces, thre
 use Rattle.model.specs.Words.{little_float_at, little_float_bytes}
 use Rattle.words.specs.Orders.{Bytes, little}
 use Rattle.words.specs.Floats.{Fit, floats_back}
-use Rattle.stl.specs.declared.StlWritten.TheVariants as StlWritten
-use Rattle.stl.specs.declared.StlRead.TheVariants as StlRead
 use Rattle.model.specs.Corners.{triangle_count, corner_of}
 use Rattle.stl.specs.Definition.{vertex_count, corners_of, header_length, start_length, normal_length, corners_length, attribute_length, triangle_length, zeros, triangle_bytes, file_of, file_length, write_answer, write_stl, count_in, float_count, corners_from, corners_in, positions_in, ReadOutcome, read_answer, read_stl}
 use Rattle.stl.specs.Parts.{length_zeros, zero_at, start_of, facet_of, file_parts, length_file}
@@ -29,7 +27,7 @@ use Rattle.stl.specs.Written.{wrote, count_in_file, positions_in_file}
 -- ---- writing then reading
 
 module _ (vertices : List Float) (triangles out : List ℕ) (k : ℕ) (positions : List Float) (fit : Fit vertices)
-    (e : (write_stl vertices triangles out).answer ≡ StlWritten.Bytes k) (room : float_count * triangle_count triangles ≤ length positions) where
+    (e : (write_stl vertices triangles out).answer ≡ Ok k) (room : float_count * triangle_count triangles ≤ length positions) where
   abbrev count : ℕ
   count = triangle_count triangles
 
@@ -44,14 +42,14 @@ module _ (vertices : List Float) (triangles out : List ℕ) (k : ℕ) (positions
       record { file = record { long = omega arith; counted = rw told long }; fits = rw told room }
 
   pub write_read : read_stl (take k (write_stl vertices triangles out).bytes) positions
-      ≡ record { answer = StlRead.Triangles count; positions = laid (gather (corners_of vertices triangles) count) positions }
+      ≡ record { answer = Ok count; positions = laid (gather (corners_of vertices triangles) count) positions }
   unfolding read_stl
   write_read =
       let w = wrote vertices triangles out k e in
       ap (λ (b : List ℕ). read_stl b positions) w.taken
       ∙ ap (read_answer file positions) (reading_passes file (length positions) file_readable)
       ∙ (λ i. record {
-        answer = StlRead.Triangles (count_in_file vertices triangles w.whole.few i);
+        answer = Ok (count_in_file vertices triangles w.whole.few i);
         positions = laid (positions_in_file vertices triangles w.whole.few fit i) positions;
       })
 
@@ -144,8 +142,8 @@ module _ (bytes : List ℕ) (positions vertices : List Float) (triangles : List 
       }
 
 pub read_write : (bytes : List ℕ) (positions vertices : List Float) (triangles out : List ℕ) (count : ℕ) → Bytes bytes → Plain bytes → NumbersIn bytes
-    → (read_stl bytes positions).answer ≡ StlRead.Triangles count → ThreeEach count (read_stl bytes positions).positions vertices triangles → length bytes ≤ length out
-    → write_stl vertices triangles out ≡ record { answer = StlWritten.Bytes (length bytes); bytes = laid bytes out }
+    → (read_stl bytes positions).answer ≡ Ok count → ThreeEach count (read_stl bytes positions).positions vertices triangles → length bytes ≤ length out
+    → write_stl vertices triangles out ≡ record { answer = Ok (length bytes); bytes = laid bytes out }
 unfolding read_stl write_stl
 read_write bytes positions vertices triangles out count small plain numbers e mesh room =
     let read = was_read bytes positions count e in
@@ -155,4 +153,4 @@ read_write bytes positions vertices triangles out count small plain numbers e me
     let long : file_length (triangle_count triangles) ≡ length bytes = ap file_length same.as_many ∙ sym r.file.counted in
     ap (write_answer vertices triangles out)
     (writing_passes vertices triangles (length out) (mesh_writable bytes positions vertices triangles small plain numbers r same (length out) room))
-    ∙ (λ i. record { answer = StlWritten.Bytes (long i); bytes = laid (whole i) out })
+    ∙ (λ i. record { answer = Ok (long i); bytes = laid (whole i) out })

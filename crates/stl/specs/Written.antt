@@ -1,6 +1,6 @@
 -- Document 02, [1]: what stands in a file that was written: zeros in header, normals and attributes, the count of triangles, and the
 -- corners that the triangles name, bit for bit up to a NaN's pattern.
-use Rattle.std.specs.Prelude.{ℕ, ◌+◌, ◌*◌, ◌≤◌, ◌<◌, ◌≡◌, refl, Float, length, get_or, take, drop}
+use Rattle.std.specs.Prelude.{ℕ, ◌+◌, ◌*◌, ◌≤◌, ◌<◌, ◌≡◌, refl, Float, length, get_or, take, drop, Err, Ok}
 use Rattle.std.proofs.Common.{zero-add, arith, ap₂, ◌∙◌, length-append, get_or-append-add}
 use Rattle.std.proofs.Math.Path.{sym, ap}
 use mathlib.Core.List.{List, [], ◌++◌, append_assoc}
@@ -12,12 +12,10 @@ use Rattle.laws.specs.Steps.{listed, each, laid}
 use Rattle.laws.specs.Counting.{gather}
 use Rattle.laws.specs.Lists.{length_each, listed_is}
 use Rattle.laws.specs.Gathered.{length_gather, gather_same, gather_split}
-use Rattle.model.specs.declared.Verdict.{Verdict}
-use Rattle.model.specs.declared.Verdict.TheVariants.{Passed, Refused}
+use Rattle.model.specs.Answers.{Verdict}
 use Rattle.model.specs.Words.{little_at, little_bytes, little_float_at, little_float_bytes}
 use Rattle.words.specs.Orders.{little}
 use Rattle.words.specs.Floats.{Fit, floats_after}
-use Rattle.stl.specs.declared.StlWritten.TheVariants as StlWritten
 use Rattle.model.specs.Corners.{triangle_count}
 use Rattle.stl.specs.Definition.{vertex_count, corners_of, header_length, normal_length, corners_length, attribute_length, triangle_length, zeros, triangle_bytes, file_of, file_length, most_triangles, judge_writing, write_answer, write_stl, count_in, corners_from, corners_in, positions_in}
 use Rattle.stl.specs.Parts.{start_of, length_zeros, zero_at, length_start, facet_of, length_facet, file_parts, length_file}
@@ -154,12 +152,12 @@ pub record Wrote (vertices : List Float) (triangles : List ℕ) (out : List ℕ)
   pub taken : take k (write_stl vertices triangles out).bytes ≡ file_of vertices triangles
 
 -- a length is answered only for what passes
-answered : (vertices : List Float) (triangles out : List ℕ) (k : ℕ) (v : Verdict) → (write_answer vertices triangles out v).answer ≡ StlWritten.Bytes k
-    → (v ≡ Passed) × (file_length (triangle_count triangles) ≡ k)
-answered vertices triangles out k Passed e = (refl, cc)
-answered vertices triangles out k (Refused r) e = (cc, cc)
+answered : (vertices : List Float) (triangles out : List ℕ) (k : ℕ) (v : Verdict) → (write_answer vertices triangles out v).answer ≡ Ok k
+    → (v ≡ Ok tt) × (file_length (triangle_count triangles) ≡ k)
+answered vertices triangles out k (Ok _) e = (refl, cc)
+answered vertices triangles out k (Err r) e = (cc, cc)
 
-module _ (vertices : List Float) (triangles out : List ℕ) (k : ℕ) (e : (write_stl vertices triangles out).answer ≡ StlWritten.Bytes k) where
+module _ (vertices : List Float) (triangles out : List ℕ) (k : ℕ) (e : (write_stl vertices triangles out).answer ≡ Ok k) where
   pub wrote : Wrote vertices triangles out k
   unfolding write_stl
   wrote =

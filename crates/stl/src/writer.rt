@@ -8,13 +8,12 @@ ghost use Rattle.stl.specs.Definition.{corners_of, header_length, start_length, 
 ghost use Rattle.stl.specs.Named.{Names, AllName};
 ghost use Rattle.stl.specs.Parts.{patterns_of, corner_bytes, corners_bytes, facet_bytes};
 
-use crate::StlWritten;
 use crate::layout::{ATTRIBUTE, CORNER, HEADER, NORMAL, file_length};
 use judge::{judge_buffer, unless};
-use model::{Refusal, Verdict};
+use model::Refusal;
 use naming::judge_named;
 use words::floats::bits_of;
-use words::little::put_word;
+use words::orders::{ByteOrder, Little};
 
 const MOST_TRIANGLES: usize = 4294967295;
 
@@ -26,13 +25,19 @@ struct Corner {
     z: u32,
 }
 
+// Those of a triangle's corners.
+#[derive(Clone, Copy)]
+struct Facet {
+    a: Corner,
+    b: Corner,
+    c: Corner,
+}
+
 fn put_zeros(bytes: &mut [u8], at: usize, count: usize)
     requires { at + count ≤ length bytes.old }
     ensures { bytes.new ≡ sets bytes.old at (zeros count) }
 {
-    for k in 0..count {
-        bytes[at + k] = 0;
-    }
+    bytes[at..at + count].fill(0);
 }
 
 // The patterns of a vertex's position, the first three of its six f32.
@@ -52,26 +57,26 @@ fn put_corner(bytes: &mut [u8], at: usize, corner: Corner)
     requires { at + corner_length ≤ length bytes.old }
     ensures { bytes.new ≡ sets bytes.old at (corner_bytes corner) }
 {
-    put_word(bytes, at, corner.x);
-    put_word(bytes, at + 4, corner.y);
-    put_word(bytes, at + 8, corner.z);
+    Little::put_word(bytes, at, corner.x);
+    Little::put_word(bytes, at + 4, corner.y);
+    Little::put_word(bytes, at + 8, corner.z);
 }
 
-fn put_corners(bytes: &mut [u8], at: usize, a: Corner, b: Corner, c: Corner)
+fn put_corners(bytes: &mut [u8], at: usize, facet: Facet)
     requires { at + corners_length ≤ length bytes.old }
-    ensures { bytes.new ≡ sets bytes.old at (corners_bytes a b c) }
+    ensures { bytes.new ≡ sets bytes.old at (corners_bytes facet.a facet.b facet.c) }
 {
-    put_corner(bytes, at, a);
-    put_corner(bytes, at + CORNER, b);
-    put_corner(bytes, at + 2 * CORNER, c);
+    put_corner(bytes, at, facet.a);
+    put_corner(bytes, at + CORNER, facet.b);
+    put_corner(bytes, at + 2 * CORNER, facet.c);
 }
 
-fn put_facet(bytes: &mut [u8], at: usize, a: Corner, b: Corner, c: Corner)
+fn put_facet(bytes: &mut [u8], at: usize, facet: Facet)
     requires { at + triangle_length ≤ length bytes.old }
-    ensures { bytes.new ≡ sets bytes.old at (facet_bytes a b c) }
+    ensures { bytes.new ≡ sets bytes.old at (facet_bytes facet.a facet.b facet.c) }
 {
     put_zeros(bytes, at, NORMAL);
-    put_corners(bytes, at + NORMAL, a, b, c);
+    put_corners(bytes, at + NORMAL, facet);
     put_zeros(bytes, at + NORMAL + 3 * CORNER, ATTRIBUTE);
 }
 
@@ -84,13 +89,14 @@ fn put_triangle(bytes: &mut [u8], at: usize, vertices: &[f32], triangles: &[u32]
     let a = corner_of(vertices, triangles[first] as usize);
     let b = corner_of(vertices, triangles[first + 1] as usize);
     let c = corner_of(vertices, triangles[first + 2] as usize);
-    put_facet(bytes, at, a, b, c);
+    put_facet(bytes, at, Facet { a, b, c });
 }
 
 fn put_triangles(bytes: &mut [u8], vertices: &[f32], triangles: &[u32])
     requires { (file_length (triangle_count triangles.now) ≤ length bytes.old) × AllName vertices.now triangles.now }
     ensures { bytes.new ≡ sets bytes.old start_length (gather (λ t. triangle_bytes (corners_of vertices.now triangles.now t)) (triangle_count triangles.now)) }
 {
+    // By number and not by chunks: the place in the file goes by it too.
     for t in 0..triangles.len() / 3 {
         put_triangle(bytes, file_length(t), vertices, triangles, t);
     }
@@ -102,34 +108,25 @@ fn put_start(bytes: &mut [u8], count: usize)
     ensures { bytes.new ≡ sets bytes.old 0 (zeros header_length ++ little_bytes count) }
 {
     put_zeros(bytes, 0, HEADER);
-    put_word(bytes, HEADER, count as u32);
+    Little::put_word(bytes, HEADER, count as u32);
 }
 
 // 16, 17, 14.
-fn judge_writing(held: usize, triangles: &[u32], room: usize) -> Verdict
+fn judge_writing(held: usize, triangles: &[u32], room: usize) -> Result<(), Refusal>
     ensures { result ≡ judge_writing held triangles.now room }
 {
     let count = triangles.len() / 3;
-    let many = unless(count <= MOST_TRIANGLES, Refusal::StlLength(0));
-    if let Verdict::Refused(r) = many {
-        return Verdict::Refused(r);
-    }
-    let named = judge_named(held, triangles);
-    if let Verdict::Refused(r) = named {
-        return Verdict::Refused(r);
-    }
+    unless(count <= MOST_TRIANGLES, Refusal::StlLength(0))?;
+    judge_named(held, triangles)?;
     judge_buffer(file_length(count), room)
 }
 
-pub fn write_stl(vertices: &[f32], triangles: &[u32], bytes: &mut [u8]) -> StlWritten
+pub fn write_stl(vertices: &[f32], triangles: &[u32], bytes: &mut [u8]) -> Result<usize, Refusal>
     ensures { record { answer = result; bytes = bytes.new } ≡ write_stl vertices.now triangles.now bytes.old }
 {
-    let verdict = judge_writing(vertices.len() / 6, triangles, bytes.len());
-    if let Verdict::Refused(r) = verdict {
-        return StlWritten::Refused(r);
-    }
+    judge_writing(vertices.len() / 6, triangles, bytes.len())?;
     let count = triangles.len() / 3;
     put_start(bytes, count);
     put_triangles(bytes, vertices, triangles);
-    StlWritten::Bytes(file_length(count))
+    Ok(file_length(count))
 }

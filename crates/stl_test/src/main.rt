@@ -2,30 +2,24 @@
 // what was read. tools/stl_vectors.py makes the records and the files, with no code of ours, and the lines that must be printed.
 #![tactic(auto)]
 
+ghost use Rattle.std.specs.Prelude.{◌≤◌, length, IfOk};
+
 mod again;
 mod meshed;
 
+use again::write_again;
 use filling::read_full;
+use meshed::write_mesh;
 use std::rt::Files;
 use std::{fs, io};
 
 // The bytes of a record or a file at most.
 const BYTES: usize = 32768;
 
-fn print_number(rt: &impl Print, words: &str, number: usize) -> io::Result<()> {
-    print!(rt; "{words}{number}")
-}
-
-fn print_sameness(rt: &impl Print, words: &str, agreed: bool) -> io::Result<()> {
-    if agreed {
-        print!(rt; "{words}as stored")
-    } else {
-        print!(rt; "{words}NOT as stored")
-    }
-}
-
 // A file that is not there has no bytes.
-fn load(rt: &impl Files, name: &str, bytes: &mut [u8]) -> io::Result<usize> {
+fn load(rt: &impl Files, name: &str, bytes: &mut [u8]) -> io::Result<usize>
+    ensures { IfOk result (λ n. n ≤ length bytes.new) }
+{
     if !fs::exists(rt, name)? {
         return Ok(0);
     }
@@ -34,23 +28,23 @@ fn load(rt: &impl Files, name: &str, bytes: &mut [u8]) -> io::Result<usize> {
 }
 
 // Whether the first so many bytes are the stored ones.
-fn is_stored(bytes: &[u8], length: usize, stored: &[u8]) -> bool {
-    if bytes.len() < length {
-        return false;
+fn sameness(bytes: &[u8], length: usize, stored: &[u8]) -> &'static str {
+    match bytes.get(..length) {
+        Some(written) if written == stored => "as stored",
+        _ => "NOT as stored",
     }
-    &bytes[0..length] == stored
 }
 
-fn run_both(rt: &impl Print, record: &[u8], stored: &[u8]) -> io::Result<()> {
+// Of what is refused the length is 0.
+fn run_both(rt: &impl Print, name: &str, record: &[u8], stored: &[u8]) -> io::Result<()> {
     let mut bytes = [165u8; BYTES];
-    let length = meshed::write_mesh(record, &mut bytes);
-    print_number(rt, ": ", length)?;
-    print_sameness(rt, " bytes, ", is_stored(&bytes, length, stored))?;
+    let length = write_mesh(record, &mut bytes).unwrap_or(0);
+    let same = sameness(&bytes, length, stored);
+    print!(rt; "{name}: {length} bytes, {same}; ")?;
     let mut back = [165u8; BYTES];
-    let written = again::write_again(stored, &mut back);
-    print_number(rt, "; read and written again: ", written)?;
-    print_sameness(rt, " bytes, ", is_stored(&back, written, stored))?;
-    println!(rt)
+    let length = write_again(stored, &mut back).unwrap_or(0);
+    let same = sameness(&back, length, stored);
+    println!(rt; "read and written again: {length} bytes, {same}")
 }
 
 fn run(
@@ -63,14 +57,7 @@ fn run(
     let mut stored = [0u8; BYTES];
     let m = load(rt, record_name, &mut record)?;
     let n = load(rt, stored_name, &mut stored)?;
-    print!(rt; "{name}")?;
-    if m > record.len() {
-        return Ok(());
-    }
-    if n > stored.len() {
-        return Ok(());
-    }
-    run_both(rt, &record[0..m], &stored[0..n])
+    run_both(rt, name, &record[..m], &stored[..n])
 }
 
 fn main(rt: HostRuntime) -> io::Result<()> {

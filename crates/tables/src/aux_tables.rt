@@ -3,7 +3,7 @@ ghost use Rattle.std.specs.Prelude.{◌≡◌, ◌<◌};
 ghost use Rattle.tables.specs.Points as Points;
 ghost use Rattle.tables.specs.Points.{cell_point};
 
-// A point of the fine face, in fine steps from the cell's corner.
+// A point of the fine face, in fine steps from the cell's corner. Document 01 prescribes this enum of two structs.
 #[derive(Clone, Copy)]
 pub struct Offset {
     pub u: usize,

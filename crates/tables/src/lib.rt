@@ -25,6 +25,13 @@ use transition_cells::TRANSITION_CELL_DATA;
 use transition_classes::TRANSITION_CELL_CLASS;
 use transition_codes::TRANSITION_VERTEX_DATA;
 
+// How long the rows are: of a case's vertex codes, and of a class's cell data of each kind.
+const CODES: usize = 12;
+
+const REGULAR_CELL: usize = 16;
+
+const TRANSITION_CELL: usize = 37;
+
 pub fn regular_cell_class() -> [u8; 256]
     ensures { result ≡ regular_cell_class }
 {
@@ -61,27 +68,13 @@ pub fn transition_vertex_data() -> [u16; 6144]
     TRANSITION_VERTEX_DATA
 }
 
-fn wide(byte: u8) -> usize
-    ensures { (result ≡ byte) × (result < 256) }
-{
-    byte as usize
-}
-
-// A row of codes is twelve long.
-fn row_of_codes(codes: &[u16], case: usize) -> &[u16]
-    requires { case * 12 + 12 ≤ length codes.now }
-    ensures { result.now ≡ take 12 (drop (case * 12) codes.now) }
-{
-    let from = case * 12;
-    &codes[from..from + 12]
-}
-
-fn row_of_cells(cells: &[u8], row: usize, width: usize) -> &[u8]
-    requires { row * width + width ≤ length cells.now }
-    ensures { result.now ≡ take width (drop (row * width) cells.now) }
+// A row of an array whose rows lie end to end.
+fn row_of<T>(rows: &[T], row: usize, width: usize) -> &[T]
+    requires { row * width + width ≤ length rows.now }
+    ensures { result.now ≡ take width (drop (row * width) rows.now) }
 {
     let from = row * width;
-    &cells[from..from + width]
+    &rows[from..from + width]
 }
 
 // ---- regular cells: rows of the lent arrays
@@ -91,14 +84,14 @@ pub fn regular_case_codes(codes: &[u16], case: usize) -> &[u16]
     requires { (codes.now ≡ regular_vertex_data) × (case < 256) }
     ensures { result.now ≡ regular_codes case }
 {
-    row_of_codes(codes, case)
+    row_of(codes, case, CODES)
 }
 
 fn regular_class(classes: &[u8], case: usize) -> usize
     requires { (classes.now ≡ regular_cell_class) × (case < 256) }
     ensures { (result ≡ regular_class case) × (result < 16) }
 {
-    wide(classes[case])
+    usize::from(classes[case])
 }
 
 // The row of cell data that the case's class picks.
@@ -107,17 +100,17 @@ pub fn regular_case_cell<'a>(classes: &[u8], cells: &'a [u8], case: usize) -> &'
     ensures { result.now ≡ regular_cell case }
 {
     let row = regular_class(classes, case);
-    row_of_cells(cells, row, 16)
+    row_of(cells, row, REGULAR_CELL)
 }
 
-// ---- transition cells: rows of the lent arrays
+// ---- transition cells: rows of the lent arrays. What they share with the regular ones is row_of: each clause names the tables of its kind.
 
 // The case's row of vertex codes.
 pub fn transition_case_codes(codes: &[u16], case: usize) -> &[u16]
     requires { (codes.now ≡ transition_vertex_data) × (case < 512) }
     ensures { result.now ≡ transition_codes case }
 {
-    row_of_codes(codes, case)
+    row_of(codes, case, CODES)
 }
 
 // The class without the bit for the winding.
@@ -125,7 +118,7 @@ fn transition_class(classes: &[u8], case: usize) -> usize
     requires { (classes.now ≡ transition_cell_class) × (case < 512) }
     ensures { (result ≡ transition_class case % 128) × (result < 56) }
 {
-    wide(classes[case] % 128)
+    usize::from(classes[case] % 128)
 }
 
 // The row of cell data that the case's class picks.
@@ -134,7 +127,7 @@ pub fn transition_case_cell<'a>(classes: &[u8], cells: &'a [u8], case: usize) ->
     ensures { result.now ≡ transition_cell case }
 {
     let row = transition_class(classes, case);
-    row_of_cells(cells, row, 37)
+    row_of(cells, row, TRANSITION_CELL)
 }
 
 // Whether a triangle's corners go out 3, 2, 1.

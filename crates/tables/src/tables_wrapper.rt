@@ -6,32 +6,32 @@ ghost use Rattle.tables.specs.Codes.{point_a, point_b, step_x, step_y, step_z, i
 pub fn voxel_a_index(code: u16) -> usize
     ensures { (result ≡ point_a code) × (result < 16) }
 {
-    (code / 16 % 16) as usize
+    usize::from(code / 16 % 16)
 }
 
 pub fn voxel_b_index(code: u16) -> usize
     ensures { (result ≡ point_b code) × (result < 16) }
 {
-    (code % 16) as usize
+    usize::from(code % 16)
 }
 
 // How far back in x the stored vertex lies: 0 or 1.
 pub fn reuse_dx(code: u16) -> usize
     ensures { (result ≡ step_x code) × (result ≤ 1) }
 {
-    (code / 0x1000 % 2) as usize
+    usize::from(code / 0x1000 % 2)
 }
 
 pub fn reuse_dy(code: u16) -> usize
     ensures { (result ≡ step_y code) × (result ≤ 1) }
 {
-    (code / 0x2000 % 2) as usize
+    usize::from(code / 0x2000 % 2)
 }
 
 pub fn reuse_dz(code: u16) -> usize
     ensures { (result ≡ step_z code) × (result ≤ 1) }
 {
-    (code / 0x4000 % 2) as usize
+    usize::from(code / 0x4000 % 2)
 }
 
 pub fn new_vertex(code: u16) -> bool
@@ -43,5 +43,5 @@ pub fn new_vertex(code: u16) -> bool
 pub fn reuse_index(code: u16) -> usize
     ensures { (result ≡ reuse_index code) × (result < 16) }
 {
-    (code / 256 % 16) as usize
+    usize::from(code / 256 % 16)
 }

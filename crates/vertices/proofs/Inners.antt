@@ -3,6 +3,7 @@ use Prim.Native.Nat.{ℕ, ◌+◌, ◌<◌}
 use mathlib.Core.Path.{◌≡◌, refl, sym, ap, ◌∙◌}
 use mathlib.Core.Bool.{Bool, true, false, cond, and-eq-true_iff, or-false}
 use mathlib.Core.List.{List}
+use Rattle.std.proofs.Common.{None, Some}
 use native.Mathlib.Omega.{arith}
 use borrow.Author.Tests.{ltb-true, le-ltb}
 use lib.Dec.{eqb, ltb}
@@ -39,8 +40,12 @@ inner_is n (Transition at) e =
     let z : ◌≡◌ {A = ℕ} 0 1 = cc in
     absurd (omega arith)
 
-pub inner_found : (n : ℕ) (at : CellIndex) (cell : Xyz) → cell ≡ regular_at at → inner_at n at ≡ true → (at ≡ Regular cell) × Inner n cell
-inner_found n at cell e h = rw e (inner_is n at h)
+pub inner_found : (n : ℕ) (at : CellIndex) (cell : Xyz) → Some cell ≡ cond (inner_at n at) (Some (regular_at at)) None → (at ≡ Regular cell) × Inner n cell
+inner_found n at cell e = go (inner_at n at) refl e
+  where
+    go : (b : Bool) → inner_at n at ≡ b → Some cell ≡ cond b (Some (regular_at at)) None → (at ≡ Regular cell) × Inner n cell
+    go true h e = let is : cell ≡ regular_at at = cc in rw is (inner_is n at h)
+    go false h e = cc
 
 -- what holds of a regular cell by its coordinates
 module _ {at : CellIndex} {cell : Xyz} (e : at ≡ Regular cell) where

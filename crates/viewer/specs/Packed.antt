@@ -1,10 +1,9 @@
 -- The viewer's packed numbers, by what the record's judges find. Assumes nothing.
-use Rattle.std.specs.Prelude.{ℕ, ◌+◌, ◌≤◌, ◌≡◌, Bool, cond, List}
+use Rattle.std.specs.Prelude.{ℕ, ◌+◌, ◌≤◌, ◌≡◌, Bool, cond, List, Err, Ok}
 use Rattle.std.proofs.Common.{lit≤}
 use Rattle.model.specs.declared.Refusal.{Refusal}
 use Rattle.model.specs.declared.Refusal.TheVariants.{Subdivisions, Mask, Measure, CentreLength, MissingNeighbour, NeighboursTooLong, BadSample, FaceMismatch, IndexStoreTooShort, NoRoom, RecordLength, Version, SampleCount, BufferTooShort, PointNeverSampled, StlLength, NoVertex, BadFiller, ChangesTooShort, VolumeSize, VolumeLength, FirstPoint, EdgesTooShort, LayerDiffers}
-use Rattle.model.specs.declared.Verdict.{Verdict}
-use Rattle.model.specs.declared.Verdict.TheVariants.{Passed, Refused}
+use Rattle.model.specs.Answers.{Verdict}
 use Rattle.model.specs.Refusals.{numbers_of}
 use Rattle.model.specs.Record.{star_of, judge_record}
 use Rattle.model.specs.Blank.{is_blank}
@@ -38,14 +37,14 @@ number_small (EdgesTooShort wanted) = lit≤ tt
 number_small (LayerDiffers layer) = lit≤ tt
 
 module _ (base : ℕ) (v : Verdict) (answer : ℕ) where
-  pub packed_refused : (r : Refusal) → v ≡ Refused r → base + (numbers_of r).number ≡ packed base v answer
+  pub packed_refused : (r : Refusal) → v ≡ Err r → base + (numbers_of r).number ≡ packed base v answer
   packed_refused r e = rw e
 
-  pub packed_passed : v ≡ Passed → answer ≡ packed base v answer
+  pub packed_passed : v ≡ Ok tt → answer ≡ packed base v answer
   packed_passed e = rw e
 
 -- ---- blank
 
-pub blank_passed : (bytes : List ℕ) {b : Bool} → judge_record bytes ≡ Passed → b ≡ is_blank (star_of bytes) → cond b 1 0 ≡ blank_answer bytes
+pub blank_passed : (bytes : List ℕ) {b : Bool} → judge_record bytes ≡ Ok tt → b ≡ is_blank (star_of bytes) → cond b 1 0 ≡ blank_answer bytes
 unfolding blank_answer
 blank_passed bytes passed is = rw (passed, is)

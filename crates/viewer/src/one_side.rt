@@ -5,31 +5,30 @@ ghost use Rattle.std.specs.Float.{nan};
 ghost use Rattle.model.specs.Limits.{side_count};
 ghost use Rattle.model.specs.Sides.{named};
 ghost use Rattle.model.specs.Blank.{lies_as, side_as, sides_as, is_blank};
-ghost use Rattle.model.specs.Record.{count_of, header_of, samples_of, star_of};
-ghost use Rattle.record.specs.Accepted.{Accepted};
+ghost use Rattle.model.specs.Record.{count_of, samples_of, star_of};
 ghost use Rattle.lines.specs.Lines.{place_on, OnLine};
 ghost use Rattle.viewer.specs.Lines.{line_as};
 
-use grid::transition_sides::{SIDES, next_side};
+use grid::named_sides::named_sides;
 use grid::voxel_blocks::inside;
 use lines::{Line, NEXT, fine_line, sample_on};
-use model::Header;
-use record::fields::{header_of, sample_of};
+use record::passed::Record;
 
 // The k-th sample of a line is inside or is not, as wanted.
-fn lies_as(src: &[u8], threshold: f32, wanted: bool, line: Line, k: usize) -> bool
-    requires { Accepted src.now × OnLine (count_of src.now) line k }
-    ensures { result ≡ lies_as wanted threshold (get_or (samples_of src.now) (place_on line k) nan) }
+fn lies_as(src: &Record<'_>, wanted: bool, line: Line, k: usize) -> bool
+    requires { OnLine (count_of src.now.bytes.now) line k }
+    ensures { result ≡ lies_as wanted src.now.header.threshold (get_or (samples_of src.now.bytes.now) (place_on line k) nan) }
 {
-    inside(threshold, sample_on(src, line, k)) == wanted
+    inside(src.header.threshold, sample_on(src, line, k)) == wanted
 }
 
-fn line_lies(src: &[u8], threshold: f32, wanted: bool, line: Line) -> bool
-    requires { Accepted src.now × ((k : ℕ) → k < line.points → OnLine (count_of src.now) line k) }
-    ensures { result ≡ line_as wanted threshold (samples_of src.now) line }
+fn line_lies(src: &Record<'_>, wanted: bool, line: Line) -> bool
+    requires { (k : ℕ) → k < line.points → OnLine (count_of src.now.bytes.now) line k }
+    ensures { result ≡ line_as wanted src.now.header.threshold (samples_of src.now.bytes.now) line }
 {
+    // Not by `all`, which takes a twelfth longer.
     for k in 0..line.points {
-        if !lies_as(src, threshold, wanted, line, k) {
+        if !lies_as(src, wanted, line, k) {
             return false;
         }
     }
@@ -37,52 +36,43 @@ fn line_lies(src: &[u8], threshold: f32, wanted: bool, line: Line) -> bool
 }
 
 // The samples in the fine face of a named side.
-fn side_lies(src: &[u8], header: Header, wanted: bool, side: usize) -> bool
-    requires accepted { Accepted src.now × (header ≡ header_of src.now) }
-    requires side_lt_side_count { (side < side_count) × (named header.mask side ≡ true) }
-    ensures { result ≡ side_as wanted (star_of src.now) side }
+fn side_lies(src: &Record<'_>, wanted: bool, side: usize) -> bool
+    requires { (side < side_count) × (named src.now.header.mask side ≡ true) }
+    ensures { result ≡ side_as wanted (star_of src.now.bytes.now) side }
 {
-    let points = 2 * header.block.subdivisions + 1;
+    let points = 2 * src.header.block.subdivisions + 1;
     for u2 in 0..points {
-        let line = fine_line(header, side, u2);
-        if !line_lies(src, header.threshold, wanted, line) {
+        let line = fine_line(src.header, side, u2);
+        if !line_lies(src, wanted, line) {
             return false;
         }
     }
     true
 }
 
-fn sides_lie(src: &[u8], header: Header, wanted: bool) -> bool
-    requires { Accepted src.now × (header ≡ header_of src.now) }
-    ensures { result ≡ sides_as wanted (star_of src.now) }
+// Not by `all`: tried, and the proof that its closure may be called at each turn did not close. side_lies has the same form.
+fn sides_lie(src: &Record<'_>, wanted: bool) -> bool
+    ensures { result ≡ sides_as wanted (star_of src.now.bytes.now) }
 {
-    let mut side = next_side(header.mask, 0);
-    while side < SIDES {
-        if !side_lies(src, header, wanted, side) {
+    for side in named_sides(src.header.mask) {
+        if !side_lies(src, wanted, side) {
             return false;
         }
-        side = next_side(header.mask, side + 1);
     }
     true
 }
 
 // On the side of the first sample.
-pub fn is_blank(src: &[u8]) -> bool
-    requires { Accepted src.now }
-    ensures { result ≡ is_blank (star_of src.now) }
+pub fn is_blank(src: &Record<'_>) -> bool
+    ensures { result ≡ is_blank (star_of src.now.bytes.now) }
 {
-    let header = header_of(src);
-    let m = header.block.subdivisions + 1;
-    let wanted = inside(header.threshold, sample_of(src, 0));
-    let points = m * m * m;
+    let m = src.header.block.subdivisions + 1;
+    let wanted = inside(src.header.threshold, src.sample(0));
     let own = Line {
         start: 0,
         first: 0,
         step: NEXT,
-        points,
+        points: m * m * m,
     };
-    if !line_lies(src, header.threshold, wanted, own) {
-        return false;
-    }
-    sides_lie(src, header, wanted)
+    line_lies(src, wanted, own) && sides_lie(src, wanted)
 }

@@ -2,12 +2,11 @@
 -- have the same sample wherever they have the same point, so the same gradient at their common face. Assumes nothing.
 use Prim.Native.Nat.{ℕ, zero, suc, ◌+◌, ◌-◌, ◌*◌, ◌≤◌, ◌<◌}
 use Rattle.std.proofs.Common.{mul-add, arith, ◌∙◌, inl, inr, ⊎_elim, eq-eqb, ne_eqb}
-use Rattle.std.specs.Prelude.{◌≡◌, refl, true, List, ◌⊎◌, Float, length, get_or}
+use Rattle.std.specs.Prelude.{◌≡◌, refl, true, List, ◌⊎◌, Float, length, get_or, Ok}
 use Rattle.std.proofs.Math.Path.{sym, ap}
 use Rattle.std.specs.Float.Ieee.{nan}
 use Rattle.laws.specs.Lists.{length_listed, get_d_listed}
 use Rattle.model.specs.declared.Xyz.{Xyz}
-use Rattle.model.specs.declared.Verdict.TheVariants.{Passed}
 use Rattle.model.specs.Samples.{sample_length, in_block, on_face, place_of, outside, sampled, value_at, sample_of}
 use Rattle.model.specs.Rotations.{xyz}
 use Rattle.model.specs.Formulas.{◌⊖◌, vector, gradient_at}
@@ -89,10 +88,10 @@ module _ (bytes : List ℕ) (sizes : Xyz) (n : ℕ) (first : Xyz) where
       ∙ ap (λ (p : Xyz). volume_sample bytes (volume_place sizes (nearest_point sizes first p))) (point_of_lem n x y z h)
 
   -- 4 and 7
-  pub passes_4 : judge_centre n (length (block_in bytes sizes n first)) ≡ Passed
+  pub passes_4 : judge_centre n (length (block_in bytes sizes n first)) ≡ Ok tt
   passes_4 = rw (eq-eqb _ _ length_block)
 
-  pub passes_7 : Ready bytes sizes n first → judge_samples (block_in bytes sizes n first) ≡ Passed
+  pub passes_7 : Ready bytes sizes n first → judge_samples (block_in bytes sizes n first) ≡ Ok tt
   passes_7 h =
       samples_pass (block_in bytes sizes n first)
       (λ k l.

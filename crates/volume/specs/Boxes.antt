@@ -2,11 +2,10 @@
 -- volume goes, holds every sample that is taken. Assumes nothing.
 use Prim.Native.Nat.{ℕ, ◌+◌, ◌-◌, ◌*◌, ◌≤◌, ◌<◌, zero-le}
 use Rattle.std.proofs.Common.{mul-add, mul_assoc, arith, sym, ap, ◌∙◌}
-use Rattle.std.specs.Prelude.{◌≡◌, Bool, true, List, length}
+use Rattle.std.specs.Prelude.{◌≡◌, Bool, true, List, length, Ok}
 use Rattle.std.proofs.Math.Path.{refl}
 use Rattle.laws.specs.Below.{all_below, each_below}
 use Rattle.model.specs.declared.Xyz.{Xyz}
-use Rattle.model.specs.declared.Verdict.TheVariants.{Passed}
 use Rattle.model.specs.Samples.{sample_length}
 use Rattle.model.specs.Rotations.{xyz}
 use Rattle.model.specs.Judging.{usable}
@@ -115,7 +114,7 @@ module _ (sizes : Xyz) (n : ℕ) (first : Xyz) where
         let ez : lowest.z + z ≡ q.z = omega arith in
         sym (ap (λ (k : ℕ). usable (volume_sample bytes k)) (box_place x y z ∙ (λ i. volume_place sizes (xyz (ex i) (ey i) (ez i))))) ∙ sample
 
-    pub span_passes : (bytes : List ℕ) → span_usable bytes ≡ true → judge_taken bytes sizes n first ≡ Passed
+    pub span_passes : (bytes : List ℕ) → span_usable bytes ≡ true → judge_taken bytes sizes n first ≡ Ok tt
     unfolding judge_taken taken_place
     span_passes bytes e =
         passed_over_lem (taken_usable bytes sizes n first) 0 (sample_length n) refl

@@ -1,19 +1,17 @@
 -- Document 02, [8]: cutting a block from a raw volume: one flat list of f32, little-endian, x fastest, its three sizes told beside it. What the block
 -- takes from it, what cutting refuses and when, and what it leaves. A coordinate that may be -1 is kept one up, as in the model's Samples. Definitions only.
-use Rattle.std.specs.Prelude.{ℕ, zero, suc, ◌+◌, ◌-◌, ◌*◌, ◌/◌, ◌%◌, Bool, cond, ◌&&◌, List, eqb, leb, ltb, Float, length}
+use Rattle.std.specs.Prelude.{ℕ, zero, suc, ◌+◌, ◌-◌, ◌*◌, ◌/◌, ◌%◌, Bool, cond, ◌&&◌, List, eqb, leb, ltb, Float, length, Err, Ok}
 use Rattle.laws.specs.Steps.{listed, laid}
 use Rattle.model.specs.declared.Xyz.{Xyz}
 use Rattle.model.specs.declared.Refusal.TheVariants.{BadSample, VolumeSize, VolumeLength, FirstPoint}
-use Rattle.model.specs.declared.Verdict.{Verdict}
-use Rattle.model.specs.declared.Verdict.TheVariants as Verdict
+use Rattle.model.specs.Answers.{Verdict}
 use Rattle.model.specs.Samples.{sample_length}
 use Rattle.model.specs.Rotations.{xyz}
 use Rattle.model.specs.Words.{little_float_at}
 use Rattle.model.specs.Refusals as Refusals
 use Rattle.model.specs.Refusals.{unless, or_else}
 use Rattle.model.specs.Judging.{usable, judge_subdivisions, judge_buffer}
-use Rattle.volume.specs.declared.BlockCut.{BlockCut}
-use Rattle.volume.specs.declared.BlockCut.TheVariants as BlockCut
+use Rattle.volume.specs.Answers.{BlockCut}
 
 -- ---- the volume
 
@@ -117,9 +115,9 @@ pub record CutOutcome : Type 0 where
   pub samples : List Float
 
 abbrev pub cut_answer : List ℕ → Xyz → ℕ → Xyz → List Float → Verdict → CutOutcome
-cut_answer bytes sizes n first samples Verdict.Passed =
-    record { answer = BlockCut.Samples (sample_length n); samples = laid (block_in bytes sizes n first) samples }
-cut_answer bytes sizes n first samples (Verdict.Refused r) = record { answer = BlockCut.Refused r; samples = samples }
+cut_answer bytes sizes n first samples (Ok _) =
+    record { answer = Ok (sample_length n); samples = laid (block_in bytes sizes n first) samples }
+cut_answer bytes sizes n first samples (Err r) = record { answer = Err r; samples = samples }
 
 unfoldable pub cut_block : List ℕ → Xyz → ℕ → Xyz → List Float → CutOutcome
 cut_block bytes sizes n first samples = cut_answer bytes sizes n first samples (judge_cut bytes sizes n first (length samples))

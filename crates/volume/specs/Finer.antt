@@ -2,13 +2,12 @@
 -- Assumes nothing.
 use Prim.Native.Nat.{ℕ, zero, suc, ◌+◌, ◌*◌, ◌≤◌, ◌<◌}
 use native.Mathlib.Omega.{arith}
-use Rattle.std.specs.Prelude.{◌≡◌, true, Float}
+use Rattle.std.specs.Prelude.{◌≡◌, true, Float, Ok}
 use Rattle.std.proofs.Math.Path.{sym, ap}
 use Rattle.std.proofs.Common.{◌∙◌, ⊎_elim}
 use mathlib.Core.List.{List}
 use Rattle.laws.specs.Ranges.{eq_beq}
 use Rattle.model.specs.declared.Xyz.{Xyz}
-use Rattle.model.specs.declared.Verdict.TheVariants.{Passed}
 use Rattle.model.specs.Limits.{side_count}
 use Rattle.model.specs.Samples.{sample_of}
 use Rattle.model.specs.Sides.{named}
@@ -90,5 +89,5 @@ module _ {bytes fineBytes : List ℕ} {sizes fineSizes first : Xyz} (s : Star) (
   unfolding faces_agree
   agree side u v h is hu hv = eq_beq _ _ (ap (inside s.threshold) (same_sample side u v h is hu hv))
 
-  pub passes_8 : judge_faces s ≡ Passed
+  pub passes_8 : judge_faces s ≡ Ok tt
   passes_8 = faces_pass s agree

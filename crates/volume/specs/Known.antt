@@ -1,12 +1,11 @@
 -- Document 02, [8]: what is known of a cut that 1, 20, 21 and 22 let pass, and of one that 7 lets pass too. Assumes nothing.
-use Rattle.std.specs.Prelude.{ℕ, ◌+◌, ◌-◌, ◌*◌, ◌≤◌, ◌<◌, ◌≡◌, Bool, true, ◌&&◌, List, ◌⊎◌, leb, ltb, length}
+use Rattle.std.specs.Prelude.{ℕ, ◌+◌, ◌-◌, ◌*◌, ◌≤◌, ◌<◌, ◌≡◌, Bool, true, ◌&&◌, List, ◌⊎◌, leb, ltb, length, Ok}
 use Rattle.std.proofs.Common.{mul-le-mul, mul-le-mul_left, mul-add, mul-one, mul_assoc, arith, inl, inr, ⊎_elim, leb-true, ltb-true, eqb-true, le-leb}
 use Rattle.std.proofs.Math.Decide.{dec_le}
 use Rattle.std.proofs.Math.Bool.{and-eq-true_iff}
 use Rattle.std.proofs.lemmas.Bool.{lt-leb}
 use Rattle.model.specs.declared.Xyz.{Xyz}
 use Rattle.model.specs.declared.Refusal.TheVariants.{Subdivisions, VolumeSize, VolumeLength, FirstPoint, BadSample}
-use Rattle.model.specs.declared.Verdict.TheVariants.{Passed}
 use Rattle.model.specs.Limits.{most_subdivisions}
 use Rattle.model.specs.Samples.{sample_length}
 use Rattle.model.specs.Judging.{usable, judge_subdivisions}
@@ -114,12 +113,12 @@ three a b c e =
 size_few : (size : ℕ) → size_fits size ≡ true → size ≤ most_across
 size_few size e = leb-true size most_across ((and-eq-true_iff (leb 1 size) (leb size most_across)).0 e).1
 
-pub sizes_fit : (sizes : Xyz) → judge_sizes sizes ≡ Passed → Few sizes
+pub sizes_fit : (sizes : Xyz) → judge_sizes sizes ≡ Ok tt → Few sizes
 sizes_fit sizes e =
     let fit = three (size_fits sizes.x) (size_fits sizes.y) (size_fits sizes.z) (unless_passed _ VolumeSize e) in
     few sizes (size_few sizes.x fit.0) (size_few sizes.y fit.1) (size_few sizes.z fit.2)
 
-pub known : (held : ℕ) (sizes : Xyz) (n : ℕ) (first : Xyz) → judge_volume held sizes n first ≡ Passed → Known held sizes n first
+pub known : (held : ℕ) (sizes : Xyz) (n : ℕ) (first : Xyz) → judge_volume held sizes n first ≡ Ok tt → Known held sizes n first
 unfolding judge_volume
 known held sizes n first e =
     let from-20 = both_passed (judge_subdivisions n) _ e in
@@ -153,7 +152,7 @@ pub record Ready (bytes : List ℕ) (sizes : Xyz) (n : ℕ) (first : Xyz) : Type
   pub good : (place : ℕ) → place < sample_length n → usable (taken_sample bytes sizes n first place) ≡ true
 
 module _ (bytes : List ℕ) (sizes : Xyz) (n : ℕ) (first : Xyz) where
-  pub ready : Known (length bytes) sizes n first → judge_taken bytes sizes n first ≡ Passed → Ready bytes sizes n first
+  pub ready : Known (length bytes) sizes n first → judge_taken bytes sizes n first ≡ Ok tt → Ready bytes sizes n first
   unfolding judge_taken
   ready h e =
       record {

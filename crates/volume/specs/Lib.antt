@@ -1,4 +1,5 @@
 -- what a reader must believe
+pub mod Answers
 pub mod Definition
 pub mod Neighbours
 -- what the code is proved by

@@ -1,16 +1,14 @@
 -- Document 02, [8]: what the judges of a cut let pass, and what an answer with samples says of the volume and of the list lent. Assumes nothing.
-use Rattle.std.specs.Prelude.{ℕ, ◌≤◌, ◌≡◌, refl, List, Float, length}
+use Rattle.std.specs.Prelude.{ℕ, ◌≤◌, ◌≡◌, refl, List, Float, length, Err, Ok}
 use Rattle.std.proofs.Math.Path.{ap}
 use borrow.Author.Tests.{leb-true}
 use Rattle.laws.specs.Steps.{laid}
 use Rattle.model.specs.declared.Xyz.{Xyz}
 use Rattle.model.specs.declared.Refusal.TheVariants.{BufferTooShort}
-use Rattle.model.specs.declared.Verdict.{Verdict}
-use Rattle.model.specs.declared.Verdict.TheVariants.{Passed, Refused}
+use Rattle.model.specs.Answers.{Verdict}
 use Rattle.model.specs.Samples.{sample_length}
 use Rattle.model.specs.Judging.{judge_buffer}
 use Rattle.judge.specs.First.{both_passed, unless_passed}
-use Rattle.volume.specs.declared.BlockCut.TheVariants as BlockCut
 use Rattle.volume.specs.Definition.{block_in, judge_taken, judge_volume, judge_cut, cut_answer, cut_block}
 use Rattle.volume.specs.Known.{Ready, known, ready}
 
@@ -19,7 +17,7 @@ pub record Cuttable (bytes : List ℕ) (sizes : Xyz) (n : ℕ) (first : Xyz) (ro
   pub fits : sample_length n ≤ room
 
 module _ (bytes : List ℕ) (sizes : Xyz) (n : ℕ) (first : Xyz) (room : ℕ) where
-  pub cuttable : judge_cut bytes sizes n first room ≡ Passed → Cuttable bytes sizes n first room
+  pub cuttable : judge_cut bytes sizes n first room ≡ Ok tt → Cuttable bytes sizes n first room
   unfolding judge_cut
   cuttable e =
       let from-7 = both_passed (judge_volume (length bytes) sizes n first) _ e in
@@ -38,11 +36,11 @@ pub record WasCut (bytes : List ℕ) (sizes : Xyz) (n : ℕ) (first : Xyz) (samp
 
 module _ (bytes : List ℕ) (sizes : Xyz) (n : ℕ) (first : Xyz) (samples : List Float) (k : ℕ) where
   -- a number of samples is answered only for what passes
-  answered : (v : Verdict) → (cut_answer bytes sizes n first samples v).answer ≡ BlockCut.Samples k → (v ≡ Passed) × (k ≡ sample_length n)
-  answered Passed e = (refl, cc)
-  answered (Refused r) e = (cc, cc)
+  answered : (v : Verdict) → (cut_answer bytes sizes n first samples v).answer ≡ Ok k → (v ≡ Ok tt) × (k ≡ sample_length n)
+  answered (Ok _) e = (refl, cc)
+  answered (Err r) e = (cc, cc)
 
-  pub was_cut : (cut_block bytes sizes n first samples).answer ≡ BlockCut.Samples k → WasCut bytes sizes n first samples k
+  pub was_cut : (cut_block bytes sizes n first samples).answer ≡ Ok k → WasCut bytes sizes n first samples k
   unfolding cut_block
   was_cut e =
       let a = answered (judge_cut bytes sizes n first (length samples)) e in

@@ -5,14 +5,13 @@ ghost use Rattle.laws.specs.Steps.{laid};
 ghost use Rattle.model.specs.Limits.{most_subdivisions};
 ghost use Rattle.model.specs.Samples.{sample_length};
 ghost use Rattle.volume.specs.Definition.{most_across, volume_sample, block_in};
-ghost use Rattle.volume.specs.Known.{Axis, Readable, Ready};
+ghost use Rattle.volume.specs.Known.{Axis, Cut, Readable, Ready};
 ghost use Rattle.volume.specs.Slots.{slot_up, Steps};
 ghost use Rattle.volume.specs.Putting.{ColumnFits, ColumnPut, LineFits, LinePut, SquaresFit, SquaresPut, FacesFit, FacesPut, BlockFits, BlockPut};
 
-use crate::places::nearest;
+use crate::places::{Cutout, nearest};
 use grid::voxel_blocks::MOST_SUBDIVISIONS;
-use model::Xyz;
-use words::little::word_at;
+use words::orders::{ByteOrder, Little};
 
 const MOST_SLOTS: usize = MOST_SUBDIVISIONS + 3;
 
@@ -35,8 +34,8 @@ fn fill_steps(steps: &mut [usize], n: usize, size: usize, first: usize, step: us
     requires { (n ≤ most_subdivisions) × (Axis size first × ((step ≤ most_across * most_across) × (n + 3 ≤ length steps.old))) }
     ensures { Steps steps.new n size first step }
 {
-    for k in 0..n + 3 {
-        steps[k] = step * nearest(size, first + slot_up(n, k));
+    for (k, added) in steps[..n + 3].iter_mut().enumerate() {
+        *added = step * nearest(size, first + slot_up(n, k));
     }
 }
 
@@ -45,24 +44,24 @@ fn sample_at(bytes: &[u8], place: usize) -> f32
     requires { Readable bytes.now place }
     ensures { result ≡ volume_sample bytes.now place }
 {
-    f32::from_bits(word_at(bytes, 4 * place))
+    f32::from_bits(Little::word_at(bytes, 4 * place))
 }
 
-// The samples of a row of the volume, each `wide` places after the one before it.
-fn put_column(
-    bytes: &[u8],
-    xs: &[usize],
-    row: usize,
-    samples: &mut [f32],
+// Places of the block: so many rows from a first one on, each `wide` places after the one before it.
+#[derive(Clone, Copy)]
+struct Column {
     at: usize,
     wide: usize,
     rows: usize,
-)
-    requires { ColumnFits bytes.now xs.now row (length samples.old) at wide rows }
-    ensures { ColumnPut bytes.now xs.now row at wide rows samples.old samples.new }
+}
+
+// The samples of a row of the volume, as a column. By index: a proof does not learn what is written through iter_mut with a stride.
+fn put_column(bytes: &[u8], xs: &[usize], row: usize, samples: &mut [f32], column: Column)
+    requires { ColumnFits bytes.now xs.now row (length samples.old) column.at column.wide column.rows }
+    ensures { ColumnPut bytes.now xs.now row column.at column.wide column.rows samples.old samples.new }
 {
-    for k in 0..rows {
-        samples[at + wide * k] = sample_at(bytes, row + xs[k]);
+    for k in 0..column.rows {
+        samples[column.at + column.wide * k] = sample_at(bytes, row + xs[k]);
     }
 }
 
@@ -73,34 +72,42 @@ fn put_line(
     fixed: usize,
     along: &[usize],
     samples: &mut [f32],
-    at: usize,
-    wide: usize,
-    rows: usize,
+    first: Column,
     count: usize,
 )
-    requires { LineFits bytes.now xs.now fixed along.now (length samples.old) at wide rows count }
-    ensures { LinePut bytes.now xs.now fixed along.now at wide rows count samples.old samples.new }
+    requires { LineFits bytes.now xs.now fixed along.now (length samples.old) first.at first.wide first.rows count }
+    ensures { LinePut bytes.now xs.now fixed along.now first.at first.wide first.rows count samples.old samples.new }
 {
-    for j in 0..count {
-        put_column(bytes, xs, fixed + along[j], samples, at + j, wide, rows);
+    for (j, place) in along[..count].iter().enumerate() {
+        let column = Column {
+            at: first.at + j,
+            ..first
+        };
+        put_column(bytes, xs, fixed + *place, samples, column);
     }
 }
 
+// What the slots of each axis add.
+#[derive(Drop)]
+struct Axes {
+    xs: [usize; MOST_SLOTS],
+    ys: [usize; MOST_SLOTS],
+    zs: [usize; MOST_SLOTS],
+}
+
 // The squares of each x, from 0 to n, and of the faces x=-1 and x=n+1.
-fn put_squares(
-    bytes: &[u8],
-    xs: &[usize],
-    ys: &[usize],
-    zs: &[usize],
-    samples: &mut [f32],
-    n: usize,
-)
-    requires { (n ≤ most_subdivisions) × SquaresFit bytes.now xs.now ys.now zs.now (length samples.old) n }
-    ensures { SquaresPut bytes.now xs.now ys.now zs.now n (n + 1) samples.old samples.new }
+fn put_squares(bytes: &[u8], axes: &Axes, samples: &mut [f32], n: usize)
+    requires { (n ≤ most_subdivisions) × SquaresFit bytes.now axes.now.xs axes.now.ys axes.now.zs (length samples.old) n }
+    ensures { SquaresPut bytes.now axes.now.xs axes.now.ys axes.now.zs n (n + 1) samples.old samples.new }
 {
     let m = n + 1;
     for y in 0..m {
-        put_line(bytes, xs, ys[y], zs, samples, m * y, m * m, m + 2, m);
+        let first = Column {
+            at: m * y,
+            wide: m * m,
+            rows: m + 2,
+        };
+        put_line(bytes, &axes.xs, axes.ys[y], &axes.zs, samples, first, m);
     }
 }
 
@@ -119,40 +126,54 @@ fn put_faces(
 {
     let m = n + 1;
     for side in 0..2 {
-        let fixed = across[m + side];
-        put_line(
-            bytes,
-            xs,
-            fixed,
-            along,
-            samples,
-            m * m * (square + side),
-            m,
-            m,
-            m,
-        );
+        let first = Column {
+            at: m * m * (square + side),
+            wide: m,
+            rows: m,
+        };
+        put_line(bytes, xs, across[m + side], along, samples, first, m);
     }
 }
 
 // All squares.
-fn put_block(bytes: &[u8], xs: &[usize], ys: &[usize], zs: &[usize], samples: &mut [f32], n: usize)
-    requires { BlockFits n bytes.now xs.now ys.now zs.now (length samples.old) }
-    ensures { BlockPut n bytes.now xs.now ys.now zs.now samples.old samples.new }
+fn put_block(bytes: &[u8], axes: &Axes, samples: &mut [f32], n: usize)
+    requires { BlockFits n bytes.now axes.now.xs axes.now.ys axes.now.zs (length samples.old) }
+    ensures { BlockPut n bytes.now axes.now.xs axes.now.ys axes.now.zs samples.old samples.new }
 {
-    put_squares(bytes, xs, ys, zs, samples, n);
-    put_faces(bytes, xs, ys, zs, samples, n + 3, n);
-    put_faces(bytes, xs, zs, ys, samples, n + 5, n);
+    put_squares(bytes, axes, samples, n);
+    put_faces(bytes, &axes.xs, &axes.ys, &axes.zs, samples, n + 3, n);
+    put_faces(bytes, &axes.xs, &axes.zs, &axes.ys, samples, n + 5, n);
 }
 
-pub fn fill_block(bytes: &[u8], sizes: Xyz, n: usize, first: Xyz, samples: &mut [f32])
-    requires { Ready bytes.now sizes n first × (sample_length n ≤ length samples.old) }
-    ensures { samples.new ≡ laid (block_in bytes.now sizes n first) samples.old }
-{
-    let mut xs = [0; MOST_SLOTS];
-    let mut ys = [0; MOST_SLOTS];
-    let mut zs = [0; MOST_SLOTS];
-    fill_steps(&mut xs, n, sizes.x, first.x, 1);
-    fill_steps(&mut ys, n, sizes.y, first.y, sizes.x);
-    fill_steps(&mut zs, n, sizes.z, first.z, sizes.x * sizes.y);
-    put_block(bytes, &xs, &ys, &zs, samples, n);
+impl Cutout {
+    fn axes(self) -> Axes
+        requires { Cut self.sizes self.n self.first }
+        ensures x { Steps result.xs self.n self.sizes.x self.first.x 1 }
+        ensures y { Steps result.ys self.n self.sizes.y self.first.y self.sizes.x }
+        ensures z { Steps result.zs self.n self.sizes.z self.first.z (self.sizes.x * self.sizes.y) }
+    {
+        let mut axes = Axes {
+            xs: [0; MOST_SLOTS],
+            ys: [0; MOST_SLOTS],
+            zs: [0; MOST_SLOTS],
+        };
+        let n = self.n;
+        fill_steps(&mut axes.xs, n, self.sizes.x, self.first.x, 1);
+        fill_steps(&mut axes.ys, n, self.sizes.y, self.first.y, self.sizes.x);
+        fill_steps(
+            &mut axes.zs,
+            n,
+            self.sizes.z,
+            self.first.z,
+            self.sizes.x * self.sizes.y,
+        );
+        axes
+    }
+
+    pub fn fill(self, bytes: &[u8], samples: &mut [f32])
+        requires { Ready bytes.now self.sizes self.n self.first × (sample_length self.n ≤ length samples.old) }
+        ensures { samples.new ≡ laid (block_in bytes.now self.sizes self.n self.first) samples.old }
+    {
+        put_block(bytes, &self.axes(), samples, self.n);
+    }
 }

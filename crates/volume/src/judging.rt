@@ -8,78 +8,80 @@ ghost use Rattle.volume.specs.Definition.{volume_sample, size_fits, judge_sizes,
 ghost use Rattle.volume.specs.Known.{Axis, Known};
 ghost use Rattle.volume.specs.Boxes.{row_usable, plane_usable, box_usable, RowIn, PlaneIn, BoxIn, span_of, span_usable};
 
-use crate::places::{nearest, nearest_point, taken_place, volume_place};
+use crate::places::{Cutout, nearest, volume_place};
 use grid::voxel_blocks::sample_length;
 use judge::{judge_buffer, judge_subdivisions, unless};
-use model::{Refusal, Verdict, Xyz};
+use model::{Refusal, Xyz};
 use record::judging::is_usable;
-use words::little::word_at;
+use words::orders::{ByteOrder, Little};
 
 const MOST_ACROSS: usize = 1024;
 
+// The twin of record's, whose words are Big: of one for both orders the clause would name no sample.
 fn is_usable_at(bytes: &[u8], place: usize) -> bool
     requires { 4 * place + 4 ≤ length bytes.now }
     ensures { result ≡ usable (volume_sample bytes.now place) }
 {
-    is_usable(word_at(bytes, 4 * place))
+    is_usable(Little::word_at(bytes, 4 * place))
 }
 
-// Whether so many samples from a place on can be used. They lie side by side, and the compiler looks at many at a time.
-fn row_usable(bytes: &[u8], from: usize, count: usize) -> bool
-    requires { RowIn bytes.now from count }
-    ensures { result ≡ row_usable bytes.now from count }
-{
-    let mut usable = true;
-    for k in 0..count {
-        usable = usable & is_usable_at(bytes, from + k);
-    }
-    usable
-}
-
-// The same of rows, a step from one to the next.
-fn plane_usable(bytes: &[u8], from: usize, count: usize, step: usize, rows: usize) -> bool
-    requires { PlaneIn bytes.now from count step rows }
-    ensures { result ≡ plane_usable bytes.now from count step rows }
-{
-    let mut usable = true;
-    for y in 0..rows {
-        usable = usable & row_usable(bytes, from + step * y, count);
-    }
-    usable
-}
-
-// The same of planes of rows, a stride from one to the next.
-fn box_usable(
-    bytes: &[u8],
+// Places of the volume from a first one on: so many side by side in a row, so many rows, each a step after the one before it, and so many planes
+// of rows, each a stride after the one before it.
+#[derive(Clone, Copy)]
+struct Cuboid {
     from: usize,
     count: usize,
     step: usize,
     rows: usize,
     stride: usize,
     planes: usize,
-) -> bool
-    requires { BoxIn bytes.now from count step rows stride planes }
-    ensures { result ≡ box_usable bytes.now from count step rows stride planes }
-{
-    let mut usable = true;
-    for z in 0..planes {
-        usable = usable & plane_usable(bytes, from + stride * z, count, step, rows);
-    }
-    usable
 }
 
-// The first bad sample taken, in the order of the centre's places.
-fn first_bad(bytes: &[u8], sizes: Xyz, n: usize, first: Xyz) -> Verdict
-    requires { Known (length bytes.now) sizes n first }
-    ensures { result ≡ judge_taken bytes.now sizes n first }
-{
-    for place in 0..sample_length(n) {
-        let taken = taken_place(sizes, n, first, place);
-        if !is_usable_at(bytes, taken) {
-            return Verdict::Refused(Refusal::BadSample(taken));
+// Its loops go by index: a fold was tried, and the proof that its closure may be called at each turn did not close.
+impl Cuboid {
+    // Whether the samples of its first row can be used. They lie side by side, and the compiler looks at many at a time.
+    fn row_usable(self, bytes: &[u8]) -> bool
+        requires { RowIn bytes.now self.from self.count }
+        ensures { result ≡ row_usable bytes.now self.from self.count }
+    {
+        let mut usable = true;
+        for k in 0..self.count {
+            usable = usable & is_usable_at(bytes, self.from + k);
         }
+        usable
     }
-    Verdict::Passed
+
+    // The same of its first plane.
+    fn plane_usable(self, bytes: &[u8]) -> bool
+        requires { PlaneIn bytes.now self.from self.count self.step self.rows }
+        ensures { result ≡ plane_usable bytes.now self.from self.count self.step self.rows }
+    {
+        let mut usable = true;
+        for y in 0..self.rows {
+            let row = Cuboid {
+                from: self.from + self.step * y,
+                ..self
+            };
+            usable = usable & row.row_usable(bytes);
+        }
+        usable
+    }
+
+    // The same of all its planes.
+    fn is_usable(self, bytes: &[u8]) -> bool
+        requires { BoxIn bytes.now self.from self.count self.step self.rows self.stride self.planes }
+        ensures { result ≡ box_usable bytes.now self.from self.count self.step self.rows self.stride self.planes }
+    {
+        let mut usable = true;
+        for z in 0..self.planes {
+            let plane = Cuboid {
+                from: self.from + self.stride * z,
+                ..self
+            };
+            usable = usable & plane.plane_usable(bytes);
+        }
+        usable
+    }
 }
 
 // How many samples there are from -1 to n + 1 on an axis, as far as the volume goes.
@@ -90,34 +92,6 @@ fn span(n: usize, size: usize, first: usize) -> usize
     nearest(size, first + (n + 2)) - nearest(size, first) + 1
 }
 
-// Whether every sample of the box can be used that spans all points taken.
-fn span_usable(bytes: &[u8], sizes: Xyz, n: usize, first: Xyz) -> bool
-    requires { Known (length bytes.now) sizes n first }
-    ensures { result ≡ span_usable sizes n first bytes.now }
-{
-    let low = nearest_point(sizes, n, first, Xyz { x: 0, y: 0, z: 0 });
-    box_usable(
-        bytes,
-        volume_place(sizes, low),
-        span(n, sizes.x, first.x),
-        sizes.x,
-        span(n, sizes.y, first.y),
-        sizes.x * sizes.y,
-        span(n, sizes.z, first.z),
-    )
-}
-
-// 7: where the box has no bad sample, none was taken.
-fn judge_taken(bytes: &[u8], sizes: Xyz, n: usize, first: Xyz) -> Verdict
-    requires { Known (length bytes.now) sizes n first }
-    ensures { result ≡ judge_taken bytes.now sizes n first }
-{
-    if span_usable(bytes, sizes, n, first) {
-        return Verdict::Passed;
-    }
-    first_bad(bytes, sizes, n, first)
-}
-
 fn size_fits(size: usize) -> bool
     ensures { result ≡ size_fits size }
 {
@@ -125,7 +99,7 @@ fn size_fits(size: usize) -> bool
 }
 
 // 20.
-fn judge_sizes(sizes: Xyz) -> Verdict
+fn judge_sizes(sizes: Xyz) -> Result<(), Refusal>
     ensures { result ≡ judge_sizes sizes }
 {
     let fits = size_fits(sizes.x) & size_fits(sizes.y) & size_fits(sizes.z);
@@ -139,43 +113,72 @@ fn is_in_volume(sizes: Xyz, p: Xyz) -> bool
 }
 
 // 21, 22.
-fn judge_bounds(whole: bool, inside: bool) -> Verdict
+fn judge_bounds(whole: bool, inside: bool) -> Result<(), Refusal>
     ensures { result ≡ or_else (unless whole VolumeLength) (unless inside FirstPoint) }
 {
-    let length = unless(whole, Refusal::VolumeLength);
-    if let Verdict::Refused(r) = length {
-        return Verdict::Refused(r);
-    }
+    unless(whole, Refusal::VolumeLength)?;
     unless(inside, Refusal::FirstPoint)
 }
 
-// 1, 20, 21, 22.
-fn judge_volume(held: usize, sizes: Xyz, n: usize, first: Xyz) -> Verdict
-    ensures { result ≡ judge_volume held sizes n first }
-{
-    let subdivisions = judge_subdivisions(n);
-    if let Verdict::Refused(r) = subdivisions {
-        return Verdict::Refused(r);
+impl Cutout {
+    // The first bad sample taken, in the order of the centre's places.
+    fn first_bad(self, bytes: &[u8]) -> Result<(), Refusal>
+        requires { Known (length bytes.now) self.sizes self.n self.first }
+        ensures { result ≡ judge_taken bytes.now self.sizes self.n self.first }
+    {
+        for place in 0..sample_length(self.n) {
+            let taken = self.taken_place(place);
+            if !is_usable_at(bytes, taken) {
+                return Err(Refusal::BadSample(taken));
+            }
+        }
+        Ok(())
     }
-    let across = judge_sizes(sizes);
-    if let Verdict::Refused(r) = across {
-        return Verdict::Refused(r);
-    }
-    let whole = held == 4 * (sizes.x * sizes.y * sizes.z);
-    judge_bounds(whole, is_in_volume(sizes, first))
-}
 
-// 1, 20, 21, 22, 7, 14.
-pub fn judge_cut(bytes: &[u8], sizes: Xyz, n: usize, first: Xyz, room: usize) -> Verdict
-    ensures { result ≡ judge_cut bytes.now sizes n first room }
-{
-    let volume = judge_volume(bytes.len(), sizes, n, first);
-    if let Verdict::Refused(r) = volume {
-        return Verdict::Refused(r);
+    // Whether every sample of the box can be used that spans all points taken.
+    fn span_usable(self, bytes: &[u8]) -> bool
+        requires { Known (length bytes.now) self.sizes self.n self.first }
+        ensures { result ≡ span_usable self.sizes self.n self.first bytes.now }
+    {
+        let low = self.nearest_point(Xyz { x: 0, y: 0, z: 0 });
+        let spanned = Cuboid {
+            from: volume_place(self.sizes, low),
+            count: span(self.n, self.sizes.x, self.first.x),
+            step: self.sizes.x,
+            rows: span(self.n, self.sizes.y, self.first.y),
+            stride: self.sizes.x * self.sizes.y,
+            planes: span(self.n, self.sizes.z, self.first.z),
+        };
+        spanned.is_usable(bytes)
     }
-    let taken = judge_taken(bytes, sizes, n, first);
-    if let Verdict::Refused(r) = taken {
-        return Verdict::Refused(r);
+
+    // 7: where the box has no bad sample, none was taken.
+    fn judge_taken(self, bytes: &[u8]) -> Result<(), Refusal>
+        requires { Known (length bytes.now) self.sizes self.n self.first }
+        ensures { result ≡ judge_taken bytes.now self.sizes self.n self.first }
+    {
+        if self.span_usable(bytes) {
+            return Ok(());
+        }
+        self.first_bad(bytes)
     }
-    judge_buffer(sample_length(n), room)
+
+    // 1, 20, 21, 22, of a volume of so many bytes.
+    fn judge_volume(self, held: usize) -> Result<(), Refusal>
+        ensures { result ≡ judge_volume held self.sizes self.n self.first }
+    {
+        judge_subdivisions(self.n)?;
+        judge_sizes(self.sizes)?;
+        let whole = held == 4 * (self.sizes.x * self.sizes.y * self.sizes.z);
+        judge_bounds(whole, is_in_volume(self.sizes, self.first))
+    }
+
+    // 1, 20, 21, 22, 7, 14.
+    pub fn judge(self, bytes: &[u8], room: usize) -> Result<(), Refusal>
+        ensures { result ≡ judge_cut bytes.now self.sizes self.n self.first room }
+    {
+        self.judge_volume(bytes.len())?;
+        self.judge_taken(bytes)?;
+        judge_buffer(sample_length(self.n), room)
+    }
 }

@@ -7,29 +7,19 @@ ghost use Rattle.volume.specs.Known.{InVolume, Cut, Near};
 
 use model::Xyz;
 
+// A block of n subdivisions whose (0, 0, 0) is the point `first` of a volume of these sizes.
+#[derive(Clone, Copy)]
+pub struct Cutout {
+    pub sizes: Xyz,
+    pub n: usize,
+    pub first: Xyz,
+}
+
 pub fn nearest(size: usize, c: usize) -> usize
     requires { 1 ≤ size }
     ensures { (result ≡ nearest size c) × (result < size) }
 {
-    if size < c {
-        return size - 1;
-    }
-    if c == 0 {
-        return 0;
-    }
-    c - 1
-}
-
-// The volume's point for a point of the block.
-pub fn nearest_point(sizes: Xyz, n: usize, first: Xyz, p: Xyz) -> Xyz
-    requires { Cut sizes n first × Near n p }
-    ensures { result ≡ nearest_point sizes first p }
-{
-    Xyz {
-        x: nearest(sizes.x, first.x + p.x),
-        y: nearest(sizes.y, first.y + p.y),
-        z: nearest(sizes.z, first.z + p.z),
-    }
+    c.saturating_sub(1).min(size - 1)
 }
 
 // The place of the sample number x of a row, where rows of that width lie end to end.
@@ -82,13 +72,27 @@ fn point_on(n: usize, square: usize, i: usize, j: usize) -> Xyz
     }
 }
 
-// The volume's place for a place of the centre.
-pub fn taken_place(sizes: Xyz, n: usize, first: Xyz, place: usize) -> usize
-    requires { Cut sizes n first × (place < sample_length n) }
-    ensures { (result ≡ taken_place sizes n first place) × (result < volume_count sizes) }
-{
-    let m = n + 1;
-    let line = place / m;
-    let p = point_on(n, line / m, line % m, place % m);
-    volume_place(sizes, nearest_point(sizes, n, first, p))
+impl Cutout {
+    // The volume's point for a point of the block.
+    pub fn nearest_point(self, p: Xyz) -> Xyz
+        requires { Cut self.sizes self.n self.first × Near self.n p }
+        ensures { result ≡ nearest_point self.sizes self.first p }
+    {
+        Xyz {
+            x: nearest(self.sizes.x, self.first.x + p.x),
+            y: nearest(self.sizes.y, self.first.y + p.y),
+            z: nearest(self.sizes.z, self.first.z + p.z),
+        }
+    }
+
+    // The volume's place for a place of the centre.
+    pub fn taken_place(self, place: usize) -> usize
+        requires { Cut self.sizes self.n self.first × (place < sample_length self.n) }
+        ensures { (result ≡ taken_place self.sizes self.n self.first place) × (result < volume_count self.sizes) }
+    {
+        let m = self.n + 1;
+        let line = place / m;
+        let p = point_on(self.n, line / m, line % m, place % m);
+        volume_place(self.sizes, self.nearest_point(p))
+    }
 }

@@ -1,3 +1,5 @@
 pub mod Order
 pub mod Numbers
 pub mod Walk
+pub mod Layers
+pub mod Rows

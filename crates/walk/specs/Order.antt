@@ -10,7 +10,9 @@ use Rattle.cases.specs.Sheets.{row_start, sheet_places, Sheet}
 use Rattle.cases.specs.Marks.{mark_of}
 use Rattle.cells.specs.declared.SheetIndex.{SheetIndex}
 use Rattle.cells.specs.declared.SheetIndex.TheVariants.{Layer, Side}
+use Rattle.cells.specs.declared.sheet_cells.LentSheet.{LentSheet}
 use Rattle.cells.specs.SheetCells.{sheet_of, sheet_cell, case_at, all_of}
+use Rattle.cells.specs.LentSheets.{layer_numbers, side_numbers}
 
 -- it is one of the block's layers, or of its named sides
 abbrev pub SheetIn : Star → SheetIndex → Type 0
@@ -28,6 +30,13 @@ pub record Sheeted (n : ℕ) (sheet : SheetIndex) (layer side marks : List ℕ) 
 pub record Held (s : Star) (sheet : SheetIndex) (n : ℕ) (layer side marks : List ℕ) : Type 0 where
   pub numbers : Sheet (case_at s sheet) n n (sheet_of sheet layer side)
   pub marked : Sheet (λ u v. mark_of (all_of sheet) (case_at s sheet u v)) n n marks
+
+-- the same of a sheet as it is lent with its numbers
+abbrev pub LentSheeted : ℕ → LentSheet → Type 0
+LentSheeted n sheet = Sheeted n sheet.index (layer_numbers sheet.numbers) (side_numbers sheet.numbers) sheet.marks.now
+
+abbrev pub LentHeld : Star → ℕ → LentSheet → Type 0
+LentHeld s n sheet = Held s sheet.index n (layer_numbers sheet.numbers) (side_numbers sheet.numbers) sheet.marks.now
 
 -- the steps of all its cells, and the mesh before them and after them
 abbrev pub whole_sheet : Star → SheetIndex → Mesh → Mesh

@@ -1,6 +1,6 @@
 -- A vertex that is worked out from the one end of its edge, and from the other: the two are near each other, since each is near the exact point, which is
 -- the same from either end.
-use Rattle.std.specs.Prelude.{ℕ, ◌+◌, ◌-◌, ◌*◌, ◌≤◌, ◌<◌, ◌≡◌, ◌≢◌, T, Float}
+use Rattle.std.specs.Prelude.{ℕ, ◌+◌, ◌-◌, ◌*◌, ◌≤◌, ◌<◌, ◌≡◌, ◌≢◌, T, Float, Ok}
 use Rattle.std.proofs.Common.{sym, subst, subst₂, ⊎_elim, le_of_mul-le-mul_right, arith}
 use Rattle.std.proofs.Math.Decide.{dec_le}
 use Rattle.std.specs.Float.{binary32}
@@ -9,7 +9,6 @@ use Rattle.std.specs.Float.Ieee.Fits.{add-fits}
 use Rattle.model.specs.declared.Xyz.{Xyz}
 use Rattle.model.specs.declared.GridPoint.{GridPoint}
 use Rattle.model.specs.declared.Vertex.{Vertex}
-use Rattle.model.specs.declared.Verdict.TheVariants.{Passed}
 use Rattle.model.specs.Formulas.{vertex_between}
 use Rattle.model.specs.Star.{Star, subdivisions}
 use Rattle.model.specs.Points.{regular_point}
@@ -128,7 +127,7 @@ near_itself a b v = record { x = λ c ha hb. self v.position.x _; y = λ c ha hb
     self x k = omega arith
 
 -- between two grid points of the block, one inside and the other outside
-module _ (s : Star) (fit : AreF32 s) (passed : judge_star s ≡ Passed) (p q : Xyz) (in_p : InBlock (subdivisions s) p) (in-q : InBlock (subdivisions s) q)
+module _ (s : Star) (fit : AreF32 s) (passed : judge_star s ≡ Ok tt) (p q : Xyz) (in_p : InBlock (subdivisions s) p) (in-q : InBlock (subdivisions s) q)
     (differ : inside_at s p ≢ inside_at s q) where
   abbrev a : GridPoint
   a = regular_point s p

@@ -1,6 +1,6 @@
 -- The two points of every code that a cell lists: one is inside and the other outside, by T2 for a regular cell, by T5 for a transition cell and, at
 -- the points of its coarse face, by 8. So the vertex between them is weighed.
-use Rattle.std.specs.Prelude.{ℕ, ◌+◌, ◌*◌, ◌<◌, ◌≡◌, ◌≢◌, ◌⊎◌, Bool, true, false, cond, Float}
+use Rattle.std.specs.Prelude.{ℕ, ◌+◌, ◌*◌, ◌<◌, ◌≡◌, ◌≢◌, ◌⊎◌, Bool, true, false, cond, Float, Ok}
 use Rattle.std.proofs.Math.Path.{refl, sym, ap₂}
 use Rattle.std.proofs.Common.{◌∙◌, subst, inl, inr}
 use native.Mathlib.Omega.{arith}
@@ -16,7 +16,6 @@ use Rattle.tables.specs.declared.aux_tables.CellPoint.{CellPoint}
 use Rattle.tables.specs.declared.aux_tables.CellPoint.TheVariants.{Fine, Coarse}
 use Rattle.model.specs.declared.Xyz.{Xyz}
 use Rattle.model.specs.declared.GridPoint.{GridPoint}
-use Rattle.model.specs.declared.Verdict.TheVariants.{Passed}
 use Rattle.model.specs.Limits.{most_size}
 use Rattle.model.specs.Formulas.{inside, inside_bit, vertex_between}
 use Rattle.model.specs.Star.{Star, subdivisions}
@@ -69,7 +68,7 @@ between_two t a b pt pa pb d =
 
 -- ---- regular cells: 1 to 7
 
-module _ (s : Star) (fit : AreF32 s) (passed : judge_star s ≡ Passed) where
+module _ (s : Star) (fit : AreF32 s) (passed : judge_star s ≡ Ok tt) where
   pub regular_ready : (p : Xyz) → Within (subdivisions s) p → Ready (regular_point s p)
   unfolding regular_point
   regular_ready p w = record { sample = centre_small s fit passed p w; position = regular_reached s.block (measured s fit passed) s.mask p w }
@@ -92,7 +91,7 @@ module _ (s : Star) (fit : AreF32 s) (passed : judge_star s ≡ Passed) where
 
   -- ---- transition cells: 1 to 8
 
-  module _ (faces : judge_faces s ≡ Passed) (side u v : ℕ) (cell : IsSideCell s side u v) where
+  module _ (faces : judge_faces s ≡ Ok tt) (side u v : ℕ) (cell : IsSideCell s side u v) where
     abbrev at : CellPoint → GridPoint
     at = transition_point s side u v
 

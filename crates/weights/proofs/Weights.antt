@@ -1,9 +1,8 @@
 -- The theorem: every vertex of the mesh of a block that passes 1 to 8 was made by the step of a code between that code's two points, one inside and the
 -- other outside; its weight is finite, from 0 to 1 and near the exact quotient, and each coordinate of its position lies between those of the two points.
-use Rattle.std.specs.Prelude.{ℕ, ◌≡◌}
+use Rattle.std.specs.Prelude.{ℕ, ◌≡◌, Ok}
 use Rattle.std.proofs.Math.Path.{refl}
 use Rattle.std.proofs.Math.Logic.{inl, inr}
-use Rattle.model.specs.declared.Verdict.TheVariants.{Passed}
 use Rattle.model.specs.Star.{Star}
 use Rattle.model.specs.Judging.{judge_star, judge_faces}
 use Rattle.model.specs.Mesh.{Made, regular_vertex, regular_use, regular_cell, regular_mesh, regular_to, transition_vertex, transition_use, transition_cell, transition_to, mesh_of}
@@ -13,7 +12,7 @@ use Rattle.weights.specs.Clauses.{AreF32, MakesAt, VertexWeighed, Weights}
 use Rattle.weights.proofs.Ends.{regular_weighed, side_weighed}
 use Rattle.weights.proofs.EveryVertex.{each_regular, each_vertex}
 
-module _ (s : Star) (fit : AreF32 s) (passed : judge_star s ≡ Passed) where
+module _ (s : Star) (fit : AreF32 s) (passed : judge_star s ≡ Ok tt) where
   abbrev Well : ℕ → Made → Type 0
   Well i m = VertexWeighed s i m.vertex
 
@@ -32,7 +31,7 @@ module _ (s : Star) (fit : AreF32 s) (passed : judge_star s ≡ Passed) where
   regular_weights = each_regular Well s regular_well
 
   -- all cells: 1 to 8
-  module _ (faces : judge_faces s ≡ Passed) where
+  module _ (faces : judge_faces s ≡ Ok tt) where
     side_well : (side u v : ℕ) → IsSideCell s side u v → (k i : ℕ) → MakesAt (transition_cell s side u v) (transition_to s side u v) k i
         → Well i ((transition_cell s side u v).uses k).made
     unfolding transition_cell transition_use transition_vertex

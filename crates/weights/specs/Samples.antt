@@ -1,5 +1,5 @@
 -- A block that passes 1 to 7: its threshold, each sample that a cell reads, and the coordinates of its grid points are finite and not too large.
-use Rattle.std.specs.Prelude.{ℕ, ◌+◌, ◌*◌, ◌≤◌, ◌<◌, ◌≡◌, true, ◌++◌, length}
+use Rattle.std.specs.Prelude.{ℕ, ◌+◌, ◌*◌, ◌≤◌, ◌<◌, ◌≡◌, true, ◌++◌, length, Ok}
 use Rattle.std.proofs.Common.{sym, ap, ◌∙◌, length-append, get_or-append-add}
 use Rattle.std.proofs.Math.Path.{subst}
 use native.Mathlib.Omega.{arith}
@@ -7,7 +7,6 @@ use Rattle.std.specs.Float.Ieee.{nan}
 use Rattle.std.proofs.Math.ListN.{get_or, get_or-append}
 use Rattle.std.proofs.Math.Seq.{get_or-take, get_or-drop}
 use Rattle.model.specs.declared.Xyz.{Xyz}
-use Rattle.model.specs.declared.Verdict.TheVariants.{Passed}
 use Rattle.model.specs.Limits.{most_size}
 use Rattle.model.specs.Samples.{sample_length, sample_of, in_block}
 use Rattle.model.specs.Sides.{named, named_below, neighbour_length, neighbour_of}
@@ -30,7 +29,7 @@ use Rattle.weights.specs.Coordinates.{Measured, usable_small, usable_size_small}
 in_cube : (n x y z : ℕ) → x ≤ n → y ≤ n → z ≤ n → in_block n x y z < sample_length n
 in_cube n x y z hx hy hz = omega (arith, in_block_lem n x y z hx hy hz)
 
-module _ (s : Star) (fit : AreF32 s) (passed : judge_star s ≡ Passed) where
+module _ (s : Star) (fit : AreF32 s) (passed : judge_star s ≡ Ok tt) where
   pub shaped : Shaped s
   shaped = star_shaped s passed
 

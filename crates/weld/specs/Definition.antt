@@ -1,19 +1,17 @@
 -- Document 02, [10]: the weld. Of the regular vertices made on one grid edge only the first is kept, the kept close up in their order, and the
 -- triangles are renumbered, all in the lists that are lent: six f32 a vertex, three indices a triangle, and for each vertex the number of its
 -- edge. Equal numbers mean one edge; no_edge marks a transition vertex, which is always kept. What is refused and when. Definitions only.
-use Rattle.std.specs.Prelude.{ℕ, zero, suc, ◌+◌, ◌*◌, Bool, false, cond, not, ◌||◌, List, [], ◌∷◌, map, eqb, Float, length, get_or, take}
+use Rattle.std.specs.Prelude.{ℕ, zero, suc, ◌+◌, ◌*◌, Bool, false, cond, not, ◌||◌, List, [], ◌∷◌, map, eqb, Float, length, get_or, take, Err, Ok}
 use Rattle.std.specs.Float.{nan}
 use Rattle.laws.specs.Steps.{listed, laid}
 use Rattle.laws.specs.Counting.{gather, how_many}
-use Rattle.model.specs.declared.Verdict.{Verdict}
-use Rattle.model.specs.declared.Verdict.TheVariants as Verdict
+use Rattle.model.specs.Answers.{Verdict}
 use Rattle.model.specs.Refusals.{or_else}
 use Rattle.model.specs.Judging.{judge_buffer}
 use Rattle.model.specs.Corners.{judge_named}
 use Rattle.model.specs.Mesh.{no_edge}
 use Rattle.model.specs.Edges.{judge_edges}
-use Rattle.weld.specs.declared.Welded.{Welded}
-use Rattle.weld.specs.declared.Welded.TheVariants as Welded
+use Rattle.weld.specs.Answers.{Welded}
 
 -- ---- what is kept
 
@@ -87,15 +85,15 @@ pub record Outcome : Type 0 where
 
 -- the new counts and the welded lists, or every place as it was
 unfoldable pub weld_answer : ℕ → ℕ → List Float → List ℕ → List ℕ → Verdict → Outcome
-weld_answer v t vertices triangles edges Verdict.Passed =
+weld_answer v t vertices triangles edges (Ok _) =
     record {
-      answer = Welded.Mesh (record { vertices = kept_before edges v; triangles = t });
+      answer = Ok (record { vertices = kept_before edges v; triangles = t });
       vertices = vertices_at edges vertices v;
       triangles = renumbered edges t triangles;
       edges = edges_at edges v;
     }
-weld_answer v t vertices triangles edges (Verdict.Refused r) =
-    record { answer = Welded.Refused r; vertices = vertices; triangles = triangles; edges = edges }
+weld_answer v t vertices triangles edges (Err r) =
+    record { answer = Err r; vertices = vertices; triangles = triangles; edges = edges }
 
 unfoldable pub weld : ℕ → ℕ → List Float → List ℕ → List ℕ → Outcome
 weld v t vertices triangles edges = weld_answer v t vertices triangles edges (judge_weld v t vertices triangles edges)

@@ -1,5 +1,5 @@
 -- Document 02, [10]: what the functions of the pass ask for and what they leave, by name. Definitions only.
-use Rattle.std.specs.Prelude.{ℕ, ◌+◌, ◌*◌, ◌-◌, ◌/◌, ◌%◌, ◌^◌, ◌≤◌, ◌<◌, ◌≡◌, cond, List, map, ltb, Float, length, get_or, set}
+use Rattle.std.specs.Prelude.{ℕ, ◌+◌, ◌*◌, ◌-◌, ◌/◌, ◌%◌, ◌^◌, ◌≤◌, ◌<◌, ◌≡◌, cond, List, Option, MatchOption, map, ltb, Float, length, get_or, set}
 use Rattle.std.specs.Int.Bits.{bit_and}
 use Rattle.std.proofs.lemmas.List.Edits.{sets}
 use Rattle.model.specs.Mesh.{no_edge}
@@ -30,13 +30,12 @@ pub record Tables (seen hints : List ℕ) : Type 0 where
 
 -- ---- where a number stands
 
--- r is a place below k that has the number, or k where none does
-pub record Found (edges : List ℕ) (k number r : ℕ) : Type 0 where
-  pub within : r ≤ k
-  pub has : r < k → number_of edges r ≡ number
-  pub none : r ≡ k → (j : ℕ) → j < k → number_of edges j ≡ number → ⊥
+-- a place below k that has the number, unless none does
+abbrev pub Found : List ℕ → ℕ → ℕ → Option ℕ → Type 0
+Found edges k number r =
+    MatchOption r ((j : ℕ) → j < k → number_of edges j ≡ number → ⊥) (λ at. (at < k) × (number_of edges at ≡ number))
 
--- the same, but that a transition vertex is always new
+-- r is such a place, or k where there is none; a transition vertex is always new
 pub record Placed (edges : List ℕ) (k number r : ℕ) : Type 0 where
   pub within : r ≤ k
   pub has : r < k → number_of edges r ≡ number

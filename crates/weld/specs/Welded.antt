@@ -1,6 +1,6 @@
 -- Document 02, [10]: what a pass that welds has found and what it leaves: each corner names the same edge, no edge has two vertices, transition
 -- vertices only close up, all beyond stays, and a second pass moves nothing. Assumes nothing.
-use Rattle.std.specs.Prelude.{ℕ, zero, suc, ◌+◌, ◌*◌, ◌≤◌, ◌<◌, ◌≡◌, refl, Bool, true, false, eqb, Float, get_or, drop}
+use Rattle.std.specs.Prelude.{ℕ, zero, suc, ◌+◌, ◌*◌, ◌≤◌, ◌<◌, ◌≡◌, refl, Bool, true, false, eqb, Float, get_or, drop, Err, Ok}
 use Rattle.std.proofs.Common.{one-mul, le_refl, arith, sym, ◌∙◌, get_or-take}
 use Rattle.std.proofs.Math.Path.{ap}
 use mathlib.Core.List.{List, ◌++◌, map}
@@ -16,16 +16,13 @@ use Rattle.laws.specs.LaidBuffers.{laid_beyond, laid_first, laid_same, listed_pa
 use Rattle.laws.specs.Lists.{length_laid}
 use Rattle.model.specs.declared.Counts.{Counts}
 use Rattle.model.specs.declared.Refusal.TheVariants.{BufferTooShort, EdgesTooShort}
-use Rattle.model.specs.declared.Verdict.{Verdict}
-use Rattle.model.specs.declared.Verdict.TheVariants.{Passed, Refused}
+use Rattle.model.specs.Answers.{Verdict}
 use Rattle.model.specs.Judging.{judge_buffer}
 use Rattle.model.specs.Corners.{triangle_count, judge_named}
 use Rattle.model.specs.Mesh.{no_edge}
 use Rattle.model.specs.Edges.{judge_edges}
 use Rattle.judge.specs.First.{both_passed, unless_passed}
 use Rattle.naming.specs.Corners.{place_named, places_named}
-use Rattle.weld.specs.declared.Welded.{Welded}
-use Rattle.weld.specs.declared.Welded.TheVariants as Welded
 use Rattle.weld.specs.Definition.{number_of, kept, kept_before, keeper, new_index, closed_up, edge_of, vertex_of, edges_at, vertices_at, renumbered, judge_weld, weld_answer, weld}
 use Rattle.weld.specs.Leaves.{AllWelded}
 use Rattle.weld.specs.Kept.{kept_mark, kept_apart, keeper_keeps, new_below, new_first, kept_index, kept_anew}
@@ -39,10 +36,10 @@ pub record Whole (v t : ℕ) (vertices : List Float) (triangles edges : List ℕ
   pub floats : 6 * v ≤ length vertices
   pub indices : 3 * t ≤ length triangles
   pub numbers : v ≤ length edges
-  pub named : judge_named v (take (3 * t) triangles) ≡ Passed
+  pub named : judge_named v (take (3 * t) triangles) ≡ Ok tt
 
 module _ (v t : ℕ) (vertices : List Float) (triangles edges : List ℕ) where
-  pub whole : judge_weld v t vertices triangles edges ≡ Passed → Whole v t vertices triangles edges
+  pub whole : judge_weld v t vertices triangles edges ≡ Ok tt → Whole v t vertices triangles edges
   unfolding judge_weld
   whole e =
       let vertices-pass = both_passed (judge_buffer (6 * v) (length vertices)) _ e in
@@ -55,7 +52,7 @@ module _ (v t : ℕ) (vertices : List Float) (triangles edges : List ℕ) where
         named = edges-pass.1;
       }
 
-  pub passes : Whole v t vertices triangles edges → judge_weld v t vertices triangles edges ≡ Passed
+  pub passes : Whole v t vertices triangles edges → judge_weld v t vertices triangles edges ≡ Ok tt
   unfolding judge_weld
   passes w = rw (le-leb _ _ w.floats, le-leb _ _ w.indices, le-leb _ _ w.numbers, w.named)
 
@@ -94,7 +91,7 @@ module _ (v t : ℕ) (vertices : List Float) (triangles edges : List ℕ) (w : W
 
   -- what the code leaves once it has passed over all vertices
   pub all_passed : (k : ℕ) (vertices' : List Float) (triangles' edges' : List ℕ) → AllWelded v vertices front edges k vertices' triangles' edges'
-      → record { answer = Welded.Mesh (record { vertices = k; triangles = t }); vertices = vertices'; triangles = triangles' ++ drop (3 * t) triangles; edges = edges' }
+      → record { answer = Ok (record { vertices = k; triangles = t }); vertices = vertices'; triangles = triangles' ++ drop (3 * t) triangles; edges = edges' }
       ≡ weld v t vertices triangles edges
   unfolding weld weld_answer renumbered
   all_passed k vertices' triangles' edges' a =
@@ -174,16 +171,16 @@ module _ (edges : List ℕ) (k : ℕ) (all : (j : ℕ) → j < k → kept edges 
 pub record Welds (v t : ℕ) (vertices : List Float) (triangles edges : List ℕ) (c : Counts) : Type 0 where
   pub whole_lists : Whole v t vertices triangles edges
   pub counts_are : c ≡ record { vertices = kept_before edges v; triangles = t }
-  pub outcome_is : weld v t vertices triangles edges ≡ weld_answer v t vertices triangles edges Passed
+  pub outcome_is : weld v t vertices triangles edges ≡ weld_answer v t vertices triangles edges (Ok tt)
 
 module _ (v t : ℕ) (vertices : List Float) (triangles edges : List ℕ) where
-  answered : (verdict : Verdict) (c : Counts) → (weld_answer v t vertices triangles edges verdict).answer ≡ Welded.Mesh c
-      → (verdict ≡ Passed) × (c ≡ record { vertices = kept_before edges v; triangles = t })
+  answered : (verdict : Verdict) (c : Counts) → (weld_answer v t vertices triangles edges verdict).answer ≡ Ok c
+      → (verdict ≡ Ok tt) × (c ≡ record { vertices = kept_before edges v; triangles = t })
   unfolding weld_answer
-  answered Passed c e = (refl, cc)
-  answered (Refused r) c e = (cc, cc)
+  answered (Ok _) c e = (refl, cc)
+  answered (Err r) c e = (cc, cc)
 
-  pub welds : (c : Counts) → (weld v t vertices triangles edges).answer ≡ Welded.Mesh c → Welds v t vertices triangles edges c
+  pub welds : (c : Counts) → (weld v t vertices triangles edges).answer ≡ Ok c → Welds v t vertices triangles edges c
   unfolding weld
   welds c e =
       let a = answered (judge_weld v t vertices triangles edges) c e in
@@ -223,7 +220,7 @@ module _ (v t : ℕ) (vertices : List Float) (triangles edges : List ℕ) where
         }
 
     -- a second pass moves nothing
-    pub again : weld k t vertices' triangles' edges' ≡ weld_answer v t vertices triangles edges Passed
+    pub again : weld k t vertices' triangles' edges' ≡ weld_answer v t vertices triangles edges (Ok tt)
     unfolding weld weld_answer
     again =
         let a = whole_again in

@@ -2,12 +2,12 @@
 ghost use Rattle.std.specs.Prelude.{◌≡◌, ◌+◌, ◌*◌, ◌≤◌, ◌<◌, length};
 ghost use Rattle.std.proofs.lemmas.List.Edits.{sets};
 ghost use Rattle.weld.specs.Definition.{vertex_of};
-ghost use Rattle.weld.specs.Leaves.{Noted, Tables, Closed, Room, Window};
+ghost use Rattle.weld.specs.Leaves.{AsLong, Closed, Noted, Room, Tables, Window};
 
-use crate::places::place_of;
+use crate::memory::Memory;
 use crate::seen::{note, slot};
 
-// The six numbers of a vertex, to a place that is no higher.
+// The six numbers of a vertex, to a place that is no higher. By index: copy_within was tried, and slows the whole weld by a twentieth.
 fn move_down(vertices: &mut [f32], from: usize, to: usize)
     requires { (to ≤ from) × (6 * (from + 1) ≤ length vertices.old) }
     ensures { vertices.new ≡ sets vertices.old (6 * to) (vertex_of vertices.old from) }
@@ -39,31 +39,30 @@ fn keep(
     k + 1
 }
 
-// After so many kept ones.
-pub fn close(
-    start: usize,
-    end: usize,
-    first: usize,
-    vertices: &mut [f32],
-    edges: &mut [u32],
-    seen: &mut [u64],
-    hints: &mut [u32],
-    table: &mut [u32],
-) -> usize
-    requires room { Room start end first vertices.old edges.old table.old × Tables seen.old hints.old }
-    requires noted { Noted seen.old edges.old first }
-    ensures { Window start end first vertices.old edges.old result vertices.new edges.new seen.new table.new }
-{
-    let mut k = first;
-    let mut i = start;
-    while i < end {
-        let number = edges[i];
-        let at = place_of(edges, k, seen, hints, number);
-        table[i - start] = at as u32;
-        let hint = slot(hints.len(), number as usize);
-        hints[hint] = at as u32;
-        k = keep(i, k, at, number, vertices, edges, seen);
-        i += 1;
+impl<const WORDS: usize, const HINTS: usize, const PLACES: usize> Memory<WORDS, HINTS, PLACES> {
+    // After so many kept ones.
+    pub fn close(
+        &mut self,
+        start: usize,
+        end: usize,
+        first: usize,
+        vertices: &mut [f32],
+        edges: &mut [u32],
+    ) -> usize
+        requires room { Room start end first vertices.old edges.old self.old.table × Tables self.old.seen self.old.hints }
+        requires noted { Noted self.old.seen edges.old first }
+        ensures window { Window start end first vertices.old edges.old result vertices.new edges.new self.new.seen self.new.table }
+        ensures as_long { AsLong vertices.old vertices.new edges.old edges.new self.old.seen self.new.seen self.old.hints self.new.hints self.old.table self.new.table }
+    {
+        let mut k = first;
+        // By index, since edges is written meanwhile.
+        for i in start..end {
+            let number = edges[i];
+            let at = self.place_of(edges, k, number);
+            self.table[i - start] = at as u32;
+            self.hints[slot(HINTS, number as usize)] = at as u32;
+            k = keep(i, k, at, number, vertices, edges, &mut self.seen);
+        }
+        k
     }
-    k
 }

@@ -7,21 +7,18 @@ fn corner(table: &[u32], start: usize, end: usize, c: u32) -> u32
     ensures { result ≡ corner_by table.now start end c }
 {
     let at = c as usize;
-    if at < start {
-        return c;
+    if (start..end).contains(&at) {
+        table[at - start]
+    } else {
+        c
     }
-    if at < end {
-        let place = at - start;
-        return table[place];
-    }
-    c
 }
 
 pub fn renumber(table: &[u32], start: usize, end: usize, triangles: &mut [u32])
     requires { end ≤ start + length table.now }
     ensures { triangles.new ≡ map (corner_by table.now start end) triangles.old }
 {
-    for p in 0..triangles.len() {
-        triangles[p] = corner(table, start, end, triangles[p]);
+    for place in triangles.iter_mut() {
+        *place = corner(table, start, end, *place);
     }
 }

@@ -26,5 +26,5 @@ pub fn note(seen: &mut [u64], number: u32)
 {
     let at = number as usize;
     let word = slot(seen.len(), at / 64);
-    seen[word] = seen[word] | (1u64 << (at % 64));
+    seen[word] |= 1u64 << (at % 64);
 }

@@ -1,2 +1,4 @@
 pub mod Orders
 pub mod Floats
+pub mod Puts
+pub mod Folds

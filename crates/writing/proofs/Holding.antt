@@ -9,14 +9,15 @@ use lib.Ieee.{Float}
 use lib.ListN.{length, replicate, length-append}
 use lib.Seq.{take_all}
 use Rattle.laws.specs.Steps.{listed, each}
+use Rattle.model.specs.declared.Buffers.{Buffers}
+use Rattle.model.specs.Lists.{SameLists}
 use Rattle.model.specs.Star.{Star, subdivisions}
 use Rattle.model.specs.Mesh.{Cell, Mesh, fill_to, triangle_of, filled, empty_mesh, regular_to, cell_step, store_length, mesh_of}
 use Rattle.model.specs.Adding.{cell_triangles}
 use Rattle.model.specs.Extraction.{vertex_floats, triangle_indices}
 use Rattle.model.specs.Edges.{edge_number}
 use Rattle.grid.specs.Shape.{Shaped}
-use Rattle.points.specs.Fractions.{Fractions}
-use Rattle.points.specs.CellPoints.{centred}
+use Rattle.points.specs.CellPoints.{Centred}
 use Rattle.cells.specs.declared.Progress.{Progress}
 use Rattle.cells.specs.declared.SheetIndex.{SheetIndex}
 use Rattle.cells.specs.declared.SheetIndex.TheVariants.{Layer, Side}
@@ -24,26 +25,64 @@ use Rattle.codes.specs.Kinds.{Ready as CellReady}
 use Rattle.cells.specs.SheetCells.{cell_at, sheet_cell}
 use Rattle.vertices.specs.Buffers.{lay_vertices, lay_triangles, lay_edges}
 use Rattle.laws.specs.Lists.{length_listed, each_append}
-use Rattle.laws.specs.Laying.{lay_none, lay_append, take_lay}
+use Rattle.laws.specs.Laying.{lay_none, lay_append, length_lay, take_lay}
+use Rattle.vertices.specs.Fills.{length_fill_store}
 use Rattle.cases.specs.Sheets.{row_start, sheet_places}
 use Rattle.cases.specs.Marks.{NextMarked}
 use Rattle.vertices.specs.Puts.{Room}
 use Rattle.cells.specs.Puts.{CellPut, SameMade}
 use Rattle.walk.specs.Order.{Held, SheetIn, row_to, row_before, sheet_before}
-use Rattle.writing.specs.Writing.{Fits, Holds, ReadTo, SameLengths, Exact, Written}
+use Rattle.writing.specs.Writing.{Fits, Holds, ReadTo, SameLengths, KeptLengths, HoldsIn, Exact, Written}
+use Rattle.writing.specs.Lengths.{same_then}
 use Rattle.walk.specs.Walk.{regular_start, cell_made, Upto, upto_trans, row_skip, cell_upto, sheet_after_lem, after_upto}
 
 -- what was not touched is as long as it was
 pub same_self : {vertices : List Float} {triangles store edges : List ℕ} → SameLengths vertices vertices triangles triangles store store edges edges
 same_self = record { vertices_same = refl; triangles_same = refl; store_same = refl; edges_same = refl }
 
+-- a mesh of which only the reads differ is held as well
+pub holds_same : {m m' : Mesh} {counts : Progress} {vertices : List Float} {triangles store edges : List ℕ} → SameMade m m'
+    → Holds m counts vertices triangles store edges → Holds m' counts vertices triangles store edges
+holds_same same h =
+    record {
+      vertex_count_lem = h.vertex_count_lem ∙ ap length same.made_same;
+      triangle_count_lem = h.triangle_count_lem ∙ ap length same.triangles_same;
+      read_so_far = h.read_so_far;
+      vertices_are = h.vertices_are ∙ ap (each vertex_floats) same.made_same;
+      triangles_are = h.triangles_are ∙ ap (each triangle_indices) same.triangles_same;
+      store_is = h.store_is ∙ same.store_same;
+      numbered = record { before = h.numbered.before; edges_are = h.numbered.edges_are ∙ ap (lay_edges h.numbered.before 0) same.made_same };
+    }
+
+lists_then : (out out' out'' : Buffers) → SameLists out out' → SameLists out' out'' → SameLists out out''
+lists_then out out' out'' h k = (k.0 ∙ h.0, k.1 ∙ h.1, k.2 ∙ h.2, k.3 ∙ h.3)
+
+-- the lists are those that were lent, as long as they were, and hold a mesh
+pub record SoFar (m : Mesh) (counts : Progress) (out₀ out : Buffers) : Type 0 where
+  pub same : SameLists out₀ out
+  pub kept : KeptLengths out₀ out
+  pub holds : HoldsIn m counts out
+
+pub so_far_none : {m : Mesh} {counts : Progress} {out : Buffers} → HoldsIn m counts out → SoFar m counts out out
+so_far_none holds = record { same = (refl, refl, refl, refl); kept = same_self; holds = holds }
+
+-- and then another
+pub so_far_then : {m m' : Mesh} {counts counts' : Progress} {out₀ out out' : Buffers} → SoFar m counts out₀ out
+    → SameLists out out' → KeptLengths out out' → HoldsIn m' counts' out' → SoFar m' counts' out₀ out'
+so_far_then {out₀ = out₀} {out = out} {out' = out'} before same kept holds =
+    record { same = lists_then out₀ out out' before.same same; kept = same_then before.kept kept; holds = holds }
+
+pub so_far_made : {m m' : Mesh} {counts : Progress} {out₀ out : Buffers} → SameMade m m' → SoFar m counts out₀ out → SoFar m' counts out₀ out
+so_far_made made before = record { same = before.same; kept = before.kept; holds = holds_same made before.holds }
+
+pub so_far_as : {m m' : Mesh} {counts : Progress} {out₀ out : Buffers} → m ≡ m' → SoFar m counts out₀ out → SoFar m' counts out₀ out
+so_far_as e before = rw e at before
+
 -- before each sheet that is come to: its two lists have their places, the buffers hold a mesh, and it is known what was read for so many sheets
-pub record Come (m : Mesh) (read sheets : ℕ) (vertices₀ vertices : List Float) (triangles₀ triangles store₀ store edges₀ edges cases marks : List ℕ)
-    (counts : Progress) (reads : ℕ) : Type 0 where
+pub record Come (m : Mesh) (read sheets : ℕ) (out₀ out : Buffers) (cases marks : List ℕ) (counts : Progress) (reads : ℕ) : Type 0 where
   pub cases_long : length cases ≡ sheet_places
   pub marks_long : length marks ≡ sheet_places
-  pub same : SameLengths vertices₀ vertices triangles₀ triangles store₀ store edges₀ edges
-  pub holds : Holds m counts vertices triangles store edges
+  pub so_far : SoFar m counts out₀ out
   pub read_to : ReadTo read sheets reads
 
 -- ---- a cell written
@@ -124,30 +163,29 @@ module _ {s : Star} {c : Cell} {m : Mesh} {counts : Progress} {vertices : List F
             };
       }
 
--- a mesh of which only the reads differ is held as well
-pub holds_same : {m m' : Mesh} {counts : Progress} {vertices : List Float} {triangles store edges : List ℕ} → SameMade m m'
-    → Holds m counts vertices triangles store edges → Holds m' counts vertices triangles store edges
-holds_same same h =
+-- a cell that is put leaves the lists as long as they were
+pub put_keeps : (c : Cell) (nv nt : ℕ) {nv' nt' reads : ℕ} {vertices vertices' : List Float} {triangles triangles' store store' edges edges' : List ℕ}
+    → CellPut c nv nt vertices triangles store nv' nt' reads vertices' triangles' store'
+    → edges' ≡ lay_edges edges nv (fill_to c nv store c.vertices).made
+    → SameLengths vertices vertices' triangles triangles' store store' edges edges'
+put_keeps c nv nt {store = store} put e =
     record {
-      vertex_count_lem = h.vertex_count_lem ∙ ap length same.made_same;
-      triangle_count_lem = h.triangle_count_lem ∙ ap length same.triangles_same;
-      read_so_far = h.read_so_far;
-      vertices_are = h.vertices_are ∙ ap (each vertex_floats) same.made_same;
-      triangles_are = h.triangles_are ∙ ap (each triangle_indices) same.triangles_same;
-      store_is = h.store_is ∙ same.store_same;
-      numbered = record { before = h.numbered.before; edges_are = h.numbered.edges_are ∙ ap (lay_edges h.numbered.before 0) same.made_same };
+      vertices_same = ap length put.vertices_are ∙ length_lay 6 vertex_floats _ nv _;
+      triangles_same = ap length put.triangles_are ∙ length_lay 3 triangle_indices _ nt _;
+      store_same = ap length put.store_is ∙ length_fill_store c nv store c.vertices;
+      edges_same = ap length e ∙ length_lay 1 edge_number _ nv _;
     }
 
 -- ---- a sheet of cells
 
 -- each of its cells is one of the block's, and what it reads is there
-pub cell_ready : (s : Star) (fractions : List Float) → Shaped s → Fractions (subdivisions s) fractions → (sheet : SheetIndex) → SheetIn s sheet
+pub cell_ready : (s : Star) (fractions : List Float) → Shaped s → Centred (subdivisions s) fractions s.centre → (sheet : SheetIndex) → SheetIn s sheet
     → (u v : ℕ) → u < subdivisions s → v < subdivisions s → CellReady s fractions (cell_at sheet u v)
-cell_ready s fractions shaped are (Layer x) is u v hu hv =
-    record { centred = centred s fractions shaped are; placed = record { x_in = is; y_in = hu; z_in = hv }; beside = tt }
-cell_ready s fractions shaped are (Side side) is u v hu hv =
+cell_ready s fractions shaped centred (Layer x) is u v hu hv =
+    record { centred = centred; placed = record { x_in = is; y_in = hu; z_in = hv }; beside = tt }
+cell_ready s fractions shaped centred (Side side) is u v hu hv =
     record {
-      centred = centred s fractions shaped are;
+      centred = centred;
       placed = record { side_in = is.0; u_in = hu; v_in = hv };
       beside = record { few = shaped.few; sides = shaped.sides; side_is = is.0; is_named = is.1; neighbours_are = shaped.neighbours_are };
     }
@@ -167,11 +205,6 @@ module _ (s : Star) (sheet : SheetIndex) (u : ℕ) (u_in : u < subdivisions s) w
         → Holds (before from) counts vertices triangles store edges → Holds (before next) counts vertices triangles store edges
     holds_skip from next step = holds_same (row_skip s sheet held u from next u_in step (row_before s sheet u))
 
-    -- a cell written, and those up to the next one that is marked
-    pub holds_on : (v next : ℕ) → NextMarked (subdivisions s) marks (row_start (subdivisions s) u) (v + 1) next
-        → Holds (cell_step (cell v) (before v)) counts vertices triangles store edges → Holds (before next) counts vertices triangles store edges
-    holds_on v next step h = holds_skip (v + 1) next step (rw add-one h)
-
   -- a cell can be written, if the mesh fits
   pub ready_at : (v : ℕ) {counts : Progress} {vertices : List Float} {triangles store edges : List ℕ} → v < subdivisions s → SheetIn s sheet
       → Fits s vertices triangles store → Holds (before v) counts vertices triangles store edges → Ready s (cell v) (before v) counts vertices triangles store edges
@@ -183,8 +216,8 @@ module _ (s : Star) (sheet : SheetIndex) (u : ℕ) (u_in : u < subdivisions s) w
       }
 
 -- after its last cell the next row begins
-pub row_done : (s : Star) (sheet : SheetIndex) (u v : ℕ) → v ≡ subdivisions s → row_to (sheet_cell s sheet u) v (row_before s sheet u) ≡ row_before s sheet (u + 1)
-row_done s sheet u v e = rw (e, add-one)
+pub row_done : (s : Star) (sheet : SheetIndex) (u : ℕ) → row_to (sheet_cell s sheet u) (subdivisions s) (row_before s sheet u) ≡ row_before s sheet (u + 1)
+row_done s sheet u = rw add-one
 
 -- ---- at the end
 

@@ -3,8 +3,8 @@
 use Prim.Native.Nat.{ℕ, ◌+◌, ◌*◌, ◌≤◌, ◌<◌}
 use native.Mathlib.Numerals.{add-one}
 use native.Mathlib.Omega.{arith}
-use mathlib.Core.Path.{◌≡◌, sym, ap, ◌∙◌}
-use mathlib.Core.Bool.{Bool, true, false, cond}
+use mathlib.Core.Path.{◌≡◌, refl, sym, ap, ◌∙◌}
+use mathlib.Core.Bool.{Bool, cond}
 use mathlib.Core.List.{List}
 use lib.Ieee.{Float}
 use lib.ListN.{length}
@@ -38,11 +38,11 @@ read_more : {cases cases' sheets sheets' reads more : ℕ} → cases' ≡ cases 
     → ReadTo cases sheets reads → ReadTo cases' sheets' (reads + more)
 read_more e l small r = record { reads_are = omega (arith, r.reads_are, e); few = omega (arith, r.few, l, small) }
 
--- and those after it that do not
-total_next : (part : ℕ → ℕ) (k next more : ℕ) → k + 1 ≤ next → ((i : ℕ) → k + 1 ≤ i → i < next → part i ≡ 0) → more ≡ part k → total part next ≡ total part k + more
-total_next part k next more l none e =
+-- one after some that do not
+total_next : (part : ℕ → ℕ) (from k more : ℕ) → from ≤ k → ((i : ℕ) → from ≤ i → i < k → part i ≡ 0) → more ≡ part k → total part (k + 1) ≡ total part from + more
+total_next part from k more l none e =
     let one : total part (k + 1) ≡ total part k + part k = rw add-one in
-    omega (arith, total_skip part (k + 1) next l none, one, e)
+    omega (arith, total_skip part from k l none, one, e)
 
 module _ (s : Star) (summary : List Float) where
   -- ---- layers
@@ -50,23 +50,24 @@ module _ (s : Star) (summary : List Float) where
   layer_part : (x : ℕ) {over : Bool} → passed_over s.threshold summary x ≡ over → layer_reads s summary x ≡ cond over 0 (regular_reads * subdivisions s * subdivisions s)
   layer_part x e = ap (λ (over : Bool). cond over 0 (regular_reads * subdivisions s * subdivisions s)) e
 
-  pub read_none : (next : ℕ) → NextLayer (subdivisions s) s.threshold summary 0 next → ReadTo (total (layer_reads s summary) next) next 0
-  read_none next step =
-      record { reads_are = sym (total_skip (layer_reads s summary) 0 next step.ordered (λ x l u. layer_part x (step.all_over x l u))); few = omega arith }
+  -- before all layers
+  pub read_none : ReadTo (total (layer_reads s summary) 0) 0 0
+  read_none = record { reads_are = refl; few = omega arith }
 
-  -- a layer, and those after it that are passed over
-  pub read_layer : (x next reads more : ℕ) → passed_over s.threshold summary x ≡ false
-      → NextLayer (subdivisions s) s.threshold summary (x + 1) next
+  -- a layer, and those before it that are passed over
+  pub read_layer : (from x reads more : ℕ) → NextLayer (subdivisions s) s.threshold summary from x → x < subdivisions s
       → more ≡ regular_reads * subdivisions s * subdivisions s → more ≤ most_sheet_reads
-      → ReadTo (total (layer_reads s summary) x) x reads → ReadTo (total (layer_reads s summary) next) next (reads + more)
-  read_layer x next reads more over step e small =
+      → ReadTo (total (layer_reads s summary) from) from reads → ReadTo (total (layer_reads s summary) (x + 1)) (x + 1) (reads + more)
+  read_layer from x reads more step below e small =
       read_more
-      (total_next (layer_reads s summary) x next more step.ordered (λ x l u. layer_part x (step.all_over x l u)) (e ∙ sym (layer_part x over)))
-      step.ordered small
+      (total_next (layer_reads s summary) from x more step.ordered (λ x l u. layer_part x (step.all_over x l u)) (e ∙ sym (layer_part x (step.not_over below))))
+      (omega (arith, step.ordered)) small
 
-  pub read_layers : (x reads : ℕ) → x ≡ subdivisions s → x ≤ most_subdivisions → ReadTo (total (layer_reads s summary) x) x reads
-      → ReadTo (total (layer_reads s summary) (subdivisions s)) most_subdivisions reads
-  read_layers x reads e few = read_within (ap (total (layer_reads s summary)) e) few
+  -- and those after the last
+  pub read_layers : (from reads : ℕ) → NextLayer (subdivisions s) s.threshold summary from (subdivisions s) → subdivisions s ≤ most_subdivisions
+      → ReadTo (total (layer_reads s summary) from) from reads → ReadTo (total (layer_reads s summary) (subdivisions s)) most_subdivisions reads
+  read_layers from reads step few =
+      read_within (sym (total_skip (layer_reads s summary) from (subdivisions s) step.ordered (λ x l u. layer_part x (step.all_over x l u)))) (omega (arith, step.ordered))
 
   -- ---- all
 
@@ -83,24 +84,26 @@ module _ (s : Star) (before : ℕ) where
   side_part : (side : ℕ) {is : Bool} → named s.mask side ≡ is → side_reads s side ≡ cond is (transition_reads * subdivisions s * subdivisions s) 0
   side_part side e = ap (λ (is : Bool). cond is (transition_reads * subdivisions s * subdivisions s) 0) e
 
-  pub read_first : (next : ℕ) → NextSide s.mask 0 next → before ≤ most_sheet_reads * most_subdivisions
-      → ReadTo (before + total (side_reads s) next) (most_subdivisions + next) before
-  read_first next step small =
-      let skipped = total_skip (side_reads s) 0 next step.from_le (λ side l u. side_part side (step.none_between side l u)) in
-      record { reads_are = omega (arith, skipped); few = omega arith }
+  -- before all sides
+  pub read_first : before ≤ most_sheet_reads * most_subdivisions → ReadTo (before + total (side_reads s) 0) (most_subdivisions + 0) before
+  read_first small = record { reads_are = omega arith; few = omega arith }
 
-  pub read_side : (side next reads more : ℕ) → named s.mask side ≡ true → NextSide s.mask (side + 1) next
+  -- a side, and those before it that are not named
+  pub read_side : (from side reads more : ℕ) → NextSide s.mask from side → side < side_count
       → more ≡ transition_reads * subdivisions s * subdivisions s → more ≤ most_sheet_reads
-      → ReadTo (before + total (side_reads s) side) (most_subdivisions + side) reads
-      → ReadTo (before + total (side_reads s) next) (most_subdivisions + next) (reads + more)
-  read_side side next reads more is step e small =
+      → ReadTo (before + total (side_reads s) from) (most_subdivisions + from) reads
+      → ReadTo (before + total (side_reads s) (side + 1)) (most_subdivisions + (side + 1)) (reads + more)
+  read_side from side reads more step below e small =
       let added =
-      total_next (side_reads s) side next more step.from_le (λ side l u. side_part side (step.none_between side l u)) (e ∙ sym (side_part side is)) in
+      total_next (side_reads s) from side more step.from_le (λ side l u. side_part side (step.none_between side l u)) (e ∙ sym (side_part side (step.is_named below))) in
       read_more (omega (arith, added)) (omega (arith, step.from_le)) small
 
-  pub read_sides : (side reads : ℕ) → side ≡ side_count → ReadTo (before + total (side_reads s) side) (most_subdivisions + side) reads
+  -- and those after the last
+  pub read_sides : (from reads : ℕ) → NextSide s.mask from side_count → ReadTo (before + total (side_reads s) from) (most_subdivisions + from) reads
       → ReadTo (before + total (side_reads s) side_count) most_sheets reads
-  read_sides side reads e = read_within (ap (λ (k : ℕ). before + total (side_reads s) k) e) (omega arith)
+  read_sides from reads step =
+      let skipped = total_skip (side_reads s) from side_count step.from_le (λ side l u. side_part side (step.none_between side l u)) in
+      read_within (omega (arith, skipped)) (omega (arith, step.from_le))
 
   pub read_unnamed : s.mask ≡ 0 → before ≤ most_sheet_reads * most_subdivisions → ReadTo (before + total (side_reads s) side_count) most_sheets before
   read_unnamed e small =

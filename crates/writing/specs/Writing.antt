@@ -2,6 +2,7 @@
 use Rattle.std.specs.Prelude.{ℕ, ◌+◌, ◌*◌, ◌≤◌, ◌≡◌, List, Float, length, take}
 use Rattle.laws.specs.Steps.{each}
 use Rattle.model.specs.Limits.{most_subdivisions, side_count}
+use Rattle.model.specs.declared.Buffers.{Buffers}
 use Rattle.model.specs.Star.{Star, subdivisions}
 use Rattle.model.specs.Mesh.{Mesh, store_length, mesh_of}
 use Rattle.model.specs.Extraction.{vertex_floats, triangle_indices}
@@ -47,6 +48,17 @@ pub record SameLengths (vertices₀ vertices : List Float) (triangles₀ triangl
   pub triangles_same : length triangles ≡ length triangles₀
   pub store_same : length store ≡ length store₀
   pub edges_same : length edges ≡ length edges₀
+
+-- the same of the buffers as they are lent
+abbrev pub KeptLengths : Buffers → Buffers → Type 0
+KeptLengths old new =
+    SameLengths old.vertices.now new.vertices.now old.triangles.now new.triangles.now old.store.now new.store.now old.edges.now new.edges.now
+
+abbrev pub FitsIn : Star → Buffers → Type 0
+FitsIn s out = Fits s out.vertices.now out.triangles.now out.store.now
+
+abbrev pub HoldsIn : Mesh → Progress → Buffers → Type 0
+HoldsIn m counts out = Holds m counts out.vertices.now out.triangles.now out.store.now out.edges.now
 
 -- room that is just enough, and then what the buffers hold
 pub record Exact (s : Star) (vertices : List Float) (triangles store : List ℕ) : Type 0 where

@@ -5,34 +5,34 @@
 ghost use Rattle.std.specs.Prelude.{◌≡◌, ◌+◌, ◌*◌, ◌≤◌, ◌<◌, length, replicate};
 ghost use Rattle.laws.specs.Steps.{total};
 ghost use Rattle.model.specs.Limits.{most_subdivisions, side_count};
-ghost use Rattle.model.specs.Star.{star};
+ghost use Rattle.model.specs.Star.{lent_star};
+ghost use Rattle.model.specs.Lists.{SameLists};
 ghost use Rattle.model.specs.Mesh.{store_length, regular_mesh, mesh_of};
 ghost use Rattle.model.specs.Reads.{side_reads};
 ghost use Rattle.model.specs.Layered.{layered_mesh};
 ghost use Rattle.model.specs.LayeredReads.{layer_reads};
 ghost use Rattle.grid.specs.Shape.{Shaped};
-ghost use Rattle.points.specs.Fractions.{Fractions};
-ghost use Rattle.cells.specs.SheetCells.{Tables};
+ghost use Rattle.points.specs.Grids.{subdivisions_of, star_of};
+ghost use Rattle.cells.specs.LentSheets.{HasTables};
 ghost use Rattle.cases.specs.Sheets.{most_sheet_reads};
 ghost use Rattle.layers.specs.Over.{Trusted};
-ghost use Rattle.walk.specs.Order.{Sheeted, Held, SheetIn, row_before, sheet_before, sheet_after};
-ghost use Rattle.writing.specs.Writing.{Fits, Holds, ReadTo, most_sheets, Exact, Written, Numbered};
+ghost use Rattle.walk.specs.Order.{LentSheeted, LentHeld, SheetIn, row_before, sheet_before, sheet_after};
+ghost use Rattle.writing.specs.Writing.{FitsIn, HoldsIn, KeptLengths, ReadTo, most_sheets, Exact, Written, Numbered};
 
 use cases::SHEET;
-use cases::marks::next_marked;
+use cases::cut_cells::cut_cells;
 use cases::transition::face_cases;
-use cells::sheet_cells::{number_at, write_sheet_cell};
+use cells::sheet_cells::{CaseNumbers, LentSheet, LentTables, number_at, write_sheet_cell};
 use cells::{Progress, SheetIndex};
-use grid::transition_sides::{SIDES, next_side};
-use layers::judging::next_layer;
-use model::Header;
-use points::fractions::{FRACTIONS, fractions_of};
+use grid::named_sides::named_sides;
+use layers::layers_left::layers_left;
+use model::{Buffers, Lent};
+use points::fractions::Grid;
 use regular::layer_cases;
 use tables::{
     regular_cell_class, regular_cell_data, regular_vertex_data, transition_cell_class,
     transition_cell_data, transition_vertex_data,
 };
-use walk::{NO_LAYER, NO_SIDE};
 
 const NOTHING: Progress = Progress {
     vertices: 0,
@@ -49,265 +49,159 @@ struct Pass {
 
 // The cells of a row of a sheet.
 fn write_row(
-    header: Header,
-    fractions: &[f32; FRACTIONS],
-    centre: &[f32],
-    neighbours: &[f32],
-    sheet: SheetIndex,
-    classes: &[u8],
-    cells: &[u8],
-    codes: &[u16],
-    layer: &[u8],
-    side: &[u16],
-    marks: &[u8],
+    grid: &Grid<'_>,
+    sheet: &LentSheet<'_>,
     u: usize,
     mut counts: Progress,
-    store: &mut [u32],
-    vertices: &mut [f32],
-    triangles: &mut [u32],
-    edges: &mut [u32],
+    out: &mut Buffers<'_>,
 ) -> Progress
-    requires tables { Tables sheet classes.now cells.now codes.now }
-    requires shaped { Shaped (star header centre.now neighbours.now) × Fractions header.block.subdivisions fractions.now }
-    requires sheeted { Sheeted header.block.subdivisions sheet layer.now side.now marks.now × Held (star header centre.now neighbours.now) sheet header.block.subdivisions layer.now side.now marks.now }
-    requires sheet_in { SheetIn (star header centre.now neighbours.now) sheet }
-    requires fits { Fits (star header centre.now neighbours.now) vertices.old triangles.old store.old }
-    requires u_lt_subdivisions { (u < header.block.subdivisions) × Holds (row_before (star header centre.now neighbours.now) sheet u) counts vertices.old triangles.old store.old edges.old }
-    ensures { Holds (row_before (star header centre.now neighbours.now) sheet (u + 1)) result vertices.new triangles.new store.new edges.new }
+    requires tables { HasTables sheet.now }
+    requires shaped { Shaped (star_of grid.now) }
+    requires sheeted { LentSheeted (subdivisions_of grid.now) sheet.now × LentHeld (star_of grid.now) (subdivisions_of grid.now) sheet.now }
+    requires sheet_in { SheetIn (star_of grid.now) sheet.now.index }
+    requires fits { FitsIn (star_of grid.now) out.old }
+    requires u_lt_subdivisions { (u < subdivisions_of grid.now) × HoldsIn (row_before (star_of grid.now) sheet.now.index u) counts out.old }
+    ensures holds { HoldsIn (row_before (star_of grid.now) sheet.now.index (u + 1)) result out.new }
+    ensures kept { KeptLengths out.old out.new }
+    ensures same { SameLists out.old out.new }
 {
-    let n = header.block.subdivisions;
+    let n = grid.lent.header.block.subdivisions;
     let start = (n + 1) * u;
-    let mut v = next_marked(n, marks, start, 0);
-    while v < n {
-        counts = write_sheet_cell(
-            header,
-            fractions,
-            centre,
-            neighbours,
-            sheet,
-            classes,
-            cells,
-            codes,
-            number_at(sheet, layer, side, start + v),
-            u,
-            v,
-            counts,
-            store,
-            vertices,
-            triangles,
-            edges,
-        );
-        v = next_marked(n, marks, start, v + 1);
+    for v in cut_cells(n, sheet.marks, start) {
+        counts = write_sheet_cell(grid, sheet, number_at(sheet, start + v), u, v, counts, out);
     }
     counts
 }
 
 // The cells of a sheet.
 fn write_sheet(
-    header: Header,
-    fractions: &[f32; FRACTIONS],
-    centre: &[f32],
-    neighbours: &[f32],
-    sheet: SheetIndex,
-    classes: &[u8],
-    cells: &[u8],
-    codes: &[u16],
-    layer: &[u8],
-    side: &[u16],
-    marks: &[u8],
+    grid: &Grid<'_>,
+    sheet: &LentSheet<'_>,
     mut counts: Progress,
-    store: &mut [u32],
-    vertices: &mut [f32],
-    triangles: &mut [u32],
-    edges: &mut [u32],
+    out: &mut Buffers<'_>,
 ) -> Progress
-    requires tables { Tables sheet classes.now cells.now codes.now }
-    requires shaped { Shaped (star header centre.now neighbours.now) × Fractions header.block.subdivisions fractions.now }
-    requires sheeted { Sheeted header.block.subdivisions sheet layer.now side.now marks.now × Held (star header centre.now neighbours.now) sheet header.block.subdivisions layer.now side.now marks.now }
-    requires sheet_in { SheetIn (star header centre.now neighbours.now) sheet }
-    requires fits { Fits (star header centre.now neighbours.now) vertices.old triangles.old store.old }
-    requires holds { Holds (sheet_before (star header centre.now neighbours.now) sheet) counts vertices.old triangles.old store.old edges.old }
-    ensures { Holds (sheet_after (star header centre.now neighbours.now) sheet) result vertices.new triangles.new store.new edges.new }
+    requires tables { HasTables sheet.now }
+    requires shaped { Shaped (star_of grid.now) }
+    requires sheeted { LentSheeted (subdivisions_of grid.now) sheet.now × LentHeld (star_of grid.now) (subdivisions_of grid.now) sheet.now }
+    requires sheet_in { SheetIn (star_of grid.now) sheet.now.index }
+    requires fits { FitsIn (star_of grid.now) out.old }
+    requires holds { HoldsIn (sheet_before (star_of grid.now) sheet.now.index) counts out.old }
+    ensures holds { HoldsIn (sheet_after (star_of grid.now) sheet.now.index) result out.new }
+    ensures kept { KeptLengths out.old out.new }
+    ensures same { SameLists out.old out.new }
 {
-    let n = header.block.subdivisions;
-    let mut u = 0;
-    while u < n {
-        counts = write_row(
-            header, fractions, centre, neighbours, sheet, classes, cells, codes, layer, side,
-            marks, u, counts, store, vertices, triangles, edges,
-        );
-        u += 1;
+    for u in 0..grid.lent.header.block.subdivisions {
+        counts = write_row(grid, sheet, u, counts, out);
     }
     counts
 }
 
-fn write_regular_cells(
-    header: Header,
-    fractions: &[f32; FRACTIONS],
-    centre: &[f32],
-    neighbours: &[f32],
-    summary: &[f32],
-    store: &mut [u32],
-    vertices: &mut [f32],
-    triangles: &mut [u32],
-    edges: &mut [u32],
-) -> Pass
-    requires shaped { Shaped (star header centre.now neighbours.now) × Fractions header.block.subdivisions fractions.now }
-    requires trusted { Trusted header.block.subdivisions centre.now summary.now }
-    requires fits { Fits (star header centre.now neighbours.now) vertices.old triangles.old store.old }
-    requires store_value { store.old ≡ replicate (store_length header.block.subdivisions) 0 }
-    ensures holds { Holds (regular_mesh (star header centre.now neighbours.now)) result.counts vertices.new triangles.new store.new edges.new }
-    ensures reads { ReadTo (total (layer_reads (star header centre.now neighbours.now) summary.now) header.block.subdivisions) most_subdivisions result.reads }
+fn write_regular_cells(grid: &Grid<'_>, summary: &[f32], out: &mut Buffers<'_>) -> Pass
+    requires shaped { Shaped (star_of grid.now) }
+    requires trusted { Trusted (subdivisions_of grid.now) grid.now.lent.centre.now summary.now }
+    requires fits { FitsIn (star_of grid.now) out.old }
+    requires store_value { out.old.store.now ≡ replicate (store_length (subdivisions_of grid.now)) 0 }
+    ensures holds { HoldsIn (regular_mesh (star_of grid.now)) result.counts out.new }
+    ensures reads { ReadTo (total (layer_reads (star_of grid.now) summary.now) (subdivisions_of grid.now)) most_subdivisions result.reads }
+    ensures kept { KeptLengths out.old out.new }
+    ensures same { SameLists out.old out.new }
 {
+    let header = grid.lent.header;
     let n = header.block.subdivisions;
     let classes = regular_cell_class();
     let cells = regular_cell_data();
     let codes = regular_vertex_data();
+    let tables = LentTables {
+        classes: &classes,
+        cells: &cells,
+        codes: &codes,
+    };
     let mut cases = [0u8; SHEET];
     let mut marks = [0u8; SHEET];
     let mut counts = NOTHING;
     let mut reads: u64 = 0;
-    let mut x = next_layer(n, header.threshold, summary, 0);
-    while x < n {
-        reads += layer_cases(header, centre, x, &mut cases, &mut marks);
-        counts = write_sheet(
-            header,
-            fractions,
-            centre,
-            neighbours,
-            SheetIndex::Layer(x),
-            &classes,
-            &cells,
-            &codes,
-            &cases,
-            &NO_SIDE,
-            &marks,
-            counts,
-            store,
-            vertices,
-            triangles,
-            edges,
-        );
-        x = next_layer(n, header.threshold, summary, x + 1);
+    for x in layers_left(n, header.threshold, summary) {
+        reads += layer_cases(header, grid.lent.centre, x, &mut cases, &mut marks);
+        let sheet = LentSheet {
+            index: SheetIndex::Layer(x),
+            tables,
+            numbers: CaseNumbers::Bytes(&cases),
+            marks: &marks,
+        };
+        counts = write_sheet(grid, &sheet, counts, out);
     }
     Pass { counts, reads }
 }
 
-fn write_named_sides(
-    header: Header,
-    fractions: &[f32; FRACTIONS],
-    centre: &[f32],
-    neighbours: &[f32],
-    before: Pass,
-    store: &mut [u32],
-    vertices: &mut [f32],
-    triangles: &mut [u32],
-    edges: &mut [u32],
-) -> Pass
-    requires shaped { Shaped (star header centre.now neighbours.now) × Fractions header.block.subdivisions fractions.now }
-    requires fits { Fits (star header centre.now neighbours.now) vertices.old triangles.old store.old }
-    requires holds { Holds (regular_mesh (star header centre.now neighbours.now)) before.counts vertices.old triangles.old store.old edges.old }
+fn write_named_sides(grid: &Grid<'_>, before: Pass, out: &mut Buffers<'_>) -> Pass
+    requires shaped { Shaped (star_of grid.now) }
+    requires fits { FitsIn (star_of grid.now) out.old }
+    requires holds { HoldsIn (regular_mesh (star_of grid.now)) before.counts out.old }
     requires reads_bound { before.reads ≤ most_sheet_reads * most_subdivisions }
-    ensures holds_2 { Holds (mesh_of (star header centre.now neighbours.now)) result.counts vertices.new triangles.new store.new edges.new }
-    ensures reads { ReadTo (before.reads + total (side_reads (star header centre.now neighbours.now)) side_count) most_sheets result.reads }
+    ensures holds_2 { HoldsIn (mesh_of (star_of grid.now)) result.counts out.new }
+    ensures reads { ReadTo (before.reads + total (side_reads (star_of grid.now)) side_count) most_sheets result.reads }
+    ensures kept { KeptLengths out.old out.new }
+    ensures same { SameLists out.old out.new }
 {
-    let mask = header.mask;
+    let lent = grid.lent;
     let classes = transition_cell_class();
     let cells = transition_cell_data();
     let codes = transition_vertex_data();
+    let tables = LentTables {
+        classes: &classes,
+        cells: &cells,
+        codes: &codes,
+    };
     let mut cases = [0u16; SHEET];
     let mut marks = [0u8; SHEET];
-    let mut counts = before.counts;
-    let mut reads = before.reads;
-    let mut side = next_side(mask, 0);
-    while side < SIDES {
-        reads += face_cases(header, neighbours, side, &mut cases, &mut marks);
-        counts = write_sheet(
-            header,
-            fractions,
-            centre,
-            neighbours,
-            SheetIndex::Side(side),
-            &classes,
-            &cells,
-            &codes,
-            &NO_LAYER,
-            &cases,
-            &marks,
-            counts,
-            store,
-            vertices,
-            triangles,
-            edges,
-        );
-        side = next_side(mask, side + 1);
+    let Pass {
+        mut counts,
+        mut reads,
+    } = before;
+    for side in named_sides(lent.header.mask) {
+        reads += face_cases(lent.header, lent.neighbours, side, &mut cases, &mut marks);
+        let sheet = LentSheet {
+            index: SheetIndex::Side(side),
+            tables,
+            numbers: CaseNumbers::Words(&cases),
+            marks: &marks,
+        };
+        counts = write_sheet(grid, &sheet, counts, out);
     }
     Pass { counts, reads }
 }
 
 // The transition tables are fetched only where there is a finer neighbour.
-fn write_transition_cells(
-    header: Header,
-    fractions: &[f32; FRACTIONS],
-    centre: &[f32],
-    neighbours: &[f32],
-    before: Pass,
-    store: &mut [u32],
-    vertices: &mut [f32],
-    triangles: &mut [u32],
-    edges: &mut [u32],
-) -> Pass
-    requires shaped { Shaped (star header centre.now neighbours.now) × Fractions header.block.subdivisions fractions.now }
-    requires fits { Fits (star header centre.now neighbours.now) vertices.old triangles.old store.old }
-    requires holds { Holds (regular_mesh (star header centre.now neighbours.now)) before.counts vertices.old triangles.old store.old edges.old }
+fn write_transition_cells(grid: &Grid<'_>, before: Pass, out: &mut Buffers<'_>) -> Pass
+    requires shaped { Shaped (star_of grid.now) }
+    requires fits { FitsIn (star_of grid.now) out.old }
+    requires holds { HoldsIn (regular_mesh (star_of grid.now)) before.counts out.old }
     requires reads_bound { before.reads ≤ most_sheet_reads * most_subdivisions }
-    ensures holds_2 { Holds (mesh_of (star header centre.now neighbours.now)) result.counts vertices.new triangles.new store.new edges.new }
-    ensures reads { ReadTo (before.reads + total (side_reads (star header centre.now neighbours.now)) side_count) most_sheets result.reads }
+    ensures holds_2 { HoldsIn (mesh_of (star_of grid.now)) result.counts out.new }
+    ensures reads { ReadTo (before.reads + total (side_reads (star_of grid.now)) side_count) most_sheets result.reads }
+    ensures kept { KeptLengths out.old out.new }
+    ensures same { SameLists out.old out.new }
 {
-    if header.mask == 0 {
+    if grid.lent.header.mask == 0 {
         return before;
     }
-    write_named_sides(
-        header, fractions, centre, neighbours, before, store, vertices, triangles, edges,
-    )
-}
-
-// Every place of the index store is 0.
-fn clear(store: &mut [u32])
-    ensures { store.new ≡ replicate (length store.old) 0 }
-{
-    let mut i = 0;
-    while i < store.len() {
-        store[i] = 0;
-        i += 1;
-    }
+    write_named_sides(grid, before, out)
 }
 
 // Buffers of just the right lengths are filled. Answers the samples read.
-pub fn write_mesh(
-    header: Header,
-    centre: &[f32],
-    neighbours: &[f32],
-    summary: &[f32],
-    store: &mut [u32],
-    vertices: &mut [f32],
-    triangles: &mut [u32],
-    edges: &mut [u32],
-) -> u64
-    requires shaped { Shaped (star header centre.now neighbours.now) }
-    requires trusted { Trusted header.block.subdivisions centre.now summary.now }
-    requires exact { Exact (star header centre.now neighbours.now) vertices.old triangles.old store.old }
-    ensures written { Written (mesh_of (star header centre.now neighbours.now)) vertices.new triangles.new store.new }
-    ensures reads { result ≡ (layered_mesh (star header centre.now neighbours.now) summary.now).reads }
-    ensures edges { Numbered (mesh_of (star header centre.now neighbours.now)) edges.new }
+pub fn write_mesh(lent: &Lent<'_>, summary: &[f32], out: &mut Buffers<'_>) -> u64
+    requires shaped { Shaped (lent_star lent.now) }
+    requires trusted { Trusted lent.now.header.block.subdivisions lent.now.centre.now summary.now }
+    requires exact { Exact (lent_star lent.now) out.old.vertices.now out.old.triangles.now out.old.store.now }
+    ensures written { Written (mesh_of (lent_star lent.now)) out.new.vertices.now out.new.triangles.now out.new.store.now }
+    ensures reads { result ≡ (layered_mesh (lent_star lent.now) summary.now).reads }
+    ensures edges { Numbered (mesh_of (lent_star lent.now)) out.new.edges.now }
+    ensures kept { KeptLengths out.old out.new }
+    ensures same { SameLists out.old out.new }
 {
-    clear(store);
-    let fractions = fractions_of(header.block.subdivisions);
-    let regular = write_regular_cells(
-        header, &fractions, centre, neighbours, summary, store, vertices, triangles, edges,
-    );
-    let all = write_transition_cells(
-        header, &fractions, centre, neighbours, regular, store, vertices, triangles, edges,
-    );
+    out.store.fill(0);
+    let grid = Grid::new(*lent);
+    let regular = write_regular_cells(&grid, summary, out);
+    let all = write_transition_cells(&grid, regular, out);
     all.reads + all.counts.reads
 }

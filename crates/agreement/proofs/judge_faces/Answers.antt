@@ -1,5 +1,6 @@
 -- `judge_faces` meets its contract. The invariants: nothing is found yet, and no side, row or point passed over differs. The
 -- places that the steps lead to are those of the face's points, so that the samples read there are the ones that the model compares.
+use Rattle.std.specs.Prelude.{Err, Ok}
 use Prim.Native.Nat.{ℕ, ◌+◌, ◌*◌, ◌≤◌}
 use mathlib.Core.Path.{◌≡◌, refl}
 use mathlib.Core.Bool.{Bool}
@@ -8,14 +9,13 @@ use lib.Ieee.{nan}
 use lib.ListN.{get_or}
 use Rattle.std.specs.Bool.{beq}
 use Rattle.model.specs.Formulas.{inside}
-use Rattle.model.specs.Star.{Star, star, subdivisions}
+use Rattle.model.specs.Star.{Star, lent_star, subdivisions}
 use Rattle.model.specs.declared.Refusal.TheVariants.{FaceMismatch}
-use Rattle.model.specs.declared.Verdict.{Verdict}
-use Rattle.model.specs.declared.Verdict.TheVariants.{Passed, Refused}
+use Rattle.model.specs.Answers.{Verdict}
 use Rattle.grid.specs.RotationLaws.{OnFace}
 use Rattle.grid.specs.Walks.{side_place, spot_in}
 use Rattle.judge.specs.First.{not_yet, hit}
-use Rattle.judge.specs.NamedSides.{start_at, go_on, all_passed, refused_at}
+use Rattle.judge.specs.NamedSides.{set_out, given, gone_past, ended, refused_at}
 use Rattle.agreement.specs.Faces.{coarse_on, fine_on, places_agree, pair_agrees, pair_spot, pair_row, pair_rows, pair_face, face_by_face}
 use Rattle.agreement.proofs.Walked.{row_led, row_at, spot_led, spot_at}
 use Rattle.agreement.proofs.judge_faces.Goals as goal
@@ -27,23 +27,23 @@ face s = pair_face (subdivisions s) s.mask s.threshold s.centre s.neighbours
 
 -- what the search finds in a side's face is what it finds in its rows
 face_is : (c : After-neighbour-fine) {v : Verdict}
-    → pair_rows c.args.header.block.subdivisions c.args.header.threshold c.args.centre.now c.neighbour-fine.result.now c.search.side (c.args.header.block.subdivisions + 1) ≡ v
-    → face (star c.args.header c.args.centre.now c.args.neighbours.now) c.search.side ≡ v
+    → pair_rows c.args.lent.now.header.block.subdivisions c.args.lent.now.header.threshold c.args.lent.now.centre.now c.neighbour-fine.result.now c.in-Some.side (c.args.lent.now.header.block.subdivisions + 1) ≡ v
+    → face (lent_star c.args.lent.now) c.in-Some.side ≡ v
 face_is c e = rw (← c.neighbour-fine.ensures.0) e
 
 -- a row's points are on the face
-row_on : (c : In-loop-u) → {v : ℕ} → v ≤ c.args.header.block.subdivisions
-    → OnFace c.args.header.block.subdivisions c.search.side c.loop-u.u v
-row_on c hv = record { few = c.requires.few; side_is = c.search-test.true; u_in = omega (arith, c.loop-u-test.true); v_in = hv }
+row_on : (c : In-loop-u) → {v : ℕ} → v ≤ c.args.lent.now.header.block.subdivisions
+    → OnFace c.args.lent.now.header.block.subdivisions c.in-Some.side c.loop-u.u v
+row_on c hv = record { few = c.requires.few; side_is = c.in-Some.ensures.steps.0.1; u_in = omega (arith, c.loop-u-test.true); v_in = hv }
 
 -- ---- a point of a row, and whether the samples at its two places agree
 
 module _ (p : After-along-fine_at) where
   abbrev n : ℕ
-  n = p.args.header.block.subdivisions
+  n = p.args.lent.now.header.block.subdivisions
 
   abbrev side : ℕ
-  side = p.search.side
+  side = p.in-Some.side
 
   abbrev u : ℕ
   u = p.loop-u.u
@@ -52,13 +52,13 @@ module _ (p : After-along-fine_at) where
   v = p.loop-v.v
 
   abbrev spots : ℕ → ℕ → Verdict
-  spots = pair_spot n p.args.header.threshold p.args.centre.now p.neighbour-fine.result.now side
+  spots = pair_spot n p.args.lent.now.header.threshold p.args.lent.now.centre.now p.neighbour-fine.result.now side
 
   abbrev rows : ℕ → ℕ → Verdict
-  rows = pair_row n p.args.header.threshold p.args.centre.now p.neighbour-fine.result.now side
+  rows = pair_row n p.args.lent.now.header.threshold p.args.lent.now.centre.now p.neighbour-fine.result.now side
 
   point_on : {j : ℕ} → j ≤ n → OnFace n side u j
-  point_on hj = record { few = p.requires.few; side_is = p.search-test.true; u_in = omega (arith, p.loop-u-test.true); v_in = hj }
+  point_on hj = record { few = p.requires.few; side_is = p.in-Some.ensures.steps.0.1; u_in = omega (arith, p.loop-u-test.true); v_in = hj }
 
   on : OnFace n side u v
   on = point_on (omega (arith, p.loop-v-test.true))
@@ -75,25 +75,25 @@ module _ (p : After-along-fine_at) where
 
   agree_is : (agrees : Bool)
       → agrees
-      ≡ beq (inside p.args.header.threshold (get_or p.args.centre.now p.along-coarse_at.result nan))
-      (inside p.args.header.threshold (get_or p.neighbour-fine.result.now p.along-fine_at.result nan))
-      → agrees ≡ pair_agrees n p.args.header.threshold p.args.centre.now p.neighbour-fine.result.now side u v
-  agree_is agrees e = places_agree n p.args.header.threshold p.args.centre.now p.neighbour-fine.result.now side on coarse_at fine_at e
+      ≡ beq (inside p.args.lent.now.header.threshold (get_or p.args.lent.now.centre.now p.along-coarse_at.result nan))
+      (inside p.args.lent.now.header.threshold (get_or p.neighbour-fine.result.now p.along-fine_at.result nan))
+      → agrees ≡ pair_agrees n p.args.lent.now.header.threshold p.args.lent.now.centre.now p.neighbour-fine.result.now side u v
+  agree_is agrees e = places_agree n p.args.lent.now.header.threshold p.args.lent.now.centre.now p.neighbour-fine.result.now side on coarse_at fine_at e
 
 -- ---- the goals
 
 pub search-init : goal.search-init
-search-init c = (refl, start_at _ _ c.next_side-side.ensures)
+search-init c = (refl, set_out _ _ (cc) (cc))
 
 pub neighbour-fine-requires : goal.neighbour-fine-requires
 neighbour-fine-requires c =
     let pre = c.requires in
-    let inside = c.search-test.true in
+    let inside = c.in-Some.ensures.steps.0.1 in
     record {
       few = pre.few;
       sides = pre.sides;
       side_is = inside;
-      is_named = c.search.invariant.1.is_named inside;
+      is_named = (given _ _ c.search.invariant.1 c.in-Some.ensures.steps).is_named inside;
       neighbours_are = pre.neighbours_are;
     }
 
@@ -119,54 +119,59 @@ along-fine_at-requires c =
 
 pub samples_agree-requires : goal.samples_agree-requires
 samples_agree-requires c =
-    let here = spot_in (n c) (side c) 0 (u c) (v c) (coarse_on (on c)) in
-    let there = spot_in (2 * n c) (side c) (2 * n c) (2 * u c) (2 * v c) (fine_on (on c)) in (
-      omega (arith, coarse_at c, here, c.requires.centre_is),
-      omega (arith, fine_at c, there, c.neighbour-fine.ensures.1),
+    let p = (goal.at.samples_agree-requires c).After-along-fine_at in
+    let here = spot_in (n p) (side p) 0 (u p) (v p) (coarse_on (on p)) in
+    let there = spot_in (2 * n p) (side p) (2 * n p) (2 * u p) (2 * v p) (fine_on (on p)) in (
+      omega (arith, coarse_at p, here, c.requires.centre_is),
+      omega (arith, fine_at p, there, c.neighbour-fine.ensures.1),
     )
 
 pub loop-v-preserved : goal.loop-v-preserved
 loop-v-preserved c =
     let p = (goal.at.loop-v-preserved c).After-along-fine_at in
     let turn = c.loop-v in
-    let here : spots p (u p) turn.v ≡ Passed =
+    let here : spots p (u p) turn.v ≡ Ok tt =
     rw (← agree_is p c.samples_agree.result c.samples_agree.ensures, c.if-not-samples_agree.false) in
     (omega arith, turn.invariant.1, not_yet (spots p (u p)) turn.v turn.invariant.2 here)
 
 pub loop-u-preserved : goal.loop-u-preserved
 loop-u-preserved c =
-    let n = c.args.header.block.subdivisions in
-    let rows = pair_row n c.args.header.threshold c.args.centre.now c.neighbour-fine.result.now c.search.side in
+    let n = c.args.lent.now.header.block.subdivisions in
+    let rows = pair_row n c.args.lent.now.header.threshold c.args.lent.now.centre.now c.neighbour-fine.result.now c.in-Some.side in
     let turn = c.loop-u in
     let inner = c.loop-v in
     let end : inner.v ≡ n + 1 = omega arith in
-    let here : rows turn.u (n + 1) ≡ Passed = rw end at inner.invariant.2 in
+    let here : rows turn.u (n + 1) ≡ Ok tt = rw end at inner.invariant.2 in
     (omega arith, inner.invariant.1, not_yet (λ u. rows u (n + 1)) turn.u turn.invariant.2 here)
 
 pub search-preserved : goal.search-preserved
 search-preserved c =
     let inner = c.loop-u in
-    let end : inner.u ≡ c.args.header.block.subdivisions + 1 = omega arith in (
+    let end : inner.u ≡ c.args.lent.now.header.block.subdivisions + 1 = omega arith in (
       inner.invariant.1,
-      go_on c.args.header.mask (face (star c.args.header c.args.centre.now c.args.neighbours.now)) c.search.invariant.1 c.search-test.true
-          (face_is (goal.at.search-preserved c).After-neighbour-fine (rw end at inner.invariant.2)) c.next_side-side-in-search.ensures,
+      gone_past c.args.lent.now.header.mask (face (lent_star c.args.lent.now)) c.search.invariant.1 c.in-Some.ensures.steps
+          (face_is (goal.at.search-preserved c).After-neighbour-fine (rw end at inner.invariant.2)),
     )
 
-pub returns-after-search : goal.returns-after-search
-returns-after-search c =
-    let faces = face (star c.args.header c.args.centre.now c.args.neighbours.now) in
-    let turn = c.search in
-    rw (turn.invariant.0, face_by_face, all_passed c.args.header.mask faces turn.invariant.1 c.search-test.false)
+pub returns-in-None : goal.returns-in-None
+returns-in-None c =
+    let faces = face (lent_star c.args.lent.now) in
+    rw (c.search.invariant.0, face_by_face, ended c.args.lent.now.header.mask faces c.search.invariant.1 c.in-None.ensures.steps)
 
 pub returns-then-not-samples_agree : goal.returns-then-not-samples_agree
 returns-then-not-samples_agree c =
     let at = goal.at.returns-then-not-samples_agree c in
     let p = at.After-along-fine_at in
-    let faces = face (star c.args.header c.args.centre.now c.args.neighbours.now) in
+    let faces = face (lent_star c.args.lent.now) in
     let at_spot = FaceMismatch (record { side = side p; u = u p; v = v p }) in
-    let spot_hit : spots p (u p) (v p) ≡ Refused at_spot =
+    let spot_hit : spots p (u p) (v p) ≡ Err at_spot =
     rw (← agree_is p c.samples_agree.result c.samples_agree.ensures, c.if-not-samples_agree.true) in
-    let row_hit : rows p (u p) (n p + 1) ≡ Refused at_spot =
+    let row_hit : rows p (u p) (n p + 1) ≡ Err at_spot =
     hit (spots p (u p)) (v p) (n p + 1) at_spot c.loop-v.invariant.2 spot_hit (omega arith) in
     let rows_hit = hit (λ u. rows p u (n p + 1)) (u p) (n p + 1) at_spot c.loop-u.invariant.2 row_hit (omega arith) in
-    rw (face_by_face, refused_at c.args.header.mask faces c.search.invariant.1 c.search-test.true (face_is at.After-neighbour-fine rows_hit))
+    let steps = c.in-Some.ensures.steps in
+    rw (
+      face_by_face,
+      refused_at c.args.lent.now.header.mask faces (given c.args.lent.now.header.mask faces c.search.invariant.1 steps) steps.0.1
+          (face_is at.After-neighbour-fine rows_hit),
+    )

@@ -11,6 +11,6 @@ unfolding extract judge_extraction
 returns c =
     let a = c.args in
     let s = star a.header a.centre.now a.neighbours.now in
-    let left = c.extract_numbered.ensures.leaves in
+    let left = c.mesh.ensures.leaves in
     let t = told (rw (spared_none s, none_told _ s (length a.store.now) (length a.vertices.now) (length a.triangles.now) 0) at left) in
-    record { answer = t.0; store = t.1.0; vertices = t.1.1.0; triangles = t.1.1.1.0; reads = t.1.1.1.1 }
+    rw c.report.ensures (record { answer = t.0; store = t.1.0; vertices = t.1.1.0; triangles = t.1.1.1.0; reads = t.1.1.1.1 })

@@ -13,5 +13,5 @@ returns c =
     let a = c.args in
     let s = star a.header a.centre.now a.neighbours.now in
     let none = none_told true s (length a.store.now) (length a.vertices.now) (length a.triangles.now) (length a.edges.now) in
-    let t = told_whole (rw (spared_none s, none) at c.extract_numbered.ensures.leaves) (rw none at c.extract_numbered.ensures.edges) in
-    record { answer = t.0; store = t.1.0; vertices = t.1.1.0; triangles = t.1.1.1.0; reads = t.1.1.1.1.0; edges = t.1.1.1.1.1 }
+    let t = told_whole (rw (spared_none s, none) at c.mesh.ensures.leaves) (rw none at c.mesh.ensures.edges) in
+    rw c.report.ensures (record { answer = t.0; store = t.1.0; vertices = t.1.1.0; triangles = t.1.1.1.0; reads = t.1.1.1.1.0; edges = t.1.1.1.1.1 })

@@ -1,50 +1,55 @@
 -- `judge` meets its contract: a refusal of the first judge that has one; each later judge may ask for what the earlier ones have passed.
-use mathlib.Core.Path.{◌≡◌}
-use Rattle.model.specs.declared.Verdict.TheVariants.{Passed, Refused}
-use Rattle.model.specs.Judging.{judge_faces, judge_star}
-use Rattle.model.specs.Star.{star, subdivisions}
+use Rattle.std.specs.Prelude.{◌≡◌, Ok}
+use Rattle.std.proofs.Common.{sym, ◌∙◌}
+use Rattle.laws.specs.Exits.{handed_on}
+use Rattle.model.specs.Judging.{judge_star}
+use Rattle.model.specs.Star.{lent_star}
 use Rattle.judge.specs.Passing.{star_shaped}
-use Rattle.layers.specs.Over.{summary_judged, held_there, numbers_there}
 use Rattle.algorithm.proofs.judge.Goals as goal
-use Rattle.algorithm.proofs.judge.Goals.{In_default, In_default-faces, In_default-told}
+use Rattle.algorithm.proofs.judge.Goals.{In_ok-judge_star}
 
-star_passed : (c : In_default) → judge_star (star c.args.header c.args.centre.now c.args.neighbours.now) ≡ Passed
-star_passed c = cc
+passed : (c : In_ok-judge_star) → judge_star (lent_star c.args.lent.now) ≡ Ok tt
+passed c = sym c.judge_star.ensures ∙ c.in_ok-judge_star.was
 
-faces_passed : (c : In_default-faces) → judge_faces (star c.args.header c.args.centre.now c.args.neighbours.now) ≡ Passed
-faces_passed c = cc
+pub returns-in_err-judge_star : goal.returns-in_err-judge_star
+returns-in_err-judge_star c = rw (handed_on _ _ c.from_residual.ensures.1, ← c.judge_star.ensures, c.in_err-judge_star.was)
 
-told-passed : (c : In_default-told) → summary_judged c.args.layered (subdivisions (star c.args.header c.args.centre.now c.args.neighbours.now)) (star c.args.header c.args.centre.now c.args.neighbours.now).centre c.args.summary.now ≡ Passed
-told-passed c = cc
+pub judge_faces-requires : goal.judge_faces-requires
+judge_faces-requires c = star_shaped _ (passed c)
 
-pub returns-in-Refused : goal.returns-in-Refused
-returns-in-Refused c =
-    let star-is : judge_star (star c.args.header c.args.centre.now c.args.neighbours.now) ≡ Refused c.in-Refused.refusal = cc in
-    rw star-is
+pub returns-in_err-judge_faces : goal.returns-in_err-judge_faces
+returns-in_err-judge_faces c =
+    rw (
+      handed_on _ _ c.from_residual-in_err-judge_faces.ensures.1,
+      passed (goal.at.returns-in_err-judge_faces c).In_ok-judge_star,
+      ← c.judge_faces.ensures,
+      c.in_err-judge_faces.was,
+    )
 
-pub judge_faces-faces-requires : goal.judge_faces-faces-requires
-judge_faces-faces-requires c = star_shaped _ (star_passed c)
+pub judge_told-requires : goal.judge_told-requires
+judge_told-requires c = passed (goal.at.judge_told-requires c).In_ok-judge_star
 
-pub returns-in-Refused-faces : goal.returns-in-Refused-faces
-returns-in-Refused-faces c =
-    let faces_are : judge_faces (star c.args.header c.args.centre.now c.args.neighbours.now) ≡ Refused c.in-Refused-faces.refusal = cc in
-    rw (star_passed (goal.at.returns-in-Refused-faces c).In_default, faces_are)
-
-pub judge_summary-told-requires : goal.judge_summary-told-requires
-judge_summary-told-requires c =
-    let s = (star c.args.header c.args.centre.now c.args.neighbours.now) in
-    let passed = star_passed (goal.at.judge_summary-told-requires c).In_default in
-    (held_there s passed, numbers_there s passed)
-
-pub returns-in-Refused-told : goal.returns-in-Refused-told
-returns-in-Refused-told c =
-    let s = (star c.args.header c.args.centre.now c.args.neighbours.now) in
-    let told_is : summary_judged c.args.layered (subdivisions s) s.centre c.args.summary.now ≡ Refused c.in-Refused-told.refusal = cc in
-    rw (star_passed (goal.at.returns-in-Refused-told c).In_default, faces_passed (goal.at.returns-in-Refused-told c).In_default-faces, told_is)
+pub returns-in_err-judge_told : goal.returns-in_err-judge_told
+returns-in_err-judge_told c =
+    rw (
+      handed_on _ _ c.from_residual-in_err-judge_told.ensures.1,
+      passed (goal.at.returns-in_err-judge_told c).In_ok-judge_star,
+      ← c.judge_faces.ensures,
+      c.in_ok-judge_faces.was,
+      ← c.judge_told.ensures,
+      c.in_err-judge_told.was,
+    )
 
 pub judge_store-requires : goal.judge_store-requires
-judge_store-requires c = (star_shaped _ (star_passed (goal.at.judge_store-requires c).In_default)).few
+judge_store-requires c = (star_shaped _ (passed (goal.at.judge_store-requires c).In_ok-judge_star)).few
 
 pub returns : goal.returns
 returns c =
-    rw (star_passed (goal.at.returns c).In_default, faces_passed (goal.at.returns c).In_default-faces, told-passed (goal.at.returns c).In_default-told) c.judge_store.ensures
+    rw (
+      passed (goal.at.returns c).In_ok-judge_star,
+      ← c.judge_faces.ensures,
+      c.in_ok-judge_faces.was,
+      ← c.judge_told.ensures,
+      c.in_ok-judge_told.was,
+    )
+    c.judge_store.ensures

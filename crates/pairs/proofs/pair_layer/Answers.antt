@@ -8,9 +8,7 @@ use Rattle.pairs.proofs.Pairing.{pairs_made}
 use Rattle.pairs.proofs.pair_layer.Goals as goal
 
 pub pair_with-requires : goal.pair_with-requires
-pair_with-requires c =
-    let p = c.requires in
-    record { samples_in_bounds = omega (arith, c.plane-samples.ensures.result_len, layer_fits _ p.subdivisions_le_most_subdivisions.0, p.x_le_subdivisions.1); pairs_len = p.x_le_subdivisions.1 }
+pair_with-requires c = omega (arith, c.plane-samples.ensures.result_len, layer_fits _ c.requires.subdivisions_le_most_subdivisions.0)
 
 pub returns : goal.returns
 returns c =

@@ -1,36 +1,26 @@
--- `pair_with` meets its contract. The loop's invariant: whatever pairs were begun with, the places passed hold their new ones.
+-- `pair_with` meets its contract: each place gets the pair that its sample makes of the one before.
+use Prim.Native.Nat.{ℕ, ◌+◌, ◌*◌, ◌/◌, ◌<◌}
+use mathlib.Core.Path.{◌≡◌, ◌∙◌}
 use native.Mathlib.Omega.{arith}
-use Prim.Native.Nat.{◌+◌, ◌-◌}
-use mathlib.Core.Path.{◌≡◌, refl, ◌∙◌}
-use lib.ListN.{length, length-set}
-use Rattle.cases.specs.Rows.{first_more}
-use Rattle.pairs.proofs.Pairing.{paired_still}
+use borrow.Author.Rules.{rules}
+use lib.ListN.{get_or, length, take, length-take}
+use lib.Ieee.{nan}
+use Rattle.std.proofs.Common.{get_or-take}
+use Rattle.model.specs.Formulas.{inside_bit}
+use Rattle.cases.specs.Pairs.{paired_with}
+use Rattle.cases.specs.Rows.{part_put}
 use Rattle.pairs.proofs.pair_with.Goals as goal
-
-pub loop-i-init : goal.loop-i-init
-loop-i-init c = (c.by_sixteens-i.ensures.0, (refl, λ before put. put))
-
-pub loop-i-preserved : goal.loop-i-preserved
-loop-i-preserved c =
-    let l = c.loop-i in
-    let a = c.args in
-    let here : l.i + 0 ≡ l.i = omega arith in (
-      omega arith,
-      (
-        rw length-set l.invariant.1.0,
-        λ before put.
-            let so_far = l.invariant.1.1 before put in
-            first_more _ l.i _ before l.pairs so_far (omega arith)
-            ((rw here at c.paired.ensures) ∙ paired_still a.threshold a.samples.now before l.pairs l.i l.i so_far (omega arith)),
-      ),
-    )
-
-pub shape_of-pairs : goal.shape_of-pairs
-shape_of-pairs c = omega arith
 
 pub returns : goal.returns
 returns c =
-    let l = c.loop-i in
-    let samples = c.args.samples.now in
-    let e : l.i ≡ length samples = omega arith in
-    rw e at (l.invariant.1.1 _ c.by_sixteens-i.ensures.1)
+    let a = c.args in
+    let n = length a.samples.now in
+    let part = c.renew.new.places in
+    let case : ℕ → ℕ = paired_with a.threshold a.samples.now a.pairs.now in
+    let long : length part ≡ n = c.renew.auto.places ∙ simp length-take (omega arith) in
+    let made : (k : ℕ) → k < n → get_or part k 0 ≡ case k =
+    λ k h.
+    let at = c.renew.ensures.new k (omega (arith, h, long, c.renew.auto.places)) in
+    let pair : get_or part k 0 ≡ get_or (take n a.pairs.now) k 0 / 2 + 2 * inside_bit a.threshold (get_or a.samples.now k nan) = search rules in
+    rw (get_or-take n a.pairs.now k 0 h) at pair in
+    part_put case 0 n a.pairs.now part (omega arith) long made

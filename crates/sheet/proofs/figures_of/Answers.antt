@@ -11,8 +11,9 @@ use Rattle.sheet.proofs.figures_of.Goals as goal
 pub returns : goal.returns
 unfolding figures_of vertex_figure triangle_figure
 returns c =
-    let s = star_of c.args.src.now in
-    let all = c.count_layers-regular.ensures.1 ∙ ap (λ (h : Header). planes_to s h.block.subdivisions) c.requires.1 ∙ all_planes s in (
+    let src = c.args.src.now in
+    let s = star_of src.bytes.now in
+    let all = c.count_layers-regular.ensures.1 ∙ ap (λ (h : Header). planes_to s h.block.subdivisions) src.told ∙ all_planes s in (
       record {
         inside = omega (arith, c.count_layers-regular.ensures.0.inside);
         x = omega (arith, c.count_layers-regular.ensures.0.x);

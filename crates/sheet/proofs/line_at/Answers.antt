@@ -1,10 +1,10 @@
 -- `line_at` meets its contract: what is left is cut before or after its length field, or begins with a whole record.
 use Prim.Native.Nat.{ℕ, ◌+◌, ◌-◌}
-use mathlib.Core.Path.{◌≡◌, sym, ap, ap₂, ◌∙◌}
+use mathlib.Core.Path.{◌≡◌, ap, ap₂, ◌∙◌}
 use mathlib.Core.List.{List}
 use native.Mathlib.Omega.{arith}
 use lib.ListN.{length, take, drop, length-drop}
-use lib.Seq.{length-take-le, take_all}
+use lib.Seq.{take_all}
 use Rattle.model.specs.Words.{word_at}
 use Rattle.sheet.specs.Definition.{line_of}
 use Rattle.sheet.specs.Runs.{whole_answer, cut_answer, cut_before, cut_within, is_whole_lem}
@@ -31,9 +31,6 @@ returns-then-rest-size c =
     let rest = drop c.args.at c.args.run.now in
     let cut = cut_answer rest (cut_within rest (omega (arith, c.if-rest-size.true, ap length (rest-is c.args.run.now c.args.at), word-is (goal.at.returns-then-rest-size c).After-word_at))) in
     (tt, (cut.0, omega (arith, cut.1, rest-long (goal.at.returns-then-rest-size c).Start)))
-
-pub slice_bounds-line_of-end : goal.slice_bounds-line_of-end
-slice_bounds-line_of-end c = sym (length-take-le _ _ c.if-rest-size.false)
 
 pub returns : goal.returns
 returns c =

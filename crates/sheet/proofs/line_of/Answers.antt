@@ -1,45 +1,29 @@
 -- `line_of` meets its contract: the record's judges refuse, then those of 8, or the record is counted.
-use mathlib.Core.Path.{◌≡◌, sym, ap, ◌∙◌}
-use Rattle.model.specs.declared.Verdict.TheVariants.{Passed, Refused}
+use Rattle.std.specs.Prelude.{◌≡◌, List, ℕ, Ok}
+use Rattle.std.proofs.Common.{sym, ap, ◌∙◌, subst}
+use Rattle.laws.specs.Exits.{handed_on}
+use Rattle.model.specs.Answers.{Verdict}
 use Rattle.model.specs.Judging.{judge_faces}
-use Rattle.model.specs.Record.{star_of, judge_record}
-use Rattle.record.specs.Accepted.{Accepted, accepted}
-use Rattle.sheet.specs.declared.Line.TheVariants as Line
-use Rattle.sheet.specs.Definition.{judge_line, line_of}
+use Rattle.model.specs.Record.{star_of}
+use Rattle.record.specs.declared.passed.Record.{Record}
+use Rattle.sheet.specs.Definition.{judge_line, line_by, line_of, figures_of}
 use Rattle.sheet.proofs.line_of.Goals as goal
-use Rattle.sheet.proofs.line_of.Goals.{In_default}
 
-passed : (c : In_default) → judge_record c.args.src.now ≡ Passed
-passed c = sym c.judge_record-whole.ensures ∙ c.in_default.is
-
-well : (c : In_default) → Accepted c.args.src.now
-well c = accepted c.args.src.now (passed c)
-
-pub returns-in-Refused : goal.returns-in-Refused
+-- the line of a record that passed is as its faces are judged
+passed : (r : Record) {bytes : List ℕ} {faces : Verdict} → r.bytes.now ≡ bytes → judge_faces (star_of r.bytes.now) ≡ faces
+    → line_by faces (figures_of (star_of r.bytes.now)) ≡ line_of bytes
 unfolding line_of judge_line
-returns-in-Refused c =
-    let bytes = c.args.src.now in
-    let whole : judge_record bytes ≡ Refused c.in-Refused.r = sym c.judge_record-whole.ensures ∙ c.in-Refused.is in
-    (tt, rw whole)
+passed r {bytes} {faces} e judged = subst (λ (l : List ℕ). line_by faces (figures_of (star_of r.bytes.now)) ≡ line_of l) e (rw (r.passed, judged))
 
-pub header_of-header-requires : goal.header_of-header-requires
-header_of-header-requires c = well c
-
-pub judge_faces-faces-requires : goal.judge_faces-faces-requires
-judge_faces-faces-requires c = (well (goal.at.judge_faces-faces-requires c).In_default, c.header_of-header.ensures)
-
-pub returns-in-Refused-faces : goal.returns-in-Refused-faces
+pub returns-in_err-whole : goal.returns-in_err-whole
 unfolding line_of judge_line
-returns-in-Refused-faces c =
-    let faces : judge_faces (star_of c.args.src.now) ≡ Refused c.in-Refused-faces.r = sym c.judge_faces-faces.ensures ∙ c.in-Refused-faces.is in
-    (tt, rw (passed (goal.at.returns-in-Refused-faces c).In_default, faces))
+returns-in_err-whole c = rw (handed_on _ _ c.from_residual.ensures.1) (tt, rw c.in_err-whole.ensures)
 
-pub figures_of-requires : goal.figures_of-requires
-figures_of-requires c =
-    (well (goal.at.figures_of-requires c).In_default, c.header_of-header.ensures)
+pub returns-in_err-judge_faces : goal.returns-in_err-judge_faces
+returns-in_err-judge_faces c =
+    rw (handed_on _ _ c.from_residual-in_err-judge_faces.ensures.1)
+    (tt, passed c.in_ok-whole.whole c.in_ok-whole.ensures (sym c.judge_faces.ensures ∙ c.in_err-judge_faces.was))
 
 pub returns : goal.returns
-unfolding line_of judge_line
 returns c =
-    let faces : judge_faces (star_of c.args.src.now) ≡ Passed = sym c.judge_faces-faces.ensures ∙ c.in_default-faces.is in
-    (c.figures_of.ensures.0, rw (passed (goal.at.returns c).In_default, faces) (ap Line.Counted c.figures_of.ensures.1))
+    (c.figures_of.ensures.0, ap Ok c.figures_of.ensures.1 ∙ passed c.in_ok-whole.whole c.in_ok-whole.ensures (sym c.judge_faces.ensures ∙ c.in_ok-judge_faces.was))

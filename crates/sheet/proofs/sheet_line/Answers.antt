@@ -1,7 +1,7 @@
 -- `sheet_line` meets its contract, case by case.
+use Rattle.std.specs.Prelude.{Ok, Some}
 use borrow.Author.Tests.{le-leb, lt-leb, lt-ltb, le-ltb}
 use lib.ListN.{length}
-use Rattle.sheet.specs.declared.SheetLine.TheVariants as SheetLine
 use Rattle.sheet.specs.Definition.{most_run, sheet_line}
 use Rattle.sheet.proofs.sheet_line.Goals as goal
 
@@ -22,4 +22,4 @@ unfolding sheet_line
 returns c =
     let run = c.args.run.now in
     rw (le-leb (length run) most_run c.if-run-gt-MOST_RUN.false, lt-ltb c.args.at (length run) c.if-at-run.false)
-    (λ i. SheetLine.Line (record { line = c.line_at.ensures.1.0 i; next = c.line_at.ensures.1.1 i }))
+    (λ i. Ok (Some (record { line = c.line_at.ensures.1.0 i; next = c.line_at.ensures.1.1 i })))

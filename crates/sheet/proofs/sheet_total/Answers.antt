@@ -1,14 +1,14 @@
 -- `sheet_total` meets its contract. The loop's invariant: the lines passed are added up, and what they add is small for each byte passed.
-use Prim.Native.Nat.{◌+◌, ◌-◌, ◌*◌, ◌≤◌, zero-le}
+use Rattle.std.specs.Prelude.{Ok}
+use Prim.Native.Nat.{◌+◌, ◌≤◌}
 use mathlib.Core.Path.{ap}
 use native.Mathlib.Omega.{arith}
 use borrow.Author.Tests.{le-leb, lt-leb}
 use lib.ListN.{length, drop, length-drop}
-use Rattle.sheet.specs.declared.SheetTotal.TheVariants as SheetTotal
 use Rattle.sheet.specs.Definition.{row_of, most_run, sheet_total}
 use Rattle.sheet.specs.Runs.{row_bytes}
-use Rattle.sheet.specs.Sizes.{most_layers, small_fits, small_start, small_more}
-use Rattle.sheet.specs.Totals.{total_start, total_more, total_end}
+use Rattle.sheet.specs.Sizes.{small_more}
+use Rattle.sheet.specs.Totals.{total_more, total_end}
 use Rattle.sheet.proofs.sheet_total.Goals as goal
 use Rattle.sheet.proofs.sheet_total.Goals.{In-loop-at}
 
@@ -27,17 +27,6 @@ unfolding sheet_total
 returns-then-run-gt-MOST_RUN c =
     let run = c.args.run.now in
     rw (lt-leb (length run) most_run c.if-run-gt-MOST_RUN.true)
-
-pub loop-at-init : goal.loop-at-init
-loop-at-init c = (zero-le, (small_start, total_start c.args.run.now))
-
-pub line_at-found-requires : goal.line_at-found-requires
-line_at-found-requires c = (c.loop-at-test.true, c.if-run-gt-MOST_RUN.false)
-
-pub with_line-sum-requires : goal.with_line-sum-requires
-with_line-sum-requires c =
-    small_fits (most_layers * (c.loop-at.at + (length (row_of (drop c.loop-at.at c.args.run.now)).bytes))) (omega (arith, ends-in (goal.at.with_line-sum-requires c).In-loop-at, c.if-run-gt-MOST_RUN.false))
-    (small_more c.loop-at.at (length (row_of (drop c.loop-at.at c.args.run.now)).bytes) c.line_at-found.result.line (some (goal.at.with_line-sum-requires c).In-loop-at) c.loop-at.invariant.1.0 c.line_at-found.ensures.0)
 
 pub loop-at-smaller : goal.loop-at-smaller
 loop-at-smaller c =
@@ -59,4 +48,4 @@ returns c =
     let l = c.loop-at in
     let run = c.args.run.now in
     rw (le-leb (length run) most_run c.if-run-gt-MOST_RUN.false)
-    (ap SheetTotal.Total (total_end run l.at l.sum (omega (arith, c.loop-at-test.false, l.invariant.0)) l.invariant.1.1))
+    (ap Ok (total_end run l.at l.sum (omega (arith, c.loop-at-test.false, l.invariant.0)) l.invariant.1.1))

@@ -8,6 +8,6 @@ pub returns : goal.returns
 returns c =
     let left = c.cut_block.ensures in
     λ i. record {
-      answer = (c.as_samples_cut.ensures ∙ ap (λ (o : CutOutcome). as_samples_cut o.answer) left) i;
+      answer = (c.from.ensures ∙ ap (λ (o : CutOutcome). as_samples_cut o.answer) left) i;
       samples = (left i).samples;
     }

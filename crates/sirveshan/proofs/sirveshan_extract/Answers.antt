@@ -7,7 +7,7 @@ use Rattle.sirveshan.proofs.sirveshan_extract.Goals as goal
 pub returns : goal.returns
 returns c =
     λ i. record {
-      answer = (c.as_extracted.ensures ∙ ap₂ as_extracted c.extract.ensures.answer c.extract.ensures.reads) i;
+      answer = (c.from.ensures ∙ ap₂ as_extracted c.extract.ensures.answer c.extract.ensures.reads) i;
       store = c.extract.ensures.store i;
       vertices = c.extract.ensures.vertices i;
       triangles = c.extract.ensures.triangles i;

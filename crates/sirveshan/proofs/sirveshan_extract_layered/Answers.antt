@@ -7,7 +7,7 @@ use Rattle.sirveshan.proofs.sirveshan_extract_layered.Goals as goal
 pub returns : goal.returns
 returns c =
     λ i. record {
-      answer = (c.as_extracted.ensures ∙ ap₂ as_extracted c.extract_layered.ensures.answer c.extract_layered.ensures.reads) i;
+      answer = (c.from.ensures ∙ ap₂ as_extracted c.extract_layered.ensures.answer c.extract_layered.ensures.reads) i;
       store = c.extract_layered.ensures.store i;
       vertices = c.extract_layered.ensures.vertices i;
       triangles = c.extract_layered.ensures.triangles i;

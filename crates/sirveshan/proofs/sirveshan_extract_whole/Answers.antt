@@ -6,7 +6,7 @@ use Rattle.sirveshan.proofs.sirveshan_extract_whole.Goals as goal
 pub returns : goal.returns
 returns c =
     λ i. record {
-      answer = (c.as_extracted.ensures ∙ ap₂ as_extracted c.extract_whole.ensures.answer c.extract_whole.ensures.reads) i;
+      answer = (c.from.ensures ∙ ap₂ as_extracted c.extract_whole.ensures.answer c.extract_whole.ensures.reads) i;
       store = c.extract_whole.ensures.store i;
       vertices = c.extract_whole.ensures.vertices i;
       triangles = c.extract_whole.ensures.triangles i;

@@ -8,6 +8,6 @@ pub returns : goal.returns
 returns c =
     let left = c.read_record.ensures in
     λ i. record {
-      answer = (c.as_header_read.ensures ∙ ap (λ (o : ReadOutcome). as_header_read o.answer) left) i;
+      answer = (c.from.ensures ∙ ap (λ (o : ReadOutcome). as_header_read o.answer) left) i;
       samples = (left i).samples;
     }

@@ -8,6 +8,6 @@ pub returns : goal.returns
 returns c =
     let left = c.read_stl.ensures in
     λ i. record {
-      answer = (c.as_triangles_read.ensures ∙ ap (λ (o : ReadOutcome). as_triangles_read o.answer) left) i;
+      answer = (c.from.ensures ∙ ap (λ (o : ReadOutcome). as_triangles_read o.answer) left) i;
       positions = (left i).positions;
     }

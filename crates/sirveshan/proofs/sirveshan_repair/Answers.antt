@@ -8,7 +8,7 @@ pub returns : goal.returns
 returns c =
     let left = c.repair.ensures in
     λ i. record {
-      answer = (c.as_mended.ensures ∙ ap (λ (o : RepairOutcome). as_mended o.answer) left) i;
+      answer = (c.from.ensures ∙ ap (λ (o : RepairOutcome). as_mended o.answer) left) i;
       centre = (left i).left.centre;
       neighbours = (left i).left.neighbours;
       changes = (left i).changes;

@@ -9,4 +9,4 @@ pub returns : goal.returns
 returns c =
     let fits = c.ranges in
     let is = rw (to_z-of_z {w = w32} fits.x, to_z-of_z {w = w32} fits.y, to_z-of_z {w = w32} fits.z) at c.read_point.ensures in
-    c.as_sampled.ensures ∙ ap as_sampled is
+    c.from.ensures ∙ ap as_sampled is

@@ -4,4 +4,4 @@ use Rattle.sirveshan.specs.Calls.{as_line_told}
 use Rattle.sirveshan.proofs.sirveshan_sheet_line.Goals as goal
 
 pub returns : goal.returns
-returns c = c.as_line_told.ensures ∙ ap as_line_told c.sheet_line.ensures
+returns c = c.from.ensures ∙ ap as_line_told c.sheet_line.ensures

@@ -4,4 +4,4 @@ use Rattle.sirveshan.specs.Calls.{as_total_told}
 use Rattle.sirveshan.proofs.sirveshan_sheet_total.Goals as goal
 
 pub returns : goal.returns
-returns c = c.as_total_told.ensures ∙ ap as_total_told c.sheet_total.ensures
+returns c = c.from.ensures ∙ ap as_total_told c.sheet_total.ensures

@@ -8,7 +8,7 @@ pub returns : goal.returns
 returns c =
     let left = c.weld.ensures in
     λ i. record {
-      answer = (c.as_welded_counts.ensures ∙ ap (λ (o : Outcome). as_welded_counts o.answer) left) i;
+      answer = (c.from.ensures ∙ ap (λ (o : Outcome). as_welded_counts o.answer) left) i;
       vertices = (left i).vertices;
       triangles = (left i).triangles;
       edges = (left i).edges;

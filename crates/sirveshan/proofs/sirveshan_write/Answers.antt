@@ -8,6 +8,6 @@ pub returns : goal.returns
 returns c =
     let left = c.write_record.ensures in
     λ i. record {
-      answer = (c.as_written.ensures ∙ ap (λ (o : WriteOutcome). as_written o.answer) left) i;
+      answer = (c.from.ensures ∙ ap (λ (o : WriteOutcome). as_written o.answer) left) i;
       bytes = (left i).bytes;
     }

@@ -4,10 +4,10 @@ use native.Mathlib.Omega.{arith}
 use Rattle.tables.specs.Arrays.{regular_codes_length, regular_codes_at}
 use Rattle.tables.proofs.regular_case_codes.Goals as goal
 
-pub row_of_codes-requires : goal.row_of_codes-requires
-row_of_codes-requires c =
+pub row_of-requires : goal.row_of-requires
+row_of-requires c =
     omega (arith, regular_codes_length c.args.codes.now c.requires.0, c.requires.1)
 
 pub returns : goal.returns
 returns c =
-    c.row_of_codes.ensures ∙ regular_codes_at c.args.codes.now c.args.case c.requires.0 c.requires.1
+    c.row_of.ensures ∙ regular_codes_at c.args.codes.now c.args.case c.requires.0 c.requires.1

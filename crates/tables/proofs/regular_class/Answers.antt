@@ -12,5 +12,5 @@ bounds-classes-case c =
 pub returns : goal.returns
 returns c =
     let e = regular_class_at c.args.classes.now c.args.case c.requires.0 in
-    let r = c.wide.ensures.0 ∙ e in
+    let r = c.from.ensures ∙ e in
     (r, omega (arith, regular_class_small c.args.case c.requires.1))

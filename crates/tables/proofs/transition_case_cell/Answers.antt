@@ -4,8 +4,8 @@ use Rattle.tables.specs.Arrays.{transition_data_length, transition_cell_at}
 use Rattle.tables.proofs.RulesCorners.{transition_class_small}
 use Rattle.tables.proofs.transition_case_cell.Goals as goal
 
-pub row_of_cells-requires : goal.row_of_cells-requires
-row_of_cells-requires c =
+pub row_of-requires : goal.row_of-requires
+row_of-requires c =
     omega (arith, transition_data_length c.args.cells.now c.requires.1, c.transition_class-row.ensures.1)
 
 pub returns : goal.returns

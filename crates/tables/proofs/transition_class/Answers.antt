@@ -13,5 +13,5 @@ bounds-classes-case c =
 pub returns : goal.returns
 returns c =
     let e = transition_class_at c.args.classes.now c.args.case c.requires.0 in
-    let r = c.wide.ensures.0 ∙ ap (λ (n : ℕ). n % 128) e in
+    let r = c.from.ensures ∙ ap (λ (n : ℕ). n % 128) e in
     (r, omega (arith, transition_class_small c.args.case c.requires.1))

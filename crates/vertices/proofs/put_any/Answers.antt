@@ -2,7 +2,7 @@
 use Prim.Native.Nat.{◌<◌}
 use mathlib.Core.Path.{sym, ◌∙◌}
 use native.Mathlib.Omega.{arith}
-use Rattle.model.specs.Star.{star}
+use Rattle.points.specs.Grids.{star_of}
 use Rattle.grid.specs.StorePlaces.{small_store}
 use Rattle.codes.specs.Kinds.{slots}
 use Rattle.vertices.specs.Uses.{index_within, one_made, code_stored, code_loose, code_taken, back_placed, back_within}
@@ -17,7 +17,7 @@ within m =
 pub put_vertex-requires : goal.put_vertex-requires
 put_vertex-requires c =
     let a = c.args in
-    omega (arith, c.requires.room, one_made (star c.args.header c.args.centre.now c.args.neighbours.now) a.at a.code _ c.makes-made.ensures c.if-made.true)
+    omega (arith, c.requires.room, one_made (star_of c.args.grid.now) a.at a.code _ c.makes-made.ensures c.if-made.true)
 
 pub overflow_cast-index : goal.overflow_cast-index
 overflow_cast-index c = omega (arith, c.requires.room)
@@ -31,7 +31,7 @@ place-own-requires c =
 
 pub offset_bounds-store-own : goal.offset_bounds-store-own
 offset_bounds-store-own c =
-    omega (arith, c.place-own.ensures.1, small_store c.args.header.block.subdivisions c.requires.ready.centred.parts.few)
+    omega (arith, c.place-own.ensures.1, small_store c.args.grid.now.lent.header.block.subdivisions c.requires.ready.centred.parts.few)
 
 pub bounds-store-own : goal.bounds-store-own
 bounds-store-own c = omega (arith, c.place-own.ensures.1, c.requires.store_len)
@@ -39,14 +39,14 @@ bounds-store-own c = omega (arith, c.place-own.ensures.1, c.requires.store_len)
 pub returns-then-new : goal.returns-then-new
 returns-then-new c =
     let a = c.args in
-    code_stored (star c.args.header c.args.centre.now c.args.neighbours.now) a.at a.code a.next _ a.vertices.now a.store.now _ c.makes-made.ensures
+    code_stored (star_of c.args.grid.now) a.at a.code a.next _ a.vertices.now a.store.now _ c.makes-made.ensures
     c.reuse_index-r.ensures.0 _ _ _ c.vertex.ensures c.put_vertex.ensures
     c.new_vertex-new.ensures c.if-made.true _ c.place-own.ensures.0 c.if-new.true
 
 pub returns-then-made : goal.returns-then-made
 returns-then-made c =
     let a = c.args in
-    code_loose (star c.args.header c.args.centre.now c.args.neighbours.now) a.at a.code a.next _ a.vertices.now a.store.now _ c.makes-made.ensures
+    code_loose (star_of c.args.grid.now) a.at a.code a.next _ a.vertices.now a.store.now _ c.makes-made.ensures
     c.reuse_index-r.ensures.0 _ _ _ c.vertex.ensures c.put_vertex.ensures
     c.new_vertex-new.ensures c.if-made.true c.if-new.false
 
@@ -58,7 +58,7 @@ place-shared-requires c =
     let a = c.args in (
       c.requires.ready.centred.parts.few,
       (
-        back_placed a.code a.header.block.subdivisions a.at _ c.back.ensures c.requires.ready.placed,
+        back_placed a.code a.grid.now.lent.header.block.subdivisions a.at _ c.back.ensures c.requires.ready.placed,
         back_within a.code _ a.at _ c.back.ensures (within (goal.at.place-shared-requires c).After-makes-made),
       ),
     )
@@ -66,6 +66,6 @@ place-shared-requires c =
 pub returns : goal.returns
 returns c =
     let a = c.args in
-    code_taken (star c.args.header c.args.centre.now c.args.neighbours.now) a.at a.code a.next _ a.vertices.now a.store.now _ c.makes-made.ensures
+    code_taken (star_of c.args.grid.now) a.at a.code a.next _ a.vertices.now a.store.now _ c.makes-made.ensures
     c.reuse_index-r.ensures.0 _ _ c.back.ensures c.place-shared.ensures.0
     c.if-made.false

@@ -2,7 +2,7 @@
 use Prim.Native.Nat.{◌<◌}
 use mathlib.Core.Path.{sym, ap, ◌∙◌}
 use native.Mathlib.Omega.{arith}
-use Rattle.model.specs.Star.{star}
+use Rattle.points.specs.Grids.{star_with}
 use Rattle.model.specs.Mesh.{regular_use}
 use Rattle.grid.specs.StorePlaces.{small_store}
 use Rattle.codes.specs.declared.CellIndex.TheVariants.{Regular}
@@ -27,7 +27,7 @@ pub regular_place-own-requires : goal.regular_place-own-requires
 regular_place-own-requires c =
     let placed = inner_placed c.requires.inner.0 in
     record {
-      few = c.requires.centred.parts.few;
+      few = c.args.grid.now.centred.parts.few;
       x_in = placed.x_in;
       y_in = placed.y_in;
       z_in = placed.z_in;
@@ -36,7 +36,7 @@ regular_place-own-requires c =
 
 pub offset_bounds-store-own : goal.offset_bounds-store-own
 offset_bounds-store-own c =
-    omega (arith, c.regular_place-own.ensures.1, small_store c.args.header.block.subdivisions c.requires.centred.parts.few)
+    omega (arith, c.regular_place-own.ensures.1, small_store c.args.grid.now.lent.header.block.subdivisions c.args.grid.now.centred.parts.few)
 
 pub bounds-store-own : goal.bounds-store-own
 bounds-store-own c = omega (arith, c.regular_place-own.ensures.1, c.requires.store_len)
@@ -51,7 +51,7 @@ returns-then-new_vertex c =
     let new = c.new_vertex.ensures in
     let taken = c.if-new_vertex.true in
     λ ns.
-    code_stored (star a.header a.centre.now ns) (Regular a.at) a.code a.next _ a.vertices.now a.store.now _
+    code_stored (star_with a.grid.now ns) (Regular a.at) a.code a.next _ a.vertices.now a.store.now _
     (new ∙ inner_makes c.requires.inner.0 a.code) c.reuse_index-r.ensures.0 _ _ _ (c.inner_vertex.ensures ns)
     c.put_vertex.ensures new taken _ c.regular_place-own.ensures.0 taken
 
@@ -62,9 +62,9 @@ regular_back-from-requires c =
 pub regular_place-shared-requires : goal.regular_place-shared-requires
 regular_place-shared-requires c =
     let a = c.args in
-    let placed = back_placed a.code a.header.block.subdivisions (Regular a.at) (Regular c.regular_back-from.result) (ap Regular c.regular_back-from.ensures) (inner_placed c.requires.inner.0) in
+    let placed = back_placed a.code a.grid.now.lent.header.block.subdivisions (Regular a.at) (Regular c.regular_back-from.result) (ap Regular c.regular_back-from.ensures) (inner_placed c.requires.inner.0) in
     record {
-      few = c.requires.centred.parts.few;
+      few = c.args.grid.now.centred.parts.few;
       x_in = placed.x_in;
       y_in = placed.y_in;
       z_in = placed.z_in;
@@ -75,6 +75,6 @@ pub returns : goal.returns
 returns c =
     let a = c.args in
     λ ns.
-    code_taken (star a.header a.centre.now ns) (Regular a.at) a.code a.next _ a.vertices.now a.store.now _
+    code_taken (star_with a.grid.now ns) (Regular a.at) a.code a.next _ a.vertices.now a.store.now _
     (c.new_vertex.ensures ∙ inner_makes c.requires.inner.0 a.code) c.reuse_index-r.ensures.0 _ (Regular c.regular_back-from.result) (ap Regular c.regular_back-from.ensures)
     c.regular_place-shared.ensures.0 c.if-new_vertex.false

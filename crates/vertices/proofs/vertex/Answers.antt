@@ -5,7 +5,7 @@ use Rattle.vertices.proofs.vertex.Goals as goal
 
 pub regular_vertex-requires : goal.regular_vertex-requires
 regular_vertex-requires c =
-    record { centred = c.requires.ready.centred; in_block = regular_in c.in-Regular.is c.requires.ready.placed }
+    record { in_block = regular_in c.in-Regular.is c.requires.ready.placed }
 
 pub transition_vertex-requires : goal.transition_vertex-requires
 transition_vertex-requires c =
@@ -14,7 +14,7 @@ transition_vertex-requires c =
 pub returns-in-Regular : goal.returns-in-Regular
 unfolding regular_use
 returns-in-Regular c =
-    rw c.in-Regular.is (c.regular_vertex.ensures c.args.neighbours.now)
+    rw c.in-Regular.is (c.regular_vertex.ensures c.args.grid.now.lent.neighbours.now)
 
 pub returns-in-Transition : goal.returns-in-Transition
 unfolding transition_use

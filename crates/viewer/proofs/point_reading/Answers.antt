@@ -1,14 +1,19 @@
--- `point_reading` meets its contract: each coordinate is kept one up. A signed argument reaches the callee as its bits, and `to_z-of_z` reads
--- the number back.
-use mir.Syntax.{w32}
-use mir.Facts.{to_z-of_z}
+-- `point_reading` meets its contract: each coordinate is kept one up.
+use Rattle.std.specs.Prelude.{◌≤◌}
+use Rattle.std.proofs.Common.{arith}
+use Rattle.model.specs.Limits.{most_subdivisions}
+use Rattle.record.specs.Accepted.{accepted}
 use Rattle.viewer.proofs.point_reading.Goals as goal
+use Rattle.viewer.proofs.point_reading.Goals.{Start}
 
-pub returns : goal.returns
-returns c =
-    let fits = c.ranges in
-    let n = c.subdivisions_of-n.ensures in
-    let x = rw (to_z-of_z {w = w32} fits.x, n) at c.one_up.ensures in
-    let y = rw (to_z-of_z {w = w32} fits.y, n) at c.one_up-2.ensures in
-    let z = rw (to_z-of_z {w = w32} fits.z, n) at c.one_up-3.ensures in
-    rw (← x, ← y, ← z) c.reading.ensures
+few : (c : Start) → c.args.src.now.header.block.subdivisions ≤ most_subdivisions
+few c = rw c.args.src.now.told (accepted _ c.args.src.now.passed).few
+
+pub one_up-requires : goal.one_up-requires
+one_up-requires c = omega (arith, few (goal.at.one_up-requires c).Start)
+
+pub one_up-requires-2 : goal.one_up-requires-2
+one_up-requires-2 c = omega (arith, few (goal.at.one_up-requires-2 c).Start)
+
+pub one_up-requires-3 : goal.one_up-requires-3
+one_up-requires-3 c = omega (arith, few (goal.at.one_up-requires-3 c).Start)

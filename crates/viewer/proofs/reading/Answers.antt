@@ -1,44 +1,44 @@
 -- `reading` meets its contract: a point that was sampled is read at its place, with its kind; farther out none is read.
-use Prim.Native.Nat.{ℕ, ◌<◌}
-use mathlib.Core.Path.{◌≡◌, ap, sym, ◌∙◌}
-use mathlib.Core.Bool.{true}
-use native.Mathlib.Omega.{arith}
-use lib.Ieee.{nan}
-use lib.ListN.{get_or}
-use Rattle.model.specs.declared.Reading.TheVariants.{Value, NeverSampled}
-use Rattle.model.specs.Samples.{sampled, sample_length, reading_at}
-use Rattle.model.specs.Record.{header_of, samples_of}
+use Rattle.std.specs.Prelude.{ℕ, ◌≤◌, ◌≡◌, true, Err, Ok, get_or}
+use Rattle.std.proofs.Common.{◌∙◌, ap, arith, sym}
+use Rattle.std.specs.Float.{nan}
+use Rattle.model.specs.Limits.{most_subdivisions}
+use Rattle.model.specs.Samples.{sampled}
+use Rattle.model.specs.Record.{samples_of}
 use Rattle.grid.specs.Kinds.{reading_value, reading_never}
+use Rattle.record.specs.Accepted.{accepted}
 use Rattle.viewer.proofs.reading.Goals as goal
-use Rattle.viewer.proofs.reading.Goals.{Then-is_sampled}
+use Rattle.viewer.proofs.reading.Goals.{Start, Then-is_sampled}
+
+few : (c : Start) → c.args.src.now.header.block.subdivisions ≤ most_subdivisions
+few c = rw c.args.src.now.told (accepted _ c.args.src.now.passed).few
 
 was_sampled : (c : Then-is_sampled) → let a = c.args in
-    sampled c.subdivisions_of-n.result a.x a.y a.z ≡ true
+    sampled a.src.now.header.block.subdivisions a.x a.y a.z ≡ true
 was_sampled c = sym c.is_sampled.ensures ∙ c.if-is_sampled.true
 
-pub place-requires : goal.place-requires
-place-requires c =
-    (omega (arith, c.requires.few, c.subdivisions_of-n.ensures), was_sampled c)
+pub is_sampled-requires : goal.is_sampled-requires
+is_sampled-requires c = omega (arith, few (goal.at.is_sampled-requires c).Start)
 
-pub sample_of-requires : goal.sample_of-requires
-sample_of-requires c =
-    let in_centre : c.place.result < sample_length (header_of c.args.src.now).block.subdivisions = rw c.subdivisions_of-n.ensures at c.place.ensures.1 in
-    (c.requires, omega arith)
+pub place-requires : goal.place-requires
+place-requires c = (omega (arith, few (goal.at.place-requires c).Start), was_sampled c)
+
+pub kind-requires : goal.kind-requires
+kind-requires c = omega (arith, few (goal.at.kind-requires c).Start)
+
+pub outside_count-requires : goal.outside_count-requires
+outside_count-requires c = omega (arith, few (goal.at.outside_count-requires c).Start)
 
 pub returns-then-is_sampled : goal.returns-then-is_sampled
 returns-then-is_sampled c =
     let a = c.args in
-    let samples = samples_of a.src.now in
-    let value = c.sample_of.ensures ∙ ap (λ (k : ℕ). get_or samples k nan) c.place.ensures.0 in
-    (λ i. Value (value i) (c.kind.ensures i))
-    ∙ sym (reading_value c.subdivisions_of-n.result a.x a.y a.z samples (was_sampled (goal.at.returns-then-is_sampled c).Then-is_sampled))
-    ∙ ap (λ (n : ℕ). reading_at n samples a.x a.y a.z) c.subdivisions_of-n.ensures
+    let samples = samples_of a.src.now.bytes.now in
+    let value = c.sample.ensures ∙ ap (λ (k : ℕ). get_or samples k nan) c.place.ensures.0 in
+    (λ i. Ok (value i, c.kind.ensures i))
+    ∙ sym (reading_value _ a.x a.y a.z samples (was_sampled (goal.at.returns-then-is_sampled c).Then-is_sampled))
 
-pub returns : goal.returns
-returns c =
+pub returns-else-is_sampled : goal.returns-else-is_sampled
+returns-else-is_sampled c =
     let a = c.args in
-    let samples = samples_of a.src.now in
-    ap NeverSampled c.outside_count.ensures
-    ∙ sym
-    (reading_never c.subdivisions_of-n.result a.x a.y a.z samples (sym c.is_sampled.ensures ∙ c.if-is_sampled.false))
-    ∙ ap (λ (n : ℕ). reading_at n samples a.x a.y a.z) c.subdivisions_of-n.ensures
+    ap Err c.outside_count.ensures
+    ∙ sym (reading_never _ a.x a.y a.z (samples_of a.src.now.bytes.now) (sym c.is_sampled.ensures ∙ c.if-is_sampled.false))

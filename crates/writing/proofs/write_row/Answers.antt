@@ -1,103 +1,73 @@
 -- `write_row` meets its contract: the mesh grows by each marked cell, and the others make nothing.
-use Prim.Native.Nat.{◌+◌, ◌-◌, ◌*◌, ◌<◌}
+use Prim.Native.Nat.{◌<◌}
 use mathlib.Core.Path.{◌∙◌}
-use native.Mathlib.Omega.{arith}
-use Rattle.model.specs.Limits.{most_subdivisions}
-use Rattle.model.specs.Star.{star}
-use Rattle.cases.specs.Sheets.{row_start}
-use Rattle.cases.proofs.RowPlaces.{row_fits}
+use Rattle.std.proofs.Math.Numerals.{add-one}
+use Rattle.points.specs.Grids.{subdivisions_of, star_of}
 use Rattle.cells.specs.SheetCells.{sheet_cell}
 use Rattle.walk.specs.Order.{row_to, row_before}
-use Rattle.writing.specs.Lengths.{same_then, fits_still}
-use Rattle.writing.proofs.Holding.{same_self, cell_ready, Ready, room_vertices, room_triangles, holds_more, holds_skip, ready_at, holds_on, row_done}
+use Rattle.walk.specs.Rows.{marked_of, end_of, within_of, row_still}
+use Rattle.writing.specs.Lengths.{fits_still}
+use Rattle.writing.proofs.Holding.{so_far_none, so_far_then, cell_ready, Ready, room_vertices, room_triangles, holds_more, holds_skip, put_keeps, ready_at, row_done}
 use Rattle.writing.proofs.write_row.Goals as goal
-use Rattle.writing.proofs.write_row.Goals.{In-loop-v, Start}
-
--- the row lies in the sheet
-fits : (b : Start) → let n = b.args.header.block.subdivisions in row_start n b.args.u + n < most_subdivisions * (most_subdivisions + 1)
-fits b = row_fits _ b.args.u b.requires.sheeted.0.few b.requires.u_lt_subdivisions.0
+use Rattle.writing.proofs.write_row.Goals.{In-Some}
 
 -- the cell of this turn is one of the row's
-below : (c : In-loop-v) → c.loop-v.v < c.args.header.block.subdivisions
-below c = omega (arith, c.loop-v-test.true, c.requires.shaped.0.some)
+below : (c : In-Some) → c.in-Some.v < subdivisions_of c.args.grid.now
+below c = within_of c.loop-v.invariant.0 c.in-Some.ensures.steps.0.1
 
-ready : (c : In-loop-v) → let l = c.loop-v in let s = (star c.args.header c.args.centre.now c.args.neighbours.now) in
-    Ready s (sheet_cell s c.args.sheet c.args.u l.v) (row_to (sheet_cell s c.args.sheet c.args.u) l.v (row_before s c.args.sheet c.args.u)) l.counts l.vertices l.triangles l.store l.edges
+-- and it can be written, since those before it that are passed over make nothing
+ready : (c : In-Some) → let l = c.loop-v in
+    let s = star_of c.args.grid.now in
+    let sheet = c.args.sheet.now.index in
+    let v = c.in-Some.v in
+    Ready s (sheet_cell s sheet c.args.u v) (row_to (sheet_cell s sheet c.args.u) v (row_before s sheet c.args.u)) l.counts
+    l.out.vertices.now l.out.triangles.now l.out.store.now l.out.edges.now
 ready c =
-    let l = c.loop-v in
-    ready_at (star c.args.header c.args.centre.now c.args.neighbours.now) c.args.sheet c.args.u c.requires.u_lt_subdivisions.0 l.v (below c) c.requires.sheet_in
-    (fits_still l.invariant.1.0 c.requires.fits) l.invariant.1.1
-
-pub overflow_mul-start : goal.overflow_mul-start
-overflow_mul-start c = omega (arith, fits (goal.at.overflow_mul-start c).Start)
-
-pub next_marked-v-requires : goal.next_marked-v-requires
-next_marked-v-requires c =
-    let sheet = c.requires.sheeted.0 in
-    record { n_le_most_subdivisions = (sheet.few, (omega (arith, fits (goal.at.next_marked-v-requires c).Start, sheet.marks_long), sheet.marks_long)); from_le_n = omega arith }
+    let s = star_of c.args.grid.now in
+    let before = c.loop-v.invariant in
+    let u_in = c.requires.u_lt_subdivisions.0 in
+    let next = marked_of before.0 c.in-Some.ensures.steps.0.0 in
+    ready_at s c.args.sheet.now.index c.args.u u_in c.in-Some.v (below c) c.requires.sheet_in (fits_still before.1.kept c.requires.fits)
+    (holds_skip s c.args.sheet.now.index c.args.u u_in c.requires.sheeted.1 _ _ next before.1.holds)
 
 pub loop-v-init : goal.loop-v-init
 loop-v-init c =
-    let next = c.next_marked-v.ensures in
-    let row = c.requires.u_lt_subdivisions in (
-      next.within,
-      (
-        same_self,
-        holds_skip (star c.args.header c.args.centre.now c.args.neighbours.now) c.args.sheet c.args.u row.0 c.requires.sheeted.1 0 _ next row.1,
-      ),
-    )
-
-pub overflow_add-start-in-loop-v : goal.overflow_add-start-in-loop-v
-overflow_add-start-in-loop-v c = omega (arith, fits (goal.at.overflow_add-start-in-loop-v c).Start, below c)
-
-pub number_at-requires : goal.number_at-requires
-number_at-requires c = omega (arith, fits (goal.at.number_at-requires c).Start, below c, c.requires.sheeted.0.long)
+    let start = c.cut_cells-v-items.ensures in
+    rw (c.into_iter-v-iterator.ensures.into_iter_gives, start.from)
+    ((start.n, (start.marks, start.start)), so_far_none c.requires.u_lt_subdivisions.1)
 
 pub write_sheet_cell-counts-requires : goal.write_sheet_cell-counts-requires
 write_sheet_cell-counts-requires c =
-    let v = c.loop-v.v in
-    let v_in = below (goal.at.write_sheet_cell-counts-requires c).In-loop-v in
+    let v = c.in-Some.v in
+    let turn = (goal.at.write_sheet_cell-counts-requires c).In-Some in
+    let v_in = below turn in
     let u_in = c.requires.u_lt_subdivisions.0 in
-    let shaped = c.requires.shaped in
-    let r = ready (goal.at.write_sheet_cell-counts-requires c).In-loop-v in record { tables = c.requires.tables; ready = cell_ready (star c.args.header c.args.centre.now c.args.neighbours.now) c.args.fractions.now shaped.0 shaped.1 c.args.sheet c.requires.sheet_in c.args.u v u_in v_in; case_value = c.number_at.ensures ∙ c.requires.sheeted.1.numbers.case_at c.args.u v u_in v_in; store_len = r.fits.store_fits; room = room_vertices r; room_2 = (room_triangles r, r.holds.read_so_far) }
-
-pub overflow_add-v : goal.overflow_add-v
-overflow_add-v c =
-    omega (arith, below (goal.at.overflow_add-v c).In-loop-v, c.requires.sheeted.0.few)
-
-pub next_marked-v-requires-in-loop-v : goal.next_marked-v-requires-in-loop-v
-next_marked-v-requires-in-loop-v c =
-    let sheet = c.requires.sheeted.0 in
-    record { n_le_most_subdivisions = (sheet.few, (omega (arith, fits (goal.at.next_marked-v-requires-in-loop-v c).Start, sheet.marks_long), sheet.marks_long)); from_le_n = omega (arith, below (goal.at.next_marked-v-requires-in-loop-v c).In-loop-v) }
-
-pub loop-v-smaller : goal.loop-v-smaller
-loop-v-smaller c = omega (arith, c.next_marked-v-in-loop-v.ensures.ordered, below (goal.at.loop-v-smaller c).In-loop-v)
+    let grid = c.args.grid.now in
+    let r = ready turn in
+    record {
+      tables = c.requires.tables;
+      ready = cell_ready (star_of grid) grid.fractions c.requires.shaped grid.centred c.args.sheet.now.index c.requires.sheet_in c.args.u v u_in v_in;
+      case_value = c.number_at.ensures ∙ c.requires.sheeted.1.numbers.case_at c.args.u v u_in v_in;
+      store_len = r.fits.store_fits;
+      room = room_vertices r;
+      room_2 = (room_triangles r, r.holds.read_so_far);
+    }
 
 pub loop-v-preserved : goal.loop-v-preserved
 loop-v-preserved c =
-    let l = c.loop-v in
-    let next = c.next_marked-v-in-loop-v.ensures in (
-      next.within,
-      (
-        same_then l.invariant.1.0
-            record { vertices_same = omega (arith, c.write_sheet_cell-counts.auto); triangles_same = omega (arith, c.write_sheet_cell-counts.auto); store_same = omega (arith, c.write_sheet_cell-counts.auto); edges_same = omega (arith, c.write_sheet_cell-counts.auto) },
-        holds_on (star c.args.header c.args.centre.now c.args.neighbours.now) c.args.sheet c.args.u c.requires.u_lt_subdivisions.0 c.requires.sheeted.1 l.v _ next (holds_more (ready (goal.at.loop-v-preserved c).In-loop-v) _ _ _ _ _ c.write_sheet_cell-counts.ensures.cell_put c.write_sheet_cell-counts.ensures.edges),
-      ),
+    let before = c.loop-v.invariant in
+    let steps = c.in-Some.ensures.steps in
+    let put = c.write_sheet_cell-counts.ensures in (
+      row_still before.0 steps.1.1,
+      rw (steps.1.0, add-one)
+          (so_far_then before.1 put.same (put_keeps _ _ _ put.cell_put put.edges)
+          (holds_more (ready (goal.at.loop-v-preserved c).In-Some) _ _ _ _ _ put.cell_put put.edges)),
     )
-
-pub shape_of-store : goal.shape_of-store
-shape_of-store c = c.loop-v.invariant.1.0.store_same
-
-pub shape_of-vertices : goal.shape_of-vertices
-shape_of-vertices c = c.loop-v.invariant.1.0.vertices_same
-
-pub shape_of-triangles : goal.shape_of-triangles
-shape_of-triangles c = c.loop-v.invariant.1.0.triangles_same
-
-pub shape_of-edges : goal.shape_of-edges
-shape_of-edges c = c.loop-v.invariant.1.0.edges_same
 
 pub returns : goal.returns
 returns c =
-    let l = c.loop-v in
-    rw (row_done (star c.args.header c.args.centre.now c.args.neighbours.now) c.args.sheet c.args.u l.v (omega arith)) at l.invariant.1.1
+    let s = star_of c.args.grid.now in
+    let before = c.loop-v.invariant in
+    let last = end_of before.0 c.in-None.ensures.steps.0 in
+    let holds = holds_skip s c.args.sheet.now.index c.args.u c.requires.u_lt_subdivisions.0 c.requires.sheeted.1 _ _ last before.1.holds in
+    record { holds = rw row_done at holds; kept = before.1.kept; same = before.1.same }

@@ -1,56 +1,36 @@
 -- `write_sheet` meets its contract: the mesh grows by one row in each turn.
-use Prim.Native.Nat.{◌-◌}
 use mathlib.Core.Path.{◌≡◌}
 use native.Mathlib.Omega.{arith}
-use Rattle.model.specs.Star.{star}
+use Rattle.points.specs.Grids.{subdivisions_of, star_of}
 use Rattle.walk.specs.Walk.{sheet_after_lem}
-use Rattle.writing.specs.Lengths.{same_then, fits_still}
-use Rattle.writing.proofs.Holding.{same_self}
+use Rattle.writing.specs.Lengths.{fits_still}
+use Rattle.writing.proofs.Holding.{so_far_none, so_far_then}
 use Rattle.writing.proofs.write_sheet.Goals as goal
 
 pub loop-u-init : goal.loop-u-init
-loop-u-init c = (omega arith, (same_self, c.requires.holds))
+loop-u-init c = (omega arith, so_far_none c.requires.holds)
 
 pub write_row-counts-requires : goal.write_row-counts-requires
 write_row-counts-requires c =
-    let l = c.loop-u in
+    let so_far = c.loop-u.invariant.1 in
     let p = c.requires in
-    let room = p.fits in
-    record { tables = p.tables; shaped = p.shaped; sheeted = p.sheeted; sheet_in = p.sheet_in; fits = fits_still l.invariant.1.0 room; u_lt_subdivisions = (omega (arith, c.loop-u-test.true, p.shaped.0.some), l.invariant.1.1) }
-
-pub overflow_add-u : goal.overflow_add-u
-overflow_add-u c =
-    omega (arith, c.loop-u-test.true, c.requires.shaped.0.few)
-
-pub loop-u-smaller : goal.loop-u-smaller
-loop-u-smaller c = omega (arith, c.loop-u-test.true)
+    record {
+      tables = p.tables;
+      shaped = p.shaped;
+      sheeted = p.sheeted;
+      sheet_in = p.sheet_in;
+      fits = fits_still so_far.kept p.fits;
+      u_lt_subdivisions = (omega (arith, c.loop-u-test.true), so_far.holds);
+    }
 
 pub loop-u-preserved : goal.loop-u-preserved
-loop-u-preserved c = (
-  omega (arith, c.loop-u-test.true),
-  (
-    same_then c.loop-u.invariant.1.0
-        record { vertices_same = omega (arith, c.write_row-counts.auto); triangles_same = omega (arith, c.write_row-counts.auto); store_same = omega (arith, c.write_row-counts.auto); edges_same = omega (arith, c.write_row-counts.auto) },
-    c.write_row-counts.ensures,
-  ),
-)
-
-pub shape_of-store : goal.shape_of-store
-shape_of-store c = c.loop-u.invariant.1.0.store_same
-
-pub shape_of-vertices : goal.shape_of-vertices
-shape_of-vertices c = c.loop-u.invariant.1.0.vertices_same
-
-pub shape_of-triangles : goal.shape_of-triangles
-shape_of-triangles c = c.loop-u.invariant.1.0.triangles_same
-
-pub shape_of-edges : goal.shape_of-edges
-shape_of-edges c = c.loop-u.invariant.1.0.edges_same
+loop-u-preserved c =
+    let row = c.write_row-counts.ensures in
+    (omega (arith, c.loop-u-test.true), so_far_then c.loop-u.invariant.1 row.same row.kept row.holds)
 
 pub returns : goal.returns
 returns c =
-    let a = c.args in
     let l = c.loop-u in
-    let end : l.u ≡ a.header.block.subdivisions = omega arith in
-    let s = star a.header a.centre.now a.neighbours.now in
-    rw (end, sheet_after_lem s a.sheet c.requires.sheet_in) at l.invariant.1.1
+    let done = l.invariant.1 in
+    let end : l.u ≡ subdivisions_of c.args.grid.now = omega arith in
+    record { holds = rw (end, sheet_after_lem (star_of c.args.grid.now) c.args.sheet.now.index c.requires.sheet_in) at done.holds; kept = done.kept; same = done.same }

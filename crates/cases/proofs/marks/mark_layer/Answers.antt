@@ -1,29 +1,25 @@
--- `marks::mark_layer` meets its contract. The loop's invariant: the places passed hold their marks.
+-- `marks::mark_layer` meets its contract: the places that were lent come back with their marks.
+use Prim.Native.Nat.{◌+◌, ◌*◌, ◌≤◌}
+use mathlib.Core.Path.{◌≡◌, ◌∙◌}
+use native.Mathlib.Nat.{zero-add}
 use native.Mathlib.Omega.{arith}
-use Prim.Native.Nat.{◌+◌, ◌-◌, ◌*◌}
-use mathlib.Core.Path.{◌≡◌, refl}
-use lib.ListN.{length-set}
+use lib.ListN.{get_or, length, length-take}
+use Rattle.cases.specs.Marks.{all_regular, mark_of}
 use Rattle.cases.specs.RowPlaces.{rows_fit}
-use Rattle.cases.specs.Rows.{none_put, first_more}
+use Rattle.cases.specs.Rows.{first_more, part_put}
 use Rattle.cases.proofs.marks.mark_layer.Goals as goal
-
-pub overflow_mul-end : goal.overflow_mul-end
-overflow_mul-end c = omega (arith, rows_fit c.args.n c.requires.0)
-
-pub loop-i-init : goal.loop-i-init
-loop-i-init c =
-    ((refl, rows_fit c.args.n c.requires.0), (omega arith, (refl, none_put _ _ _)))
 
 pub loop-i-preserved : goal.loop-i-preserved
 loop-i-preserved c =
     let l = c.loop-i in
-    (l.invariant.0, (omega arith, (rw length-set l.invariant.1.1.0, first_more _ l.i _ _ l.marks l.invariant.1.1.1 (omega arith) c.mark.ensures)))
-
-pub shape_of-marks : goal.shape_of-marks
-shape_of-marks c = omega arith
+    first_more _ l.i _ _ l.place-items l.invariant (omega (arith, c.loop-i-test.true, l.auto.place-items)) c.mark.ensures
 
 pub returns : goal.returns
 returns c =
+    let a = c.args in
     let l = c.loop-i in
-    let e : l.i ≡ c.args.n * (c.args.n + 1) = omega arith in
-    rw e at l.invariant.1.1.1
+    let places = a.n * (a.n + 1) in
+    let fits : 0 + places ≤ length a.marks.now = omega (arith, rows_fit a.n c.requires.0) in
+    let long : length l.place-items ≡ places = l.auto.place-items ∙ simp length-take (omega arith) in
+    part_put (λ i. mark_of all_regular (get_or a.cases.now i 0)) 0 places a.marks.now l.place-items fits long
+    (λ k h. rw zero-add at (l.invariant.filled k (omega (arith, h, c.loop-i-test.false, long))))

@@ -11,7 +11,7 @@ use Rattle.cells.proofs.cell.count_cell.Goals as goal
 
 pub returns : goal.returns
 returns c =
-    let a = c.args in
+    let a = c.args.cell.now in
     let count : c.vertex_count-count.result ≡ vertices_of a.row.now = c.vertex_count-count.ensures in record {
       few = record { vertices = omega (arith, c.requires.1); triangles = omega (arith, c.requires.1) };
       adds = λ s turned.

@@ -1,7 +1,7 @@
 -- `grid::voxel_blocks::reading` meets its contract: a point that was sampled is read at its place, with its kind.
+use Rattle.std.specs.Prelude.{Err}
 use mathlib.Core.Path.{◌≡◌, ap, sym, ◌∙◌}
 use mathlib.Core.Bool.{true}
-use Rattle.model.specs.declared.Reading.TheVariants.{NeverSampled}
 use Rattle.model.specs.Samples.{sampled}
 use Rattle.grid.specs.Kinds.{reading_value, reading_never}
 use Rattle.grid.proofs.voxel_blocks.reading.Goals as goal
@@ -22,5 +22,5 @@ returns-then-is_sampled c =
 pub returns : goal.returns
 returns c =
     let a = c.args in
-    ap NeverSampled c.outside_count.ensures
+    ap Err c.outside_count.ensures
     ∙ sym (reading_never a.n a.x a.y a.z a.samples.now (sym c.is_sampled.ensures ∙ c.if-is_sampled.false))

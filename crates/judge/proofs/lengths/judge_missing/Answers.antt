@@ -1,16 +1,16 @@
 -- `judge::lengths::judge_missing` meets its contract. The invariant: the search has come to a named side, and every part below it is there.
-use Prim.Native.Nat.{◌+◌, ◌*◌, ◌-◌, ◌≤◌, ◌<◌}
+use Rattle.std.specs.Prelude.{Err, Ok}
+use Prim.Native.Nat.{◌+◌, ◌*◌, ◌≤◌, ◌<◌}
 use mathlib.Core.Path.{◌≡◌, sym}
 use borrow.Author.Tests.{le-leb, lt-leb}
 use native.Mathlib.Omega.{arith}
 use lib.Count.{ones}
 use Rattle.model.specs.declared.Refusal.TheVariants.{MissingNeighbour}
-use Rattle.model.specs.declared.Verdict.TheVariants.{Passed, Refused}
 use Rattle.model.specs.Sides.{named_below, neighbour_length}
 use Rattle.model.specs.Judging.{judge_missing}
 use Rattle.grid.specs.Counts.{most_samples}
 use Rattle.grid.specs.SideLaws.{named_below_lem}
-use Rattle.judge.specs.NamedSides.{start_at, go_on, all_passed, refused_at}
+use Rattle.judge.specs.NamedSides.{set_out, given, gone_past, ended, refused_at}
 use Rattle.judge.specs.Lengths.{part_there}
 use Rattle.judge.proofs.Bounds.{parts_small, named_few}
 use Rattle.judge.proofs.lengths.judge_missing.Goals as goal
@@ -19,13 +19,13 @@ use Rattle.judge.proofs.lengths.judge_missing.Goals.{After-count_below}
 -- a named side is one of those that the mask names
 counted : (c : After-count_below) → c.count_below.result + 1 ≤ ones c.args.mask
 counted c =
-    let turn = c.loop-side in
-    let inside = c.loop-side-test.true in
-    let below = named_below_lem c.args.mask turn.side c.requires.1 inside (turn.invariant.is_named inside) in
+    let side = c.in-Some.ensures.steps.0.1 in
+    let come = given c.args.mask (part_there c.args.n c.args.mask c.args.held) c.loop-side.invariant c.in-Some.ensures.steps in
+    let below = named_below_lem c.args.mask c.in-Some.side c.requires.1 side (come.is_named side) in
     omega arith
 
 pub loop-side-init : goal.loop-side-init
-loop-side-init c = start_at _ _ c.next_side-side.ensures
+loop-side-init c = set_out _ _ (cc) (cc)
 
 pub overflow_add-end : goal.overflow_add-end
 overflow_add-end c =
@@ -41,26 +41,27 @@ pub returns-then-held-end : goal.returns-then-held-end
 unfolding judge_missing
 returns-then-held-end c =
     let args = c.args in
-    let turn = c.loop-side in
-    let short : args.held < (named_below args.mask turn.side + 1) * neighbour_length args.n =
+    let side = c.in-Some.side in
+    let steps = c.in-Some.ensures.steps in
+    let there = part_there args.n args.mask args.held in
+    let short : args.held < (named_below args.mask side + 1) * neighbour_length args.n =
     rw (c.count_below.ensures, c.sample_length-length.ensures) at c.if-held-end.true in
-    let missing : part_there args.n args.mask args.held turn.side ≡ Refused (MissingNeighbour turn.side) =
-    rw (lt-leb ((named_below args.mask turn.side + 1) * neighbour_length args.n) args.held short) in
-    sym (refused_at args.mask (part_there args.n args.mask args.held) turn.invariant c.loop-side-test.true missing)
+    let missing : there side ≡ Err (MissingNeighbour side) =
+    rw (lt-leb ((named_below args.mask side + 1) * neighbour_length args.n) args.held short) in
+    sym (refused_at args.mask there (given args.mask there c.loop-side.invariant steps) steps.0.1 missing)
 
 pub loop-side-preserved : goal.loop-side-preserved
 loop-side-preserved c =
     let args = c.args in
-    let turn = c.loop-side in
-    let enough : (named_below args.mask turn.side + 1) * neighbour_length args.n ≤ args.held =
+    let side = c.in-Some.side in
+    let enough : (named_below args.mask side + 1) * neighbour_length args.n ≤ args.held =
     rw (c.count_below.ensures, c.sample_length-length.ensures) at c.if-held-end.false in
-    let there : part_there args.n args.mask args.held turn.side ≡ Passed =
-    rw (le-leb ((named_below args.mask turn.side + 1) * neighbour_length args.n) args.held enough) in
-    go_on args.mask (part_there args.n args.mask args.held) turn.invariant c.loop-side-test.true there
-    c.next_side-side-in-loop-side.ensures
+    let there : part_there args.n args.mask args.held side ≡ Ok tt =
+    rw (le-leb ((named_below args.mask side + 1) * neighbour_length args.n) args.held enough) in
+    gone_past args.mask (part_there args.n args.mask args.held) c.loop-side.invariant c.in-Some.ensures.steps there
 
 pub returns : goal.returns
 unfolding judge_missing
 returns c =
     let args = c.args in
-    sym (all_passed args.mask (part_there args.n args.mask args.held) c.loop-side.invariant c.loop-side-test.false)
+    sym (ended args.mask (part_there args.n args.mask args.held) c.loop-side.invariant c.in-None.ensures.steps)

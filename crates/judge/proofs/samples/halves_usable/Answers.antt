@@ -1,5 +1,5 @@
 -- `judge::samples::halves_usable` meets its contract. The invariant: the flag tells whether the samples before this place of each half can be used.
-use Prim.Native.Nat.{◌+◌, ◌-◌}
+use Prim.Native.Nat.{◌+◌}
 use mathlib.Core.Path.{◌≡◌, ◌∙◌}
 use native.Mathlib.Omega.{arith}
 use native.Mathlib.Numerals.{add-one}

@@ -1,8 +1,7 @@
 -- `judge::samples::halves_usable` meets its contract. The invariant: the flag tells whether the samples before this place of each half can be used.
-use Prim.Native.Nat.{◌≤◌, ◌-◌}
+use Prim.Native.Nat.{◌≤◌}
 use mathlib.Core.Path.{◌≡◌}
 use mathlib.Core.Bool.{◌&&◌}
-use Rattle.model.specs.Judging.{usable}
 use Rattle.judge.specs.Counted.{all_usable, usable_after}
 use Rattle.judge.proofs.samples.halves_usable.Given as goal
 

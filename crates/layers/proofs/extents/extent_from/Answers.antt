@@ -1,5 +1,5 @@
 -- `layers::extents::extent_from` meets its contract. The invariant: the two are the best of the samples passed.
-use Prim.Native.Nat.{ℕ, ◌-◌}
+use Prim.Native.Nat.{ℕ}
 use native.Mathlib.Nat.{add-zero}
 use native.Mathlib.Numerals.{add-one}
 use native.Mathlib.Omega.{arith}

@@ -1,5 +1,5 @@
 -- `layers::extents::extent_from` meets its contract. The invariant: the two are the best of the samples passed.
-use Prim.Native.Nat.{◌-◌, ◌≤◌}
+use Prim.Native.Nat.{◌≤◌}
 use mathlib.Core.Path.{◌≡◌}
 use Rattle.model.specs.Layers.{best_of, less, more}
 use Rattle.layers.specs.Held.{samples_from}

@@ -1,6 +1,6 @@
 -- `layers::judging::is_extent` meets its contract. The invariant: the flags tell of the samples so far whether none is less, none is more, and none equals
 -- either number.
-use Prim.Native.Nat.{ℕ, ◌+◌, ◌-◌, ◌<◌}
+use Prim.Native.Nat.{ℕ, ◌+◌, ◌<◌}
 use native.Mathlib.Numerals.{add-one}
 use native.Mathlib.Omega.{arith}
 use mathlib.Core.Path.{◌≡◌, refl, ap, ap₂, ◌∙◌}

@@ -1,6 +1,6 @@
 -- `layers::judging::is_extent` meets its contract. The invariant: the flags tell of the samples so far whether none is less, none is more, and none equals
 -- either number.
-use Prim.Native.Nat.{ℕ, ◌-◌, ◌≤◌}
+use Prim.Native.Nat.{ℕ, ◌≤◌}
 use mathlib.Core.Bool.{Bool}
 use lib.Ieee.{Float, ne}
 use Rattle.laws.specs.Below.{all_below}

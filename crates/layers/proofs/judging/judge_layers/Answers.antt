@@ -1,13 +1,13 @@
 -- `layers::judging::judge_layers` meets its contract. The invariant: each layer before this one stands.
-use Prim.Native.Nat.{ℕ, ◌-◌}
+use Rattle.std.specs.Prelude.{Ok}
+use Prim.Native.Nat.{ℕ}
 use native.Mathlib.Omega.{arith}
 use mathlib.Core.Path.{◌≡◌, refl, sym, ap, ◌∙◌}
 use mathlib.Core.Bool.{Bool, true, false}
 use mathlib.Core.List.{List}
 use lib.Ieee.{Float}
 use Rattle.model.specs.declared.Refusal.TheVariants.{LayerDiffers}
-use Rattle.model.specs.declared.Verdict.{Verdict}
-use Rattle.model.specs.declared.Verdict.TheVariants.{Passed}
+use Rattle.model.specs.Answers.{Verdict}
 use Rattle.model.specs.Refusals.{unless, first}
 use Rattle.model.specs.Layers.{layer_stands, judge_layers}
 use Rattle.judge.specs.First.{not_yet, hit}
@@ -17,7 +17,7 @@ use Rattle.layers.proofs.judging.judge_layers.Goals.{After-layer_stands}
 abbrev spot_of : ℕ → List Float → List Float → ℕ → Verdict
 spot_of n samples summary x = unless (layer_stands n samples summary x) (LayerDiffers x)
 
-so_far : (c : After-layer_stands) → first (spot_of c.args.n c.args.samples.now c.args.summary.now) c.loop-x.x ≡ Passed
+so_far : (c : After-layer_stands) → first (spot_of c.args.n c.args.samples.now c.args.summary.now) c.loop-x.x ≡ Ok tt
 so_far c = c.loop-x.invariant.1
 
 judged : (c : After-layer_stands) → (b : Bool) → c.layer_stands.result ≡ b → (spot_of c.args.n c.args.samples.now c.args.summary.now) c.loop-x.x ≡ unless b (LayerDiffers c.loop-x.x)

@@ -2,21 +2,30 @@
 use mathlib.Core.Path.{sym, ◌∙◌}
 use Rattle.model.specs.Formulas.{held}
 use Rattle.points.proofs.block.held.Goals as goal
-
-pub returns-then-held_by : goal.returns-then-held_by
-unfolding held
-returns-then-held_by c = rw (sym c.held_by.ensures ∙ c.if-held_by.true)
+use Rattle.points.proofs.block.held.Goals.{then-held_by, else-held_by}
 
 pub returns-then-held_by-2 : goal.returns-then-held_by-2
 unfolding held
 returns-then-held_by-2 c =
-    let x = sym c.held_by.ensures ∙ c.if-held_by.false in
-    let y = sym c.held_by-2.ensures ∙ c.if-held_by-2.true in
-    rw (x, y)
+    elim c.if-held_by.branch [
+      | then-held_by w ↦ c.if-held_by-2.true ∙ rw (sym c.held_by.ensures ∙ w.if-held_by.true)
+      | else-held_by w ↦
+          c.if-held_by-2.true
+          ∙ rw (
+            sym c.held_by.ensures ∙ w.if-held_by.false,
+            sym w.held_by-else-held_by.ensures ∙ sym w.value-is ∙ c.if-held_by-2.true,
+          )
+    ]
 
-pub returns : goal.returns
+pub returns-else-held_by-2 : goal.returns-else-held_by-2
 unfolding held
-returns c =
-    let x = sym c.held_by.ensures ∙ c.if-held_by.false in
-    let y = sym c.held_by-2.ensures ∙ c.if-held_by-2.false in
-    rw (x, y, c.held_by-3.ensures)
+returns-else-held_by-2 c =
+    elim c.if-held_by.branch [
+      | then-held_by w ↦ absurd (let z : ⊥ = cc in z)
+      | else-held_by w ↦
+          rw (
+            sym c.held_by.ensures ∙ w.if-held_by.false,
+            sym w.held_by-else-held_by.ensures ∙ sym w.value-is ∙ c.if-held_by-2.false,
+            c.held_by-else-held_by-2.ensures,
+          )
+    ]

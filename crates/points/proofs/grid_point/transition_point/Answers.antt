@@ -22,8 +22,8 @@ overflow_add-v c = let h = offset-in (goal.at.overflow_add-v c).In-Fine in omega
 pub fine_grid_point-requires : goal.fine_grid_point-requires
 fine_grid_point-requires c =
     let h = offset-in (goal.at.fine_grid_point-requires c).In-Fine in
-    let few = c.requires.centred.parts.few in
-    record { centred = c.requires.centred; fine_len = c.requires.bordered.fine_is; on_fine_face = record { few = few; side_is = c.requires.bordered.side_is; u_in = omega arith; v_in = omega arith } }
+    let few = c.args.grid.now.centred.parts.few in
+    record { fine_len = c.requires.bordered.fine_is; on_fine_face = record { few = few; side_is = c.requires.bordered.side_is; u_in = omega arith; v_in = omega arith } }
 
 pub overflow_add-cell : goal.overflow_add-cell
 overflow_add-cell c = let h = corner_in_lem (goal.at.overflow_add-cell c).In-Coarse in omega arith
@@ -34,7 +34,7 @@ overflow_add-cell-in-Coarse c = let h = corner_in_lem (goal.at.overflow_add-cell
 pub face_point-at-requires : goal.face_point-at-requires
 face_point-at-requires c =
     let h = corner_in_lem (goal.at.face_point-at-requires c).In-Coarse in
-    record { few = c.requires.centred.parts.few; side_is = c.requires.bordered.side_is; u_in = omega arith; v_in = omega arith }
+    record { few = c.args.grid.now.centred.parts.few; side_is = c.requires.bordered.side_is; u_in = omega arith; v_in = omega arith }
 
 pub returns-in-Fine : goal.returns-in-Fine
 unfolding transition_point

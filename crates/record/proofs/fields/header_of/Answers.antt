@@ -5,19 +5,19 @@ use Rattle.record.specs.Accepted.{measured}
 use Rattle.record.proofs.fields.header_of.Goals as goal
 
 pub float_at-requires : goal.float_at-requires
-float_at-requires c = (omega arith, measured _ c.requires 1 (omega arith))
+float_at-requires c = record { room = omega arith; number = measured _ c.requires 1 (omega arith) }
 
 pub float_at-requires-2 : goal.float_at-requires-2
-float_at-requires-2 c = (omega arith, measured _ c.requires 2 (omega arith))
+float_at-requires-2 c = record { room = omega arith; number = measured _ c.requires 2 (omega arith) }
 
 pub float_at-requires-3 : goal.float_at-requires-3
-float_at-requires-3 c = (omega arith, measured _ c.requires 3 (omega arith))
+float_at-requires-3 c = record { room = omega arith; number = measured _ c.requires 3 (omega arith) }
 
 pub float_at-requires-4 : goal.float_at-requires-4
-float_at-requires-4 c = (omega arith, measured _ c.requires 4 (omega arith))
+float_at-requires-4 c = record { room = omega arith; number = measured _ c.requires 4 (omega arith) }
 
 pub float_at-requires-5 : goal.float_at-requires-5
-float_at-requires-5 c = (omega arith, measured _ c.requires 0 (omega arith))
+float_at-requires-5 c = record { room = omega arith; number = measured _ c.requires 0 (omega arith) }
 
 pub returns : goal.returns
 unfolding header_of

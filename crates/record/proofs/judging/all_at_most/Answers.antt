@@ -1,25 +1,15 @@
--- `all_at_most` meets its contract. The loop's invariant: the flag tells it of the samples passed.
-use Prim.Native.Nat.{◌-◌}
-use mathlib.Core.Path.{◌≡◌}
-use native.Mathlib.Numerals.{add-one}
-use native.Mathlib.Omega.{arith}
+-- `all_at_most` meets its contract: the fold works out the test of each sample.
+use Rattle.std.specs.Prelude.{true, ◌&&◌}
+use Rattle.std.proofs.Common.{◌∙◌, arith, refl, rules}
+use Rattle.std.proofs.lemmas.Iterator.{YieldsList-from_range}
+use Rattle.std.proofs.lemmas.Iterator.Consumers.{fold_from_yields_List}
+use Rattle.words.specs.Folds.{fold_all}
+use Rattle.record.specs.Together.{bare_at_most}
 use Rattle.record.proofs.judging.all_at_most.Goals as goal
-
-pub sample_from-requires : goal.sample_from-requires
-sample_from-requires c = omega arith
-
-pub word_at-requires : goal.word_at-requires
-word_at-requires c = omega arith
-
-pub loop-k-smaller : goal.loop-k-smaller
-loop-k-smaller c = omega arith
-
-pub loop-k-preserved : goal.loop-k-preserved
-loop-k-preserved c =
-    let turn = c.loop-k in
-    (omega arith, rw (add-one, turn.invariant.1, c.word_at.ensures, c.sample_from.ensures))
 
 pub returns : goal.returns
 returns c =
-    let end : c.loop-k.k ≡ c.args.count = omega arith in
-    rw end at c.loop-k.invariant.1
+    let at_most = bare_at_most c.args.bytes.now c.args.most in
+    let whole = YieldsList-from_range 0 c.args.count c.args.count refl (omega arith) in
+    fold_from_yields_List _ (λ b k. b && at_most k) true c.fold.result c.fold.ensures.ran whole (λ a x b q k. search rules)
+    ∙ fold_all at_most c.args.count

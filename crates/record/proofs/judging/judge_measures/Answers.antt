@@ -1,11 +1,8 @@
 -- `judge_measures` meets its contract. The loop's invariant: no measure passed is refused.
-use Prim.Native.Nat.{ℕ, ◌-◌}
-use mathlib.Core.Path.{◌≡◌, sym}
-use mathlib.Core.List.{List}
-use native.Mathlib.Omega.{arith}
+use Rattle.std.specs.Prelude.{ℕ, ◌≡◌, List, Err, Ok}
+use Rattle.std.proofs.Common.{sym, arith}
 use Rattle.model.specs.declared.Refusal.TheVariants.{Measure}
-use Rattle.model.specs.declared.Verdict.{Verdict}
-use Rattle.model.specs.declared.Verdict.TheVariants.{Passed, Refused}
+use Rattle.model.specs.Answers.{Verdict}
 use Rattle.model.specs.Refusals.{unless}
 use Rattle.model.specs.Judging.{measure_usable, judge_measures}
 use Rattle.model.specs.Record.{header_of}
@@ -20,23 +17,18 @@ unfolding judge_measures
 returns-then-not-is_measure_usable c =
     let bytes = c.args.bytes.now in
     let which = c.loop-which.which in
-    let bad = c.if-not-is_measure_usable.true in
-    let here : judged bytes which ≡ Refused (Measure which) = rw (← c.is_measure_usable.ensures, bad) in
-    sym (hit (judged bytes) which 5 (Measure which) c.loop-which.invariant.1 here (omega arith))
-
-pub loop-which-smaller : goal.loop-which-smaller
-loop-which-smaller c = omega arith
+    let here : judged bytes which ≡ Err (Measure which) = rw (← c.is_measure_usable.ensures, c.if-not-is_measure_usable.true) in
+    sym (hit (judged bytes) which 5 (Measure which) c.loop-which.invariant here (omega arith))
 
 pub loop-which-preserved : goal.loop-which-preserved
 loop-which-preserved c =
     let bytes = c.args.bytes.now in
     let which = c.loop-which.which in
-    let good = c.if-not-is_measure_usable.false in
-    let here : judged bytes which ≡ Passed = rw (← c.is_measure_usable.ensures, good) in
-    (omega arith, not_yet (judged bytes) which c.loop-which.invariant.1 here)
+    let here : judged bytes which ≡ Ok tt = rw (← c.is_measure_usable.ensures, c.if-not-is_measure_usable.false) in
+    not_yet (judged bytes) which c.loop-which.invariant here
 
 pub returns : goal.returns
 unfolding judge_measures
 returns c =
     let all : c.loop-which.which ≡ 5 = omega arith in
-    sym (rw all at c.loop-which.invariant.1)
+    sym (rw all at c.loop-which.invariant)

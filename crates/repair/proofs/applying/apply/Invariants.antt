@@ -1,5 +1,5 @@
 -- `apply` meets its contract. The invariant: the changes passed are made.
-use Prim.Native.Nat.{◌-◌, ◌≤◌}
+use Prim.Native.Nat.{◌≤◌}
 use mathlib.Core.Path.{◌≡◌}
 use Rattle.laws.specs.Steps.{iterate}
 use Rattle.repair.specs.Definition.{delivery}

@@ -1,11 +1,7 @@
 -- `counted_points::crossings` meets its contract. The loop's invariant: what is found is the sum over the edges passed.
-use Prim.Native.Nat.{◌-◌, ◌≤◌}
-use mathlib.Core.Path.{◌≡◌}
+use Rattle.std.specs.Prelude.{◌≡◌, ◌≤◌, length}
 use Rattle.sheet.specs.Planes.{crossing_sum}
 use Rattle.sheet.proofs.counted_points.crossings.Given as goal
 
-abbrev pub invariant-loop-k : goal.invariant-loop-k
-invariant-loop-k l = (l.k ≤ l.count) × ((l.found ≡ crossing_sum l.threshold l.a l.at l.b l.to l.k) × (l.found ≤ l.k))
-
-abbrev pub decreases-loop-k : goal.decreases-loop-k
-decreases-loop-k l = l.count - l.k
+abbrev pub invariant-loop-from : goal.invariant-loop-from
+invariant-loop-from l = (l.found ≡ crossing_sum l.threshold l.a 0 l.b 0 (length l.yielded)) × (l.found ≤ length l.yielded)

@@ -1,6 +1,6 @@
 -- `planes::count_layers` meets its contract. The loop's invariant: the upper plane is at x, and what the planes up to it and the layers below it have is
 -- added up.
-use Prim.Native.Nat.{ℕ, ◌+◌, ◌-◌, ◌≤◌}
+use Prim.Native.Nat.{ℕ, ◌+◌}
 use mathlib.Core.Path.{◌≡◌}
 use mathlib.Core.List.{List}
 use lib.Ieee.{Float}
@@ -12,8 +12,7 @@ use Rattle.sheet.specs.Planes.{plane_places, planes_to}
 use Rattle.sheet.specs.Sizes.{Small}
 use Rattle.sheet.proofs.planes.count_layers.Given as goal
 
-pub record SoFar (src : List ℕ) (n : ℕ) (cases marks : List ℕ) (low high : List Float) (figures : Figures) (x : ℕ) : Type 0 where
-  pub within : x ≤ n
+pub record SoFar (src : List ℕ) (cases marks : List ℕ) (low high : List Float) (figures : Figures) (x : ℕ) : Type 0 where
   pub cases_long : length cases ≡ sheet_places
   pub marks_long : length marks ≡ sheet_places
   pub low-long : length low ≡ plane_places
@@ -23,7 +22,4 @@ pub record SoFar (src : List ℕ) (n : ℕ) (cases marks : List ℕ) (low high :
   pub added : figures ≡ planes_to (star_of src) x
 
 abbrev pub invariant-loop-x : goal.invariant-loop-x
-invariant-loop-x l = SoFar l.src l.n l.cases l.marks l.low l.high l.figures l.x
-
-abbrev pub decreases-loop-x : goal.decreases-loop-x
-decreases-loop-x l = l.n - l.x
+invariant-loop-x l = SoFar l.src.bytes.now l.cases l.marks l.low l.high l.figures l.x

@@ -1,5 +1,5 @@
 -- `planes::crossings_along` meets its contract. The loop's invariant: what is found is the sum over the lines passed.
-use Prim.Native.Nat.{ℕ, ◌+◌, ◌-◌, ◌*◌, ◌≤◌}
+use Prim.Native.Nat.{ℕ, ◌*◌, ◌≤◌}
 use mathlib.Core.Path.{◌≡◌}
 use Rattle.laws.specs.Steps.{total}
 use Rattle.model.specs.Star.{Star, subdivisions}
@@ -13,7 +13,4 @@ in_line s x y = total (crosses_z s x y) (subdivisions s)
 
 abbrev pub invariant-loop-y : goal.invariant-loop-y
 invariant-loop-y l =
-    (l.y ≤ l.n + 1) × ((l.found ≤ l.n * l.y) × ((s : Star) (x : ℕ) → Measured s l.n l.threshold → Plane s x l.plane → l.found ≡ total (in_line s x) l.y))
-
-abbrev pub decreases-loop-y : goal.decreases-loop-y
-decreases-loop-y l = l.n + 1 - l.y
+    (l.found ≤ l.n * l.y) × ((s : Star) (x : ℕ) → Measured s l.n l.threshold → Plane s x l.plane → l.found ≡ total (in_line s x) l.y)

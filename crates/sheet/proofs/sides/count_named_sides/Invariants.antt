@@ -1,20 +1,20 @@
 -- `sides::count_named_sides` meets its contract: what each named side adds is added up, and the others add nothing.
-use Prim.Native.Nat.{◌-◌, ◌*◌, ◌≤◌, ◌<◌}
-use mathlib.Core.Path.{◌≡◌}
-use mathlib.Core.Bool.{true}
-use lib.ListN.{length}
-use Rattle.model.specs.Limits.{side_count}
+use Rattle.std.specs.Prelude.{ℕ, ◌≡◌, ◌*◌, List, length}
+use Rattle.model.specs.declared.Counts.{Counts}
 use Rattle.model.specs.Record.{star_of}
-use Rattle.model.specs.Sides.{named}
+use Rattle.record.specs.declared.passed.Record.{Record}
 use Rattle.cases.specs.Sheets.{sheet_places}
 use Rattle.cells.specs.Puts.{Few}
 use Rattle.sheet.specs.Fine.{SideCounts}
 use Rattle.sheet.proofs.sides.count_named_sides.Given as goal
 
-abbrev pub invariant-loop-side : goal.invariant-loop-side
-invariant-loop-side l =
-    ((l.side ≤ side_count) × (l.side < side_count → named l.mask l.side ≡ true))
-    × (((length l.cases ≡ sheet_places) × (length l.marks ≡ sheet_places)) × (Few (sheet_places * l.side) l.counts × SideCounts (star_of l.src) l.side l.counts))
+-- the walk has gone past the sides below one
+pub record GonePast (src : Record) (cases marks : List ℕ) (counts : Counts) (mask from : ℕ) : Type 0 where
+  pub same : mask ≡ src.header.mask
+  pub cases_long : length cases ≡ sheet_places
+  pub marks_long : length marks ≡ sheet_places
+  pub few : Few (sheet_places * from) counts
+  pub added : SideCounts (star_of src.bytes.now) from counts
 
-abbrev pub decreases-loop-side : goal.decreases-loop-side
-decreases-loop-side l = side_count - l.side
+abbrev pub invariant-loop-side : goal.invariant-loop-side
+invariant-loop-side l = GonePast l.src l.cases l.marks l.counts l.side-iterator.mask l.side-iterator.from

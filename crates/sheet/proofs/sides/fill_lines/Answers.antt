@@ -1,79 +1,57 @@
 -- `sides::fill_lines` meets its contract. The loop's invariant: the lines passed stand one after another.
-use Prim.Native.Nat.{ℕ, ◌+◌, ◌-◌, ◌*◌, ◌≤◌, ◌<◌}
-use mathlib.Core.Path.{◌≡◌, refl, sym, ap, ap₂, ◌∙◌, subst}
-use mathlib.Core.List.{List}
-use native.Mathlib.Nat.{zero-add, mul-le-mul_left}
-use native.Mathlib.Omega.{arith}
-use lib.Ieee.{Float}
-use lib.ListN.{length}
-use lib.Seq.{sets, length-sets}
+use Rattle.std.specs.Prelude.{ℕ, ◌≡◌, ◌+◌, ◌-◌, ◌*◌, ◌≤◌, ◌<◌, List, Float, length}
+use Rattle.std.proofs.Common.{arith, sym, ap, ap₂, ◌∙◌, subst, zero-add, mul-le-mul_left}
+use Rattle.std.proofs.lemmas.List.Edits.{sets}
 use Rattle.laws.specs.Counting.{gather}
 use Rattle.laws.specs.Gathered.{sets_gather}
 use Rattle.laws.specs.Lists.{length_listed}
-use Rattle.model.specs.declared.Header.{Header}
+use Rattle.words.specs.Puts.{put_sets}
 use Rattle.model.specs.Record.{count_of}
 use Rattle.lines.specs.declared.Line.{Line}
-use Rattle.lines.specs.Lines.{OnLine, fine_line}
+use Rattle.lines.specs.Lines.{OnLine}
 use Rattle.sheet.specs.Fine.{line_samples, ThreeLined, three_lined}
+use Rattle.sheet.proofs.Whole.{n}
+use Rattle.sheet.proofs.sides.fill_lines.Invariants.{line}
 use Rattle.sheet.proofs.sides.fill_lines.Goals as goal
 use Rattle.sheet.proofs.sides.fill_lines.Goals.{In-loop-i, Start}
 
-abbrev line : List ℕ → Header → ℕ → ℕ → ℕ → List Float
-line src header side u i = line_samples src (fine_line header side (2 * u + i))
+lined : (e : Start) → ThreeLined e.args.src.now.bytes.now e.args.src.now.header e.args.side e.args.u
+lined e =
+    let src = e.args.src.now in
+    three_lined src.bytes.now e.args.side e.args.u src.header src.told e.requires.named e.requires.u_lt_subdivisions.0
 
-lined : (e : Start) → ThreeLined e.args.src.now e.args.header e.args.side e.args.u
-lined e = three_lined e.args.src.now e.args.side e.args.u e.args.header e.requires.accepted.1.0 e.requires.accepted.1.1 e.requires.u_lt_subdivisions.0
+abbrev width : In-loop-i → ℕ
+width c = 2 * n c.args.src.now + 1
 
 -- its line ends among the three
-ends-in : (c : In-loop-i) → (2 * c.args.header.block.subdivisions + 1) * c.loop-i.i + (2 * c.args.header.block.subdivisions + 1) ≤ length c.args.samples.now
+ends-in : (c : In-loop-i) → width c * c.loop-i.i + width c ≤ length c.loop-i.samples
 ends-in c =
-    let most : (2 * c.args.header.block.subdivisions + 1) * c.loop-i.i ≤ (2 * c.args.header.block.subdivisions + 1) * 2 = mul-le-mul_left (2 * c.args.header.block.subdivisions + 1) (omega (arith, c.loop-i-test.true)) in
-    omega (arith, most, c.requires.u_lt_subdivisions.1, c.requires.accepted.1.1.few)
+    let most : width c * c.loop-i.i ≤ width c * 2 = mul-le-mul_left (width c) (omega (arith, c.loop-i-test.true)) in
+    omega (arith, most, c.requires.u_lt_subdivisions.1, c.requires.named.few, c.loop-i.auto.samples)
 
-pub loop-i-init : goal.loop-i-init
-loop-i-init c = (omega arith, refl, refl)
-
-pub overflow_mul-u : goal.overflow_mul-u
-overflow_mul-u c = omega (arith, c.requires.u_lt_subdivisions.0, c.requires.accepted.1.1.few)
-
-pub overflow_add-u : goal.overflow_add-u
-overflow_add-u c = omega (arith, c.requires.u_lt_subdivisions.0, c.requires.accepted.1.1.few, c.loop-i-test.true)
-
-pub fine_line-line-requires : goal.fine_line-line-requires
-fine_line-line-requires c = (c.requires.accepted.1.1, omega (arith, c.requires.u_lt_subdivisions.0, c.loop-i-test.true))
-
-pub overflow_mul-width-in-loop-i : goal.overflow_mul-width-in-loop-i
-overflow_mul-width-in-loop-i c =
-    omega (arith, ends-in (goal.at.overflow_mul-width-in-loop-i c).In-loop-i, c.requires.u_lt_subdivisions.1)
-
-pub fill_line-requires : goal.fill_line-requires
-fill_line-requires c = record {
-  accepted = (
-    c.requires.accepted.0,
-    subst (λ (l : Line). (k : ℕ) → k < l.points → OnLine (count_of c.args.src.now) l k) (sym c.fine_line-line.ensures)
-        ((lined (goal.at.fill_line-requires c).Start).on_line c.loop-i.i c.loop-i-test.true),
-  );
-  points_in_bounds = rw c.fine_line-line.ensures (omega (arith, ends-in (goal.at.fill_line-requires c).In-loop-i, c.loop-i.invariant.1));
-}
+pub fill_line-requires-clause-on_line : goal.fill_line-requires-clause-on_line
+fill_line-requires-clause-on_line c =
+    subst (λ (l : Line). (k : ℕ) → k < l.points → OnLine (count_of c.args.src.now.bytes.now) l k) (sym c.fine_line-line.ensures)
+    ((lined (goal.at.fill_line-requires-clause-on_line c).Start).on_line c.loop-i.i c.loop-i-test.true)
 
 pub loop-i-preserved : goal.loop-i-preserved
 loop-i-preserved c =
-    let turn = c.loop-i in
-    let f = (line c.args.src.now c.args.header c.args.side c.args.u) in
-    let put : c.fill_line.new.samples ≡ sets c.args.samples.now 0 (gather f (turn.i + 1)) =
-    c.fill_line.ensures
-    ∙ ap₂ (λ (l : List Float) (g : Line). sets l ((2 * c.args.header.block.subdivisions + 1) * turn.i) (line_samples c.args.src.now g)) turn.invariant.2 c.fine_line-line.ensures
-    ∙ ap (λ (at : ℕ). sets (sets c.args.samples.now 0 (gather f turn.i)) at (f turn.i)) (sym (zero-add ((2 * c.args.header.block.subdivisions + 1) * turn.i)))
-    ∙ sets_gather f (2 * c.args.header.block.subdivisions + 1) (λ k. length_listed _ _) c.args.samples.now 0 turn.i in
-    (omega (arith, c.loop-i-test.true), ap length put ∙ length-sets c.args.samples.now 0 (gather f (turn.i + 1)), put)
-
-pub shape_of-samples : goal.shape_of-samples
-shape_of-samples c = c.loop-i.invariant.1
+    let src = c.args.src.now in
+    let before = c.args.samples.now in
+    let f = line src c.args.side c.args.u in
+    let i = c.loop-i.i in
+    let w = 2 * n src + 1 in
+    let written : c.fill_line.new.samples ≡ f i = c.fill_line.ensures ∙ ap (line_samples src.bytes.now) c.fine_line-line.ensures in
+    let wide : length c.fill_line.new.samples ≡ w = ap length written ∙ length_listed _ _ in
+    let long : w * i + w - w * i ≡ length c.fill_line.new.samples = omega (arith, wide) in
+    put_sets c.loop-i.samples c.fill_line.new.samples (w * i) _ long (omega (arith, ends-in (goal.at.loop-i-preserved c).In-loop-i))
+    ∙ ap₂ (λ (l new : List Float). sets l (w * i) new) c.loop-i.invariant written
+    ∙ ap (λ (at : ℕ). sets (sets before 0 (gather f i)) at (f i)) (sym (zero-add (w * i)))
+    ∙ sets_gather f w (λ k. length_listed _ _) before 0 i
 
 pub returns : goal.returns
 returns c =
-    let turn = c.loop-i in
-    let f = (line c.args.src.now c.args.header c.args.side c.args.u) in
-    let all : turn.i ≡ 3 = omega (arith, c.loop-i-test.false) in
-    (lined (goal.at.returns c).Start).filled c.args.samples.now turn.samples (omega (arith, c.requires.u_lt_subdivisions.1, c.requires.accepted.1.1.few))
-    (turn.invariant.2 ∙ ap (λ (k : ℕ). sets c.args.samples.now 0 (gather f k)) all)
+    let f = line c.args.src.now c.args.side c.args.u in
+    let all : c.loop-i.i ≡ 3 = omega arith in
+    (lined (goal.at.returns c).Start).filled c.args.samples.now c.loop-i.samples (omega (arith, c.requires.u_lt_subdivisions.1, c.requires.named.few))
+    (c.loop-i.invariant ∙ ap (λ (k : ℕ). sets c.args.samples.now 0 (gather f k)) all)

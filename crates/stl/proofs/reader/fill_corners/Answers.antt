@@ -1,7 +1,7 @@
 -- `fill_corners` meets its contract. The invariant: the floats passed stand from `at` on.
-use Prim.Native.Nat.{ℕ, ◌+◌, ◌-◌, ◌*◌}
+use Prim.Native.Nat.{ℕ, ◌+◌, ◌*◌}
 use native.Mathlib.Omega.{arith}
-use mathlib.Core.Path.{◌≡◌, refl, sym, ap, ap₂, ◌∙◌}
+use mathlib.Core.Path.{◌≡◌, sym, ap, ap₂, ◌∙◌}
 use mathlib.Core.List.{List}
 use lib.Ieee.{Float, binary32, of_bits}
 use lib.ListN.{length, set}
@@ -16,38 +16,11 @@ use Rattle.stl.proofs.reader.fill_corners.Goals as goal
 abbrev floatFrom : List ℕ → ℕ → ℕ → Float
 floatFrom bytes from k = little_float_at bytes (from + 4 * k)
 
-pub loop-k-init : goal.loop-k-init
-loop-k-init c = (omega arith, refl, refl)
-
-pub overflow_mul-k : goal.overflow_mul-k
-overflow_mul-k c = omega arith
-
-pub overflow_add-from : goal.overflow_add-from
-overflow_add-from c = omega arith
-
-pub word_at-requires : goal.word_at-requires
-word_at-requires c = omega arith
-
 pub float_known-requires : goal.float_known-requires
 float_known-requires c known =
     let start = c.args in
     let all = sym c.requires.1.1 ∙ known in
     rw c.word_at.ensures (number_at start.bytes.now start.from float_count c.loop-k.k all (omega arith))
-
-pub overflow_add-positions : goal.overflow_add-positions
-overflow_add-positions c = omega arith
-
-pub offset_bounds-positions-at : goal.offset_bounds-positions-at
-offset_bounds-positions-at c = omega arith
-
-pub bounds-positions-at : goal.bounds-positions-at
-bounds-positions-at c = omega arith
-
-pub overflow_step-k : goal.overflow_step-k
-overflow_step-k c = omega arith
-
-pub loop-k-smaller : goal.loop-k-smaller
-loop-k-smaller c = omega arith
 
 pub loop-k-preserved : goal.loop-k-preserved
 loop-k-preserved c =

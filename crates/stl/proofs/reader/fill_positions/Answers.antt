@@ -1,5 +1,5 @@
 -- `fill_positions` meets its contract. The invariant: the corners of the triangles passed stand in the first places.
-use Prim.Native.Nat.{ℕ, ◌-◌, ◌≤◌, ◌+◌, ◌*◌}
+use Prim.Native.Nat.{ℕ, ◌≤◌, ◌+◌, ◌*◌}
 use native.Mathlib.Omega.{arith}
 use native.Mathlib.Nat.{zero-add}
 use mathlib.Core.Path.{◌≡◌, refl, ap, ◌∙◌, sym, ap₂}
@@ -15,33 +15,15 @@ use Rattle.model.specs.Words.{little_float_at}
 use Rattle.stl.specs.Definition.{float_count, corners_in, positions_in, normal_length, count_in}
 use Rattle.stl.proofs.reader.fill_positions.Goals as goal
 
-pub loop-t-init : goal.loop-t-init
-loop-t-init c = (omega arith, refl, refl)
-
-pub file_length-from-requires : goal.file_length-from-requires
-file_length-from-requires c = omega arith
-
-pub overflow_add-from : goal.overflow_add-from
-overflow_add-from c = omega arith
-
 pub all_numbers-numbers-requires : goal.all_numbers-numbers-requires
 all_numbers-numbers-requires c =
     let pre = c.requires in
     omega (arith, c.file_length-from.ensures, pre)
 
-pub overflow_mul-t : goal.overflow_mul-t
-overflow_mul-t c = omega arith
-
 pub fill_corners-requires : goal.fill_corners-requires
 fill_corners-requires c =
     let pre = c.requires in
     (omega (arith, c.file_length-from.ensures, pre), (omega (arith, pre), c.all_numbers-numbers.ensures))
-
-pub overflow_step-t : goal.overflow_step-t
-overflow_step-t c = omega arith
-
-pub loop-t-smaller : goal.loop-t-smaller
-loop-t-smaller c = omega arith
 
 pub loop-t-preserved : goal.loop-t-preserved
 loop-t-preserved c =

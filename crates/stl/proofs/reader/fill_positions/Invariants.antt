@@ -1,5 +1,5 @@
 -- `fill_positions` meets its contract. The invariant: the corners of the triangles passed stand in the first places.
-use Prim.Native.Nat.{◌-◌, ◌≤◌}
+use Prim.Native.Nat.{◌≤◌}
 use mathlib.Core.Path.{◌≡◌}
 use lib.ListN.{length}
 use lib.Seq.{sets}

@@ -5,4 +5,4 @@ use Rattle.stl.proofs.writer.put_corners.Goals as goal
 pub returns : goal.returns
 returns c =
     let args = c.args in
-    rw (c.put_corner-3.ensures, c.put_corner-2.ensures, c.put_corner.ensures) (corners_put args.bytes.now args.at args.a args.b args.c)
+    rw (c.put_corner-3.ensures, c.put_corner-2.ensures, c.put_corner.ensures) (corners_put args.bytes.now args.at args.facet.a args.facet.b args.facet.c)

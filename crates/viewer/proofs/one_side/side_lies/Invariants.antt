@@ -1,8 +1,5 @@
 -- `one_side::side_lies` meets its contract. The loop's invariant: every line passed lies as wanted.
-use Prim.Native.Nat.{ℕ, ◌-◌, ◌≤◌}
-use mathlib.Core.Path.{◌≡◌}
-use mathlib.Core.Bool.{Bool, true}
-use mathlib.Core.List.{List}
+use Rattle.std.specs.Prelude.{ℕ, ◌≡◌, Bool, true, List}
 use Rattle.laws.specs.Below.{all_below}
 use Rattle.model.specs.declared.Header.{Header}
 use Rattle.model.specs.Record.{samples_of}
@@ -15,4 +12,4 @@ abbrev test : List ℕ → Header → Bool → ℕ → ℕ → Bool
 test src header wanted side u2 = line_as wanted header.threshold (samples_of src) (fine_line header side u2)
 
 abbrev pub invariant-loop-u2 : goal.invariant-loop-u2
-invariant-loop-u2 l = (l.u2 ≤ l.points) × (all_below (test l.src l.header l.wanted l.side) l.u2 ≡ true)
+invariant-loop-u2 l = all_below (test l.src.bytes.now l.src.header l.wanted l.side) l.u2 ≡ true

@@ -1,46 +1,41 @@
 -- `one_side::sides_lie` meets its contract. The loop's invariant: the samples of every named side passed lie as wanted.
-use Prim.Native.Nat.{◌-◌, ◌≤◌, ◌<◌}
-use mathlib.Core.Path.{sym, ◌∙◌}
-use native.Mathlib.Omega.{arith}
-use Rattle.model.specs.Limits.{side_count, most_mask}
+use Rattle.std.proofs.Common.{◌∙◌, sym}
 use Rattle.model.specs.Record.{star_of}
 use Rattle.model.specs.Blank.{side_as}
-use Rattle.viewer.specs.NamedSides.{start_at, go_on, all_hold, fails_at, sides_are}
+use Rattle.record.specs.Accepted.{accepted}
+use Rattle.viewer.specs.NamedSides.{set_out, given, gone_past, ended, fails_at, sides_are}
 use Rattle.viewer.proofs.one_side.sides_lie.Goals as goal
-use Rattle.viewer.proofs.one_side.sides_lie.Goals.{In-loop-side, Start}
 
-few_sides : (e : Start) → e.args.header.mask ≤ most_mask
-few_sides e = rw e.requires.1 e.requires.0.sides
-
-in-six : (c : In-loop-side) → c.loop-side.side < side_count
-in-six c = omega (arith, c.loop-side-test.true)
-
-pub next_side-side-requires : goal.next_side-side-requires
-next_side-side-requires c = (few_sides (goal.at.next_side-side-requires c).Start, omega arith)
+pub named_sides-side-items-requires : goal.named_sides-side-items-requires
+named_sides-side-items-requires c = let src = c.args.src.now in rw src.told (accepted _ src.passed).sides
 
 pub loop-side-init : goal.loop-side-init
-loop-side-init c = start_at _ _ c.next_side-side.ensures
+loop-side-init c = set_out _ _ (cc) (cc)
 
 pub side_lies-requires : goal.side_lies-requires
 side_lies-requires c =
-    let inside = in-six c in
-    record { accepted = c.requires; side_lt_side_count = (inside, c.loop-side.invariant.is_named inside) }
+    let src = c.args.src.now in
+    let steps = c.in-Some.ensures.steps in
+    let come = given src.header.mask (side_as c.args.wanted (star_of src.bytes.now)) c.loop-side.invariant steps in
+    (steps.0.1, come.is_named steps.0.1)
 
 pub returns-then-not-side_lies : goal.returns-then-not-side_lies
 returns-then-not-side_lies c =
-    let inv = c.loop-side.invariant in
+    let src = c.args.src.now in
+    let side = side_as c.args.wanted (star_of src.bytes.now) in
+    let steps = c.in-Some.ensures.steps in
     let fails = sym c.side_lies.ensures ∙ c.if-not-side_lies.true in
-    sym (sym (sides_are _ _ _ c.requires.1) ∙ fails_at c.args.header.mask (side_as c.args.wanted (star_of c.args.src.now)) inv (in-six (goal.at.returns-then-not-side_lies c).In-loop-side) fails)
-
-pub next_side-side-requires-in-loop-side : goal.next_side-side-requires-in-loop-side
-next_side-side-requires-in-loop-side c =
-    (few_sides (goal.at.next_side-side-requires-in-loop-side c).Start, omega (arith, in-six (goal.at.next_side-side-requires-in-loop-side c).In-loop-side))
+    sym (sym (sides_are _ _ _ src.told) ∙ fails_at src.header.mask side (given src.header.mask side c.loop-side.invariant steps) steps.0.1 fails)
 
 pub loop-side-preserved : goal.loop-side-preserved
 loop-side-preserved c =
+    let src = c.args.src.now in
     let holds = sym c.side_lies.ensures ∙ c.if-not-side_lies.false in
-    go_on c.args.header.mask (side_as c.args.wanted (star_of c.args.src.now)) c.loop-side.invariant (in-six (goal.at.loop-side-preserved c).In-loop-side) holds c.next_side-side-in-loop-side.ensures
+    gone_past src.header.mask (side_as c.args.wanted (star_of src.bytes.now)) c.loop-side.invariant c.in-Some.ensures.steps holds
 
 pub returns : goal.returns
 returns c =
-    sym (sym (sides_are _ _ _ c.requires.1) ∙ all_hold c.args.header.mask (side_as c.args.wanted (star_of c.args.src.now)) c.loop-side.invariant (omega (arith, c.loop-side-test.false)))
+    let src = c.args.src.now in
+    sym
+    (sym (sides_are _ _ _ src.told)
+    ∙ ended src.header.mask (side_as c.args.wanted (star_of src.bytes.now)) c.loop-side.invariant c.in-None.ensures.steps)

@@ -1,5 +1,5 @@
 -- `fill_steps` meets its contract. The invariant: the slots passed have what they add.
-use Prim.Native.Nat.{ℕ, ◌+◌, ◌-◌, ◌*◌, ◌≤◌, ◌<◌}
+use Prim.Native.Nat.{ℕ, ◌+◌, ◌*◌, ◌<◌}
 use mathlib.Core.Path.{◌≡◌}
 use lib.ListN.{length, get_or}
 use Rattle.volume.specs.Definition.{nearest}
@@ -11,4 +11,4 @@ stepAt n size first step slot = step * nearest size (first + slot_up n slot)
 
 abbrev pub invariant-loop-k : goal.invariant-loop-k
 invariant-loop-k l =
-    (l.k ≤ l.n + 3) × (length l.steps ≡ length l.initial.steps) × ((i : ℕ) → i < l.k → get_or l.steps i 0 ≡ stepAt l.n l.size l.first l.step i)
+    (length l.added-items ≡ length l.initial.added-items) × ((i : ℕ) → i < l.k → get_or l.added-items i 0 ≡ stepAt l.n l.size l.first l.step i)

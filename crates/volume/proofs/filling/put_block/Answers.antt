@@ -16,6 +16,6 @@ put_faces-requires-2 c =
 pub returns : goal.returns
 returns c =
     let args = c.args in
-    block_put args.n args.bytes.now args.xs.now args.ys.now args.zs.now args.samples.now c.put_squares.new.samples
+    block_put args.n args.bytes.now args.axes.now.xs args.axes.now.ys args.axes.now.zs args.samples.now c.put_squares.new.samples
     c.put_faces.new.samples c.put_faces-2.new.samples c.put_squares.ensures c.put_faces.ensures
     c.put_faces-2.ensures

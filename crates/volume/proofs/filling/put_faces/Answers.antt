@@ -1,5 +1,5 @@
 -- `put_faces` meets its contract. The invariant: the faces passed are put.
-use Prim.Native.Nat.{◌+◌, ◌-◌, ◌≤◌}
+use Prim.Native.Nat.{◌+◌, ◌≤◌}
 use native.Mathlib.Nat.{mul-le-mul}
 use native.Mathlib.Omega.{arith}
 use mathlib.Core.Path.{◌≡◌, refl, ◌∙◌}
@@ -18,8 +18,8 @@ loop-side-init c =
       no_faces args.n args.bytes.now args.xs.now args.across.now args.along.now args.square args.samples.now,
     )
 
-pub overflow_add-fixed : goal.overflow_add-fixed
-overflow_add-fixed c = omega arith
+pub overflow_add-m-in-loop-side : goal.overflow_add-m-in-loop-side
+overflow_add-m-in-loop-side c = omega arith
 
 pub offset_bounds-across-m : goal.offset_bounds-across-m
 offset_bounds-across-m c = omega arith
@@ -27,14 +27,14 @@ offset_bounds-across-m c = omega arith
 pub bounds-across-m : goal.bounds-across-m
 bounds-across-m c = omega (arith, c.requires.1.long_across)
 
-pub overflow_mul-m : goal.overflow_mul-m
-overflow_mul-m c = omega (arith, small c.args.n c.requires.0 (c.args.n + 1) (omega arith))
+pub overflow_mul-first : goal.overflow_mul-first
+overflow_mul-first c = omega (arith, small c.args.n c.requires.0 (c.args.n + 1) (omega arith))
 
-pub overflow_add-square : goal.overflow_add-square
-overflow_add-square c = omega (arith, c.requires.1.few)
+pub overflow_add-first : goal.overflow_add-first
+overflow_add-first c = omega (arith, c.requires.1.few)
 
-pub overflow_mul-m-in-loop-side : goal.overflow_mul-m-in-loop-side
-overflow_mul-m-in-loop-side c =
+pub overflow_mul-first-in-loop-side : goal.overflow_mul-first-in-loop-side
+overflow_mul-first-in-loop-side c =
     let n = c.args.n in
     let square = small n c.requires.0 (n + 1) (omega arith) in
     let number : c.args.square + c.loop-side.side ≤ most_subdivisions + 7 = omega (arith, c.requires) in

@@ -1,5 +1,5 @@
 -- `put_faces` meets its contract. The invariant: the faces passed are put.
-use Prim.Native.Nat.{◌-◌, ◌≤◌}
+use Prim.Native.Nat.{◌≤◌}
 use mathlib.Core.Path.{◌≡◌}
 use lib.ListN.{length}
 use Rattle.volume.specs.Putting.{FacesPut}

@@ -1,5 +1,5 @@
 -- `put_squares` meets its contract. The invariant: the lines passed are put, of each square.
-use Prim.Native.Nat.{◌+◌, ◌-◌, ◌*◌, ◌≤◌}
+use Prim.Native.Nat.{◌+◌, ◌*◌, ◌≤◌}
 use native.Mathlib.Nat.{mul-le-mul_left, mul-one}
 use native.Mathlib.Omega.{arith}
 use mathlib.Core.Path.{◌≡◌, refl, ◌∙◌}
@@ -12,22 +12,22 @@ overflow_add-m c = omega arith
 pub loop-y-init : goal.loop-y-init
 loop-y-init c =
     let args = c.args in
-    (omega arith, refl, no_squares args.n args.bytes.now args.xs.now args.ys.now args.zs.now args.samples.now)
+    (omega arith, refl, no_squares args.n args.bytes.now args.axes.now.xs args.axes.now.ys args.axes.now.zs args.samples.now)
 
-pub offset_bounds-ys-y : goal.offset_bounds-ys-y
-offset_bounds-ys-y c = omega arith
+pub offset_bounds-axes-y : goal.offset_bounds-axes-y
+offset_bounds-axes-y c = omega arith
 
-pub bounds-ys-y : goal.bounds-ys-y
-bounds-ys-y c = omega (arith, c.requires.1.long_y)
+pub bounds-axes-y : goal.bounds-axes-y
+bounds-axes-y c = omega (arith, c.requires.1.long_y)
 
-pub overflow_mul-m : goal.overflow_mul-m
-overflow_mul-m c = omega (arith, small c.args.n c.requires.0 c.loop-y.y (omega arith))
+pub overflow_mul-first : goal.overflow_mul-first
+overflow_mul-first c = omega (arith, small c.args.n c.requires.0 c.loop-y.y (omega arith))
 
-pub overflow_mul-m-in-loop-y : goal.overflow_mul-m-in-loop-y
-overflow_mul-m-in-loop-y c = omega (arith, small c.args.n c.requires.0 (c.args.n + 1) (omega arith))
+pub overflow_mul-first-in-loop-y : goal.overflow_mul-first-in-loop-y
+overflow_mul-first-in-loop-y c = omega (arith, small c.args.n c.requires.0 (c.args.n + 1) (omega arith))
 
-pub overflow_add-m-in-loop-y : goal.overflow_add-m-in-loop-y
-overflow_add-m-in-loop-y c = omega arith
+pub overflow_add-first : goal.overflow_add-first
+overflow_add-first c = omega arith
 
 pub put_line-requires : goal.put_line-requires
 put_line-requires c =
@@ -56,7 +56,7 @@ loop-y-preserved c =
     let args = c.args in (
       omega arith,
       c.put_line.auto.samples ∙ turn.invariant.1,
-      squares_more args.n args.bytes.now args.xs.now args.ys.now args.zs.now args.samples.now turn.y turn.samples
+      squares_more args.n args.bytes.now args.axes.now.xs args.axes.now.ys args.axes.now.zs args.samples.now turn.y turn.samples
           c.put_line.new.samples (omega arith) c.put_line.ensures turn.invariant.2,
     )
 

@@ -1,6 +1,6 @@
 -- `closing::move_down` meets its contract. The invariant: the first k numbers have gone down, and those that are left stand as they were.
 -- Assumes nothing.
-use Prim.Native.Nat.{◌+◌, ◌*◌, ◌-◌, ◌≤◌}
+use Prim.Native.Nat.{◌+◌, ◌*◌, ◌≤◌}
 use mathlib.Core.Path.{◌≡◌}
 use lib.Ieee.{nan}
 use lib.ListN.{length, get_or}

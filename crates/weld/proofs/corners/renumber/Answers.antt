@@ -1,5 +1,5 @@
--- `corners::renumber` meets its contract. The invariant: the corners before p are renumbered, and the others stand as they were. Assumes nothing.
-use Prim.Native.Nat.{ℕ, ◌+◌, ◌-◌, ◌<◌}
+-- `corners::renumber` meets its contract. The invariant: the corners before this one are renumbered, and the others stand as they were. Assumes nothing.
+use Prim.Native.Nat.{ℕ, ◌+◌, ◌<◌}
 use mathlib.Core.Path.{◌≡◌, ap, ◌∙◌}
 use mathlib.Core.List.{List, map}
 use native.Mathlib.Omega.{arith}
@@ -15,14 +15,14 @@ renumbered f triangles₀ triangles p corner l e is =
     let here : corner ≡ f (get_or triangles₀ p 0) = is ∙ ap f (ap (λ (t : List ℕ). get_or t p 0) e ∙ next_item f triangles₀ p 0 l) in
     rw (here, e) (one_more f triangles₀ p 0 l)
 
-pub loop-p-preserved : goal.loop-p-preserved
-loop-p-preserved c =
-    let l = c.loop-p in
-    (omega arith, (simp length-set l.invariant.1.0, renumbered (let a = c.args in corner_by a.table.now a.start a.end) c.args.triangles.now l.triangles l.p c.corner.result (omega arith) l.invariant.1.1 c.corner.ensures))
+pub loop-place-preserved : goal.loop-place-preserved
+loop-place-preserved c =
+    let l = c.loop-place in
+    (simp length-set (omega arith), (simp length-set l.invariant.1.0, renumbered (let a = c.args in corner_by a.table.now a.start a.end) c.args.triangles.now l.triangles l.place-index c.corner.result (omega arith) l.invariant.1.1 c.corner.ensures))
 
 pub returns : goal.returns
 returns c =
-    let l = c.loop-p in
+    let l = c.loop-place in
     let triangles = c.args.triangles.now in
-    let all : l.p ≡ length triangles = omega arith in
+    let all : l.place-index ≡ length triangles = omega arith in
     rw all at l.invariant.1.1 ∙ all_done (let a = c.args in corner_by a.table.now a.start a.end) triangles

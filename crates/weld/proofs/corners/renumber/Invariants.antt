@@ -1,5 +1,5 @@
--- `corners::renumber` meets its contract. The invariant: the corners before p are renumbered, and the others stand as they were. Assumes nothing.
-use Prim.Native.Nat.{◌-◌, ◌≤◌}
+-- `corners::renumber` meets its contract. The invariant: the corners before this one are renumbered, and the others stand as they were. Assumes nothing.
+use Prim.Native.Nat.{◌≤◌}
 use mathlib.Core.Path.{◌≡◌}
 use mathlib.Core.List.{map}
 use lib.ListN.{length, take}
@@ -7,5 +7,5 @@ use Rattle.laws.specs.Steps.{laid}
 use Rattle.weld.specs.Leaves.{corner_by}
 use Rattle.weld.proofs.corners.renumber.Given as goal
 
-abbrev pub invariant-loop-p : goal.invariant-loop-p
-invariant-loop-p l = (l.p ≤ l.p-end) × ((length l.triangles ≡ length l.initial.triangles) × (l.triangles ≡ laid (map (corner_by l.table l.start l.end) (take l.p l.initial.triangles)) l.initial.triangles))
+abbrev pub invariant-loop-place : goal.invariant-loop-place
+invariant-loop-place l = (l.place-index ≤ length l.triangles) × ((length l.triangles ≡ length l.initial.triangles) × (l.triangles ≡ laid (map (corner_by l.table l.start l.end) (take l.place-index l.initial.triangles)) l.initial.triangles))

@@ -1,8 +1,0 @@
--- A name is ASCII, and so it is text.
-use Rattle.filling.proofs.Values.{is_value}
-use Rattle.std.proofs.lemmas.Str.{IsUtf8-from_ascii}
-use Rattle.listing_test.proofs.main.Goals as goal
-
-pub unwrap-requires : goal.unwrap-requires
-unwrap-requires c =
-    is_value c.from_utf8.result _ _ c.from_utf8.ensures.cases (λ _ bad. bad.0 (IsUtf8-from_ascii _ c.name_of-name.ensures))

@@ -1,6 +1,0 @@
--- Each turn goes one place on.
-use Rattle.std.proofs.Common.{length, ◌-◌}
-use Rattle.printing.proofs.print_vertices.Given as goal
-
-abbrev pub decreases-loop-i : goal.decreases-loop-i
-decreases-loop-i g l = length l.vertices - l.i

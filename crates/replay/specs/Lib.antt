@@ -1,2 +1,0 @@
--- What the program's own functions tell each other.
-pub mod Spans

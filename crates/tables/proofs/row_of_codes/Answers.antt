@@ -1,6 +1,0 @@
--- The part of twelve codes lies within the array. Assumes nothing.
-use native.Mathlib.Nat.{add-sub_cancel_left}
-use Rattle.tables.proofs.row_of_codes.Goals as goal
-
-pub returns : goal.returns
-returns c = rw add-sub_cancel_left

@@ -1,8 +1,0 @@
--- `box_usable` meets its contract. The invariant: the flag tells whether the planes passed can be used.
-use Prim.Native.Nat.{◌-◌, ◌≤◌}
-use mathlib.Core.Path.{◌≡◌}
-use Rattle.volume.specs.Boxes.{box_usable}
-use Rattle.volume.proofs.judging.box_usable.Given as goal
-
-abbrev pub invariant-loop-z : goal.invariant-loop-z
-invariant-loop-z l = (l.z ≤ l.planes) × (l.usable ≡ box_usable l.bytes l.from l.count l.step l.rows l.stride l.z)

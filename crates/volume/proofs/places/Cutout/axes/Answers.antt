@@ -1,0 +1,1 @@
+-- `Cutout::axes` meets its contract: each axis of the volume is not too long, and a plane of it not too large.

@@ -1,0 +1,19 @@
+// What the pass keeps in mind, on the stack.
+
+// The numbers met so far, as bits; for each number a place to look at first; and the new indices of a window of vertices.
+#[derive(Drop)]
+pub struct Memory<const WORDS: usize, const HINTS: usize, const PLACES: usize> {
+    pub seen: [u64; WORDS],
+    pub hints: [u32; HINTS],
+    pub table: [u32; PLACES],
+}
+
+impl<const WORDS: usize, const HINTS: usize, const PLACES: usize> Memory<WORDS, HINTS, PLACES> {
+    pub fn new() -> Self {
+        Memory {
+            seen: [0; WORDS],
+            hints: [0; HINTS],
+            table: [0; PLACES],
+        }
+    }
+}
