@@ -276,10 +276,7 @@ impl From<Result<Counts, Refusal>> for WeldedCounts {
 fn as_judged(verdict: Result<(), Refusal>) -> Numbers
     ensures { result ≡ as_judged verdict }
 {
-    match verdict {
-        Ok(()) => NOT_REFUSED,
-        Err(refusal) => Numbers::from(refusal),
-    }
+    told(verdict, ()).0
 }
 
 // The mesh of a block and its finer neighbours.

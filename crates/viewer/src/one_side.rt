@@ -50,7 +50,7 @@ fn side_lies(src: &Record<'_>, wanted: bool, side: usize) -> bool
     true
 }
 
-// Not by `all`: tried, and the proof that its closure may be called at each turn did not close. side_lies has the same form.
+// Not by `all`: in one try the proof that its closure may be called at each turn did not close. In side_lies it was not tried.
 fn sides_lie(src: &Record<'_>, wanted: bool) -> bool
     ensures { result ≡ sides_as wanted (star_of src.now.bytes.now) }
 {
