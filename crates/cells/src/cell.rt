@@ -20,6 +20,7 @@ use model::{Buffers, CellVertices, Counts};
 use points::fractions::Grid;
 use vertices::{fill_cell, vertex_count};
 
+#[inline(always)]
 pub fn write_cell(
     grid: &Grid<'_>,
     cell: &CellRows<'_>,

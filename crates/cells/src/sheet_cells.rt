@@ -88,6 +88,7 @@ fn sheet_rows<'a>(sheet: &LentSheet<'a>, case: usize, u: usize, v: usize) -> Cel
 }
 
 // The cell in row u, at v, after so many vertices and triangles.
+#[inline(always)]
 pub fn write_sheet_cell(
     grid: &Grid<'_>,
     sheet: &LentSheet<'_>,

@@ -33,6 +33,7 @@ use tables::{
 };
 
 // The cells of a row of a sheet.
+#[inline(always)]
 fn count_row(n: usize, sheet: &LentSheet<'_>, u: usize) -> Counts
     requires tables { HasTables sheet.now }
     requires u_lt_n { (u < n) × LentSheeted n sheet.now }
@@ -48,7 +49,8 @@ fn count_row(n: usize, sheet: &LentSheet<'_>, u: usize) -> Counts
     counts
 }
 
-// The cells of a sheet.
+// The cells of a sheet. It and the row's are laid into their callers, where the kind of the cells is known.
+#[inline(always)]
 pub fn count_sheet(n: usize, sheet: &LentSheet<'_>) -> Counts
     requires tables { HasTables sheet.now }
     requires sheeted { LentSheeted n sheet.now }

@@ -132,6 +132,7 @@ fn vertex(grid: &Grid<'_>, at: CellIndex, code: u16) -> Vertex
 // New: make and store. Otherwise, if the steps asked for stay inside, take the stored index of that cell; if one does not, make a new
 // vertex that is not stored. The two ways out with a vertex made are apart for speed: joined, a noisy block takes some three in a
 // hundred longer.
+#[inline(always)]
 fn put_any(
     grid: &Grid<'_>,
     at: CellIndex,
@@ -189,6 +190,7 @@ fn inner_vertex(grid: &Grid<'_>, at: Xyz, code: u16) -> Vertex
 }
 
 // The same in a cell that touches no block face, where no step leaves the block.
+#[inline(always)]
 fn put_inner(
     grid: &Grid<'_>,
     at: Xyz,
@@ -250,6 +252,7 @@ fn is_between(n: usize, c: usize) -> bool
 }
 
 // One vertex of a cell. Most cells touch no block face; what tells that is the same for all of a cell's codes, and is found once, before them.
+#[inline(always)]
 fn put_code(
     grid: &Grid<'_>,
     at: CellIndex,
@@ -274,6 +277,7 @@ fn put_code(
 
 // The vertices of a cell, after base others. Their indices go into a lent struct: one that is returned is copied, and the copy waits for what
 // was just stored.
+#[inline(always)]
 pub fn fill_cell(
     grid: &Grid<'_>,
     cell: &CellRows<'_>,

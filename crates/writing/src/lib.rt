@@ -48,6 +48,7 @@ struct Pass {
 }
 
 // The cells of a row of a sheet.
+#[inline(always)]
 fn write_row(
     grid: &Grid<'_>,
     sheet: &LentSheet<'_>,
@@ -73,7 +74,9 @@ fn write_row(
     counts
 }
 
-// The cells of a sheet.
+// The cells of a sheet. It, and what it calls down to the vertex of a code, are laid into their callers, where the kind of the cells is known:
+// lent a sheet as a struct, the compiler does not part the two kinds by itself.
+#[inline(always)]
 fn write_sheet(
     grid: &Grid<'_>,
     sheet: &LentSheet<'_>,
