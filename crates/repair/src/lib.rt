@@ -47,7 +47,7 @@ fn judge_repair(
         neighbours,
         filler: bits_of(filler),
     };
-    let wanted = damaged.list_changes(&mut []);
+    let wanted = damaged.count_changes();
     unless(wanted <= held / 4, Refusal::ChangesTooShort(wanted))
 }
 

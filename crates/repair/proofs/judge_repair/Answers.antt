@@ -1,7 +1,6 @@
 -- `judge_repair` meets its contract: 1 to 6, then 18, then 19 by the changes that are counted.
 use Rattle.std.specs.Prelude.{Ok}
 use Prim.Native.Nat.{ℕ}
-use native.Mathlib.Nat.{zero-add}
 use mathlib.Core.Path.{◌≡◌, sym, ap, ◌∙◌}
 use mathlib.Core.Bool.{Bool}
 use lib.ListN.{length}
@@ -41,6 +40,6 @@ pub returns : goal.returns
 returns c =
     let a = c.args in
     let at = goal.at.returns c in
-    let wanted = c.list_changes-wanted.ensures.next_is ∙ zero-add _ ∙ ap (λ (b : ℕ). length (changes_of a.header b (delivery a.centre.now a.neighbours.now))) c.bits_of.ensures in
+    let wanted = c.count_changes-wanted.ensures ∙ ap (λ (b : ℕ). length (changes_of a.header b (delivery a.centre.now a.neighbours.now))) c.bits_of.ensures in
     c.unless-2.ensures ∙ ap (λ (k : ℕ). judge_changes k a.held) wanted
     ∙ sym (changes_left a.header (delivery a.centre.now a.neighbours.now) a.filler a.held (passed-lent at.In_ok-judge_lent) (sym (filler-is at.After-unless) ∙ c.in_ok-unless.was))
