@@ -1,13 +1,18 @@
 // A vector of the reader and of the viewer's calls. Its first words: length, record's bytes, places lent, the answer's four numbers, the
-// header's seven, subdivisions, blank, samples filled, points asked. Then come the record, the samples filled and the points.
-use crate::vectors::{number, numbers, word, words};
+// header's seven, subdivisions, blank, samples filled, points asked. Then come the record, the samples filled and the points: a word of
+// these that is not there counts as 0, and what follows them is not looked at.
+use crate::vectors::{number, numbers, rest_from, word};
 use model::{Header, Numbers, PlaceKind, Refusal};
 use record::reader::read_record;
 use viewer::{blank, read_point, sample, subdivisions};
 use words::floats::bits_of;
 
-// The places lent at most.
+// The places lent at most, the bytes of a record and the points.
 const ROOM: usize = 8192;
+
+const MOST_BYTES: usize = 65536;
+
+const MOST_POINTS: usize = 1024;
 
 const UNTOUCHED: f32 = -1234.5;
 
@@ -25,17 +30,21 @@ struct Trial<'a> {
 }
 
 impl<'a> Trial<'a> {
-    // None where the vector is too short for what it tells.
+    // None where the record is not wholly there, or the vector tells more than is looked at.
     fn new(vector: &'a [u8]) -> Option<Trial<'a>> {
         let (head, rest) = vector.split_at_checked(HEAD)?;
-        let (record, rest) = rest.split_at_checked(number(head, 1))?;
-        let rest = rest.get((4 - record.len() % 4) % 4..)?;
-        let (samples, points) = rest.split_at_checked(4 * number(head, 16))?;
+        let bytes = number(head, 1);
+        let filled = number(head, 16);
+        if MOST_BYTES < bytes || ROOM < filled || MOST_POINTS < number(head, 17) {
+            return None;
+        }
+        let record = rest.get(..bytes)?;
+        let samples = rest_from(rest, bytes + (4 - bytes % 4) % 4);
         Some(Trial {
             head,
             record,
             samples,
-            points,
+            points: rest_from(samples, 4 * filled),
         })
     }
 }
@@ -70,12 +79,14 @@ fn answer_agrees(head: &[u8], answer: Result<Header, Refusal>) -> bool {
 }
 
 // The first places hold the vector's samples, and all beyond is untouched.
-fn samples_agree(told: &[u8], samples: &[f32]) -> bool {
-    let told = words(told);
-    let Some((filled, beyond)) = samples.split_at_checked(told.len()) else {
+fn samples_agree(trial: &Trial<'_>, samples: &[f32]) -> bool {
+    let Some((filled, beyond)) = samples.split_at_checked(number(trial.head, 16)) else {
         return false;
     };
-    filled.iter().zip(told).all(|(sample, word)| bits_of(*sample) == u32::from_le_bytes(*word))
+    filled
+        .iter()
+        .enumerate()
+        .all(|(k, sample)| bits_of(*sample) == word(trial.samples, k))
         && beyond.iter().all(|sample| *sample == UNTOUCHED)
 }
 
@@ -85,7 +96,7 @@ fn read_agrees(trial: &Trial<'_>) -> bool {
         return false;
     };
     let answer = read_record(trial.record, lent);
-    answer_agrees(trial.head, answer) && samples_agree(trial.samples, &samples)
+    answer_agrees(trial.head, answer) && samples_agree(trial, &samples)
 }
 
 // A face's kind is its number, and in-block 6: the vector files have them so.
@@ -115,11 +126,12 @@ fn point_agrees(point: &[u8], src: &[u8]) -> bool {
 }
 
 fn points_agree(trial: &Trial<'_>) -> bool {
-    trial.points.len() == POINT * number(trial.head, 17)
-        && trial
-            .points
-            .chunks_exact(POINT)
-            .all(|point| point_agrees(point, trial.record))
+    for k in 0..number(trial.head, 17) {
+        if !point_agrees(rest_from(trial.points, POINT * k), trial.record) {
+            return false;
+        }
+    }
+    true
 }
 
 fn calls_agree(trial: &Trial<'_>) -> bool {

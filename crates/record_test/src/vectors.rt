@@ -24,6 +24,11 @@ impl<'a> Iterator for Vectors<'a> {
     }
 }
 
+// What stands from a place on: nothing where the bytes end before it.
+pub fn rest_from(bytes: &[u8], at: usize) -> &[u8] {
+    bytes.get(at..).unwrap_or(&[])
+}
+
 pub fn words(bytes: &[u8]) -> &[[u8; 4]] {
     let (words, _) = bytes.as_chunks::<4>();
     words

@@ -1,11 +1,11 @@
 // A vector of the writer. Its first words: length, n, mask, threshold, base x, y, z, size, the centre's samples, the neighbours' samples,
-// bytes lent, the answer's four numbers. Then come the samples and the bytes written.
+// bytes lent, the answer's four numbers. Then come the samples and the bytes written: a byte of these that is not there counts as 0.
 use crate::vectors::{number, numbers, word, words};
 use model::{Block, Header, Lent, Numbers, Refusal, Vector};
 use record::writer::write_record;
 use words::floats::float_of;
 
-// The samples lent at most, and the bytes.
+// The samples lent at most, of the centre and of the neighbours each, and the bytes.
 const ROOM: usize = 8192;
 
 const BYTES: usize = 32768;
@@ -55,13 +55,14 @@ fn bytes_agree(head: &[u8], told: &[u8], bytes: &[u8]) -> bool {
     } else {
         0
     };
-    let Some(told) = told.get(..length) else {
-        return false;
-    };
     let Some((written, beyond)) = bytes.split_at_checked(length) else {
         return false;
     };
-    written == told && beyond.iter().all(|byte| *byte == UNTOUCHED)
+    written
+        .iter()
+        .enumerate()
+        .all(|(k, byte)| *byte == told.get(k).map_or(0, |told| *told))
+        && beyond.iter().all(|byte| *byte == UNTOUCHED)
 }
 
 // Of a block with so many samples of its own, then its neighbours', and the bytes written.
@@ -85,6 +86,9 @@ fn write_agrees(head: &[u8], samples: &[f32], told: &[u8]) -> bool {
 // None where the vector is too short for what it tells, or tells too many samples.
 fn trial(vector: &[u8]) -> Option<bool> {
     let (head, rest) = vector.split_at_checked(HEAD)?;
+    if ROOM < number(head, 8) || ROOM < number(head, 9) {
+        return None;
+    }
     let count = number(head, 8) + number(head, 9);
     let (told, rest) = rest.split_at_checked(4 * count)?;
     let mut samples = [0f32; 2 * ROOM];
