@@ -111,8 +111,9 @@ pub fn judge_lent(header: Header, centre: usize, neighbours: usize) -> Result<()
     let n = header.block.subdivisions;
     judge_subdivisions(n)?;
     judge_mask(header.mask)?;
-    judge_measures(header)?;
-    judge_lengths(n, header.mask, centre, neighbours)
+    let measures = judge_measures(header);
+    let lengths = judge_lengths(n, header.mask, centre, neighbours);
+    measures.and(lengths)
 }
 
 // 1 to 7, of a block and its neighbours.
