@@ -73,7 +73,8 @@ fn layer_stands(n: usize, samples: &[f32], summary: &[f32], x: usize) -> bool
     is_extent(samples, in_block(n, x, 0, 0), layer_count(n), told)
 }
 
-fn judge_layers(n: usize, samples: &[f32], summary: &[f32]) -> Result<(), Refusal>
+// 26 alone, of a summary of any length.
+pub fn judge_layers(n: usize, samples: &[f32], summary: &[f32]) -> Result<(), Refusal>
     requires { Held n samples.now × AllNumbers samples.now }
     ensures { result ≡ judge_layers n samples.now summary.now }
 {

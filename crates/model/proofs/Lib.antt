@@ -1,2 +1,3 @@
 pub mod MeshReads
 pub mod LayeredReads
+pub mod Pinned

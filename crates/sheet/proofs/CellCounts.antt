@@ -27,7 +27,7 @@ layer_counts s x counts g =
       triangles_are = omega (arith, g.triangles m, layer_triangles s x m);
     }
 
--- the sides that are named below one, and the next of them
+-- the sides that are named up to one, and the next of them
 module _ (s : Star) where
   -- sides that are not named add nothing
   skip : (parts : ℕ → ℕ → ℕ → ℕ) (from to : ℕ) → NextSide s.mask from to → total (over_side s parts) from ≡ total (over_side s parts) to
@@ -43,9 +43,12 @@ module _ (s : Star) where
         triangles_are = so_far.triangles_are ∙ skip (triangles_on_side s) from to next;
       }
 
-  pub sides_more : (side : ℕ) {counts more : Counts} → Grows (transition_side s side) more → SideCounts s side counts
+  pub sides_start : (side : ℕ) → NextSide s.mask 0 side → SideCounts s side (record { vertices = 0; triangles = 0 })
+  sides_start side step = sides_skip step sides_none
+
+  pub sides_on : (side : ℕ) {counts more : Counts} → Grows (transition_side s side) more → SideCounts s side counts
       → SideCounts s (side + 1) (Counting.plus counts more)
-  sides_more side g so_far =
+  sides_on side g so_far =
       let m = empty_mesh (subdivisions s) in
       record {
         vertices_are = added (over_side s (made_on_side s)) (omega (arith, g.vertices m, side_vertices s side m)) so_far.vertices_are;
@@ -54,6 +57,11 @@ module _ (s : Star) where
     where
       added : (f : ℕ → ℕ) {a b : ℕ} → b ≡ f side → a ≡ total f side → a + b ≡ total f (side + 1)
       added f e so_far = rw add-one (ap₂ ◌+◌ so_far e)
+
+  -- a side, and past those that are not named
+  pub sides_more : (side next : ℕ) (counts more : Counts) → Grows (transition_side s side) more → NextSide s.mask (side + 1) next
+      → SideCounts s side counts → SideCounts s next (Counting.plus counts more)
+  sides_more side next counts more g step so_far = sides_skip step (sides_on side g so_far)
 
   pub no_sides : s.mask ≡ 0 → SideCounts s side_count (record { vertices = 0; triangles = 0 })
   unfolding named

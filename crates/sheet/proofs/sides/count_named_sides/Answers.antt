@@ -9,7 +9,7 @@ use Rattle.grid.specs.SideLaws.{NextSide}
 use Rattle.cases.specs.Sheets.{sheet_places}
 use Rattle.cells.specs.declared.SheetIndex.TheVariants.{Side}
 use Rattle.walk.specs.Numbers.{held_sheeted}
-use Rattle.sheet.proofs.CellCounts.{sides_none, sides_skip, sides_more}
+use Rattle.sheet.proofs.CellCounts.{sides_none, sides_skip, sides_on}
 use Rattle.sheet.proofs.Whole.{few, sides, mask_is, measured_as, side_is}
 use Rattle.sheet.proofs.sides.count_named_sides.Goals as goal
 use Rattle.sheet.proofs.sides.count_named_sides.Goals.{After-face_cases, In-Some}
@@ -79,7 +79,7 @@ loop-side-preserved c =
         vertices = omega (arith, come.from_le, so_far.few.vertices, more.few.vertices);
         triangles = omega (arith, come.from_le, so_far.few.triangles, more.few.triangles);
       };
-      added = sides_more s side (more.grows s (measured_as src).subdivisions_are (steps.0.1, rw (mask_is src) (is_named at.In-Some)) c.face_cases.ensures)
+      added = sides_on s side (more.grows s (measured_as src).subdivisions_are (steps.0.1, rw (mask_is src) (is_named at.In-Some)) c.face_cases.ensures)
           (sides_skip s (rw (mask_is src) come) so_far.added);
     })
 
