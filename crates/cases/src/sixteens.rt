@@ -2,7 +2,7 @@
 ghost use Rattle.std.specs.Prelude.{ℕ, ◌+◌, ◌*◌, ◌≤◌, ◌<◌, length, get_or};
 ghost use Rattle.cases.specs.Sheets.{side_by_side, RowPut, Renewed};
 
-const SIDE_BY_SIDE: usize = 16;
+pub const SIDE_BY_SIDE: usize = 16;
 
 // One after another, and none written yet: so the compiler works them out at once, which it does in no loop over samples. Of a regular
 // cell's numbers neither a `for` nor `from_fn` is unrolled, and both take nearly twice the time.

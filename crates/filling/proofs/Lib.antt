@@ -1,2 +1,2 @@
 pub mod Pinned
-mod Values
+pub mod Values
