@@ -5,7 +5,9 @@
     exceptions.py --list       print each public function, and whether it is pinned and requires something
     exceptions.py --self-test  try it on a small project with one fault after another
 
-Public is a `pub fn` of a library (src/lib.rt) that every `pub mod` on its way lets out. A method's type stands between its module and its name.
+Public is a `pub fn` of a library (src/lib.rt) that every `pub mod` on its way lets out, and a method that an `impl` there gives a type for a
+trait of the library's own or of the toolchain's std. A method's type stands between its module and its name. Of std's traits an operator requires
+what its ghost `can_..` asks.
 
 Each is pinned: crates/C/proofs/Pinned.antt has
 
@@ -29,7 +31,8 @@ MODULE = re.compile(r"^\s*pub\s+mod\s+(\w+)\s*;")
 IMPL = re.compile(r"^impl\b(?:<[^>]*>)?(?:.*\sfor)?\s+(\w+)")
 TRAIT = re.compile(r"^pub\s+trait\s+(\w+)")
 METHOD = re.compile(r"^\s+fn\s+(\w+)")
-GIVEN = re.compile(r"^impl\s+(\w+)\s+for\s+(\w+)")
+GIVEN = re.compile(r"^impl\b(?:<[^>]*>)?\s+(?:\w+::)*(\w+)(<.*>)?\s+for\s+(\w+)")
+ASKED = re.compile(r"^\s+ghost can_\w+ = ")
 REEXPORT = re.compile(r"^\s*pub\s+use\b")
 IMPORT = re.compile(r"^use Rattle\.(\w+)\.proofs\.([\w.]+)\.Reads as (\S+)\s*$")
 LEMMA = re.compile(r"^pub (\S+)_pinned\s*:")
@@ -86,6 +89,7 @@ def walk(folder, crate, modules, file, found, faults):
     owner = []
     traits = {}
     declared = None
+    given_by_std, asked = None, False
     for at, line in enumerate(lines):
         trait = TRAIT.match(line)
         if trait or line.startswith("}"):
@@ -93,10 +97,17 @@ def walk(folder, crate, modules, file, found, faults):
         method = METHOD.match(line)
         if method and declared is not None:
             declared.append((method.group(1), requires(lines, at)))
+        if method and given_by_std:
+            found.append(Function(crate, modules + [given_by_std[0]], method.group(1), asked, given_by_std[1]))
+        asked = ASKED.match(line) is not None or (given_by_std is not None and asked)
         given = GIVEN.match(line)
+        if given or line.startswith("}"):
+            given_by_std, asked = None, False
         if given and given.group(1) in traits:
             for name, asks in traits[given.group(1)]:
-                found.append(Function(crate, modules + [given.group(2)], name, asks, given.group(1)))
+                found.append(Function(crate, modules + [given.group(3)], name, asks, given.group(1)))
+        elif given:
+            given_by_std = (given.group(3), given.group(1) + "".join(re.findall(r"\w+", given.group(2) or "")))
         owned = IMPL.match(line)
         if owned or line.startswith("}"):
             owner = [owned.group(1)] if owned else []
@@ -224,10 +235,19 @@ impl<'a> Kept<'a> {
         x
     }
 }
+
+impl Add for Sum {
+    ghost can_add = { λ a b. a.x + b.x < 8 };
+
+    fn add(self, rhs: Sum) -> Sum {
+        Sum { x: self.x + rhs.x }
+    }
+}
 """
 PINNED = """use Rattle.small.proofs.free.Reads as free
 use Rattle.small.proofs.outer.bound_to.Reads as bound
 use Rattle.small.proofs.outer.Kept.of.Reads as kept
+use Rattle.small.proofs.outer.SumAdd.add.Reads as sum
 
 pub free_pinned : (a : _) (r r' : _) → free.Learnt a r → free.Learnt a r'
     → r ≡ r'
@@ -238,10 +258,14 @@ bound_to_pinned a r r' h k = pinned h k
 
 pub Kept_of_pinned : (a : _) (r r' : _) → kept.Learnt a r → kept.Learnt a r' → r ≡ r'
 Kept_of_pinned a r r' h k = pinned h k
+
+pub Sum_add_pinned : (a : _) (r r' : _) → sum.Learnt a r → sum.Learnt a r' → r ≡ r'
+Sum_add_pinned a r r' h k = pinned h k
 """
 TABLE = """| crate | functions | require | called by |
 |---|---|---|---|
 | small | `bound_to` | below 8 | large |
+| small | `outer::Sum::add` | a small sum | large |
 """
 UNPINNED = """
 | crate | functions | why not pinned |
@@ -259,15 +283,19 @@ def self_test():
         ({"Pinned": ("proofs.free.Reads", "proofs.other.Reads")}, ["free: neither", "free_pinned pins no"]),
         ({"Pinned": ("pub free_pinned", "-- pub free_pinned")}, ["free: neither"]),
         ({"outer": ("pub extern", "extern")}, ["bound_to is no public", "bound_to_pinned pins no"]),
-        ({"lib": ("pub mod outer", "mod outer")}, ["bound_to is no public", "bound_to_pinned pins no", "Kept_of_pinned pins no"]),
+        ({"lib": ("pub mod outer", "mod outer")},
+         ["bound_to is no public", "Sum::add is no public", "bound_to_pinned pins no", "Kept_of_pinned pins no", "Sum_add_pinned pins no"]),
         ({"lib": ("pub mod outer", "pub use outer::bound_to;\npub mod outer")}, ["`pub use`"]),
         ({"outer": ("    requires { x < 8 }\n", "")}, ["bound_to: requires nothing"]),
         ({"lib": ("    ensures", "    requires { x < 8 }\n    ensures")}, ["free: requires something"]),
         ({"Pinned": ("outer.Kept.of", "outer.of")}, ["outer::Kept::of: neither", "Kept_of_pinned pins no"]),
+        ({"Pinned": ("outer.SumAdd.add", "outer.Sum.add")}, ["outer::Sum::add: neither", "Sum_add_pinned pins no"]),
+        ({"outer": ("ghost can_add", "ghost may_add")}, ["outer::Sum::add: requires nothing"]),
+        ({"EXCEPTIONS": ("| small | `outer::Sum::add` | a small sum | large |\n", "")}, ["outer::Sum::add: requires something"]),
         ({"EXCEPTIONS": ("`bound_to`", "`bound_to`, `gone`")}, ["gone is no public"]),
         ({"EXCEPTIONS": ("`bound_to`", "`bound_to`, `outer::bound_to`")}, ["stands there twice"]),
         ({"EXCEPTIONS": ("| below 8 |", "| |")}, ["without a reason"]),
-        ({"EXCEPTIONS": ("| require |", "| needs |")}, ["is headed", "bound_to: requires something"]),
+        ({"EXCEPTIONS": ("| require |", "| needs |")}, ["is headed", "bound_to: requires something", "Sum::add: requires something"]),
         ({"EXCEPTIONS": (TABLE, TABLE + UNPINNED)}, ["free: pinned, and listed"]),
         ({"EXCEPTIONS": (TABLE, TABLE + UNPINNED), "Pinned": (PINNED[PINNED.index("pub free"):PINNED.index("pub bound")], "")}, None),
     ]
