@@ -91,8 +91,7 @@ impl Damaged<'_> {
 
     fn list_mismatches(&self, changes: &mut [u32], from: usize) -> usize
         requires { from ≤ 2 * most_samples }
-        ensures few { result ≤ from + spot_count self.now.header.block.subdivisions }
-        ensures listed { Listed changes.old from (mismatches self.now.header (filled_in self.now.filler (delivered self.now))) result changes.new }
+        ensures { Listed changes.old from (mismatches self.now.header (filled_in self.now.filler (delivered self.now))) result changes.new }
     {
         let mut at = from;
         for k in 0..spot_count(self.header.block.subdivisions) {

@@ -29,4 +29,4 @@ pub returns : goal.returns
 returns c =
     let d = c.args.self.now in
     rw (changes_are d.header d.filler (delivered d))
-    (listed_more (listed_more c.list_bad-of_centre.ensures.listed c.list_bad-bad.ensures.listed) c.list_mismatches.ensures.listed)
+    (listed_more (listed_more c.list_bad-of_centre.ensures.listed c.list_bad-bad.ensures.listed) c.list_mismatches.ensures)

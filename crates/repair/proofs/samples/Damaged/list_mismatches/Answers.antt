@@ -49,8 +49,5 @@ returns c =
     let d = c.args.self.now in
     let turn = c.loop-k in
     let all : turn.k ≡ spot_count d.header.block.subdivisions = omega (arith, c.spot_count-k-end.ensures) in
-    record {
-      few = omega (arith, turn.invariant.1.0);
-      listed = subst (λ (l : List Change). Listed c.args.changes.now c.args.from l turn.at turn.changes)
-          (ap (gather (mismatch_spot d.header (filled_in d.filler (delivered d)))) all ∙ sym (in_one_row d.header (filled_in d.filler (delivered d)))) turn.invariant.1.1;
-    }
+    subst (λ (l : List Change). Listed c.args.changes.now c.args.from l turn.at turn.changes)
+    (ap (gather (mismatch_spot d.header (filled_in d.filler (delivered d)))) all ∙ sym (in_one_row d.header (filled_in d.filler (delivered d)))) turn.invariant.1.1
