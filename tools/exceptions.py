@@ -74,6 +74,16 @@ def requires(lines, start):
     return False
 
 
+def operator_requires(lines, start):
+    """Whether the `impl` of an operator that begins at `start` asks something of its operands."""
+    for line in lines[start:]:
+        if ASKED.match(line):
+            return True
+        if line.startswith("}"):
+            return False
+    return False
+
+
 def public_functions(root, faults):
     found = []
     crates = os.path.join(root, "crates")
@@ -89,7 +99,7 @@ def walk(folder, crate, modules, file, found, faults):
     owner = []
     traits = {}
     declared = None
-    given_by_std, asked = None, False
+    given_by_std = None
     for at, line in enumerate(lines):
         trait = TRAIT.match(line)
         if trait or line.startswith("}"):
@@ -98,16 +108,16 @@ def walk(folder, crate, modules, file, found, faults):
         if method and declared is not None:
             declared.append((method.group(1), requires(lines, at)))
         if method and given_by_std:
-            found.append(Function(crate, modules + [given_by_std[0]], method.group(1), asked, given_by_std[1]))
-        asked = ASKED.match(line) is not None or (given_by_std is not None and asked)
+            kind, asked, trait_name = given_by_std
+            found.append(Function(crate, modules + [kind], method.group(1), asked, trait_name))
         given = GIVEN.match(line)
         if given or line.startswith("}"):
-            given_by_std, asked = None, False
+            given_by_std = None
         if given and given.group(1) in traits:
             for name, asks in traits[given.group(1)]:
                 found.append(Function(crate, modules + [given.group(3)], name, asks, given.group(1)))
         elif given:
-            given_by_std = (given.group(3), given.group(1) + "".join(re.findall(r"\w+", given.group(2) or "")))
+            given_by_std = (given.group(3), operator_requires(lines, at), given.group(1) + "".join(re.findall(r"\w+", given.group(2) or "")))
         owned = IMPL.match(line)
         if owned or line.startswith("}"):
             owner = [owned.group(1)] if owned else []
